@@ -30,7 +30,7 @@ from listing import listed
 
 FOLDER = pathlib.Path(__file__).resolve().parent.parent / 'examples'
 LONGEST = 1_000_000
-PROCESSORS = ['a16', 'f16', 'xy', 'dsp', 'r16', 'c10w', 'adsp', 'rr4', 'rrf']
+PROCESSORS = ['a16', 'f16', 'xy', 'dsp', 'r16', 'c10w', 'adsp', 'rr4', 'rrf', 'm16']
 
 
 def signed(word):
@@ -94,6 +94,10 @@ def matvec(v):
     return {'y': [sum(a * b for a, b in zip(v['a'][4 * i:], v['v'])) for i in range(4)]}
 
 
+def gain(v):
+    return {'y': [product(v['g'][n // 4], x) for n, x in enumerate(v['x'])]}
+
+
 def wht(v):
     a, b, c, d = v['x']
     return {'x': [a + b + c + d, a - b + c - d, a + b - c - d, a - b - c + d]}
@@ -102,15 +106,16 @@ def wht(v):
 # Each program, what it has to leave, and the first tree that the forms of a processor don't cover, for the processors that can't run it.
 PROGRAMS = {
     'dot': (dot, {'a16': 3, 'f16': 3, 'r16': 3, 'adsp': 3}),
-    'dotl': (dot, {'a16': 3, 'f16': 3, 'xy': 3, 'dsp': 3, 'r16': 3, 'rr4': 3, 'rrf': 3}),
+    'dotl': (dot, {'a16': 3, 'f16': 3, 'xy': 3, 'dsp': 3, 'r16': 3, 'rr4': 3, 'rrf': 3, 'm16': 3}),
     'fir': (fir, {'a16': 5, 'dsp': 5, 'r16': 5}),
     'fir16': (fir16, {'a16': 5, 'dsp': 5, 'r16': 5}),
     'biquad': (biquad, {'a16': 4, 'f16': 4, 'dsp': 4, 'r16': 4}),
     'matvec': (matvec, {'a16': 5, 'f16': 5, 'r16': 5, 'adsp': 5}),
-    'crc': (crc, {'a16': 2, 'f16': 2}),
-    'crc8': (crc8, {'a16': 3, 'f16': 3}),
-    'sort': (sort, {'a16': 5, 'f16': 5, 'dsp': 5, 'c10w': 5}),
+    'crc': (crc, {'a16': 2, 'f16': 2, 'm16': 2}),
+    'crc8': (crc8, {'a16': 3, 'f16': 3, 'm16': 3}),
+    'sort': (sort, {'a16': 5, 'f16': 5, 'dsp': 5, 'c10w': 5, 'm16': 5}),
     'fly': (fly, {'a16': 2, 'dsp': 2, 'r16': 2}),
+    'gain': (gain, {'a16': 4, 'f16': 4, 'dsp': 5, 'r16': 4, 'adsp': 4}),
     'wht': (wht, {}),
 }
 
@@ -179,8 +184,9 @@ def counter_of(netlist):
 
 
 def unpacked(image, patterns, counter):
-    """How many words an image were with one step in each."""
-    jumps = {number for number, name in re.findall(r'^(\d+) (\w+) := ', patterns, re.M) if name == counter}
+    """How many words an image were with one step in each. Jumps run in mode 0, where a processor has modes."""
+    in_zero = patterns.split('\nmode 1\n')[0]
+    jumps = {number for number, name in re.findall(r'^(\d+) (\w+) := ', in_zero, re.M) if name == counter}
     lists = re.findall(r'^word \d+ \w+ (\S+)$', image, re.M)
     costs = re.findall(r'^tree \d+ (\d+)$', image, re.M)
     return sum(map(int, costs)) + sum(1 for one in lists if jumps & set(one.split(',')))

@@ -8,8 +8,8 @@ and cost, and its words: their address, with a * where the image has a mark, the
 the numbers in the word's fields in place of the slices, and behind them the variable of a cell that is read or written at a number. A `for` stands
 three times: where its counter is set, at its test, and where it is stepped. A jump stands at the end of the statement before it.
 
-An assignment ends with the word that writes its variable, a test with its branches. Where a step was packed ahead into a word of the statement
-before, it stands there. The last line has the sums.
+An assignment ends with the word that writes its variable, or behind that with the one that puts mode 0 back, a test with its branches. Where a step
+was packed ahead into a word of the statement before, it stands there. The last line has the sums.
 
 With --check nothing is written where LISTING is this listing; else what differs is, and the exit status is 1. It is also 1 where the program or
 the netlist is refused, and 2 where the words are none of these.
@@ -81,25 +81,36 @@ class Program:
 
 
 class Netlist:
-    """What `extract` says of a netlist: its transfers, and the names of its word, counter and memory."""
+    """What `extract` says of a netlist: its transfers in each mode, and the names of its word, counter, memory and mode."""
 
     def __init__(self, text, patterns):
-        self.transfers = [line.split(' ', 1)[1].rsplit(' ; ', 1)[0] for line in patterns.splitlines()[1:-1]]
+        self.transfers = []
+        for line in patterns.splitlines()[:-1]:
+            if line.startswith('patterns '):
+                self.transfers.append([])
+            elif ' ; ' in line:
+                self.transfers[-1].append(line.split(' ', 1)[1].rsplit(' ; ', 1)[0])
         self.code, self.counter = re.search(r'^\s*code\s+(\w+)[^;]*\bat\s+(\w+)', text, re.M).groups()
         self.memory = re.search(r'^\s*memory\s+(\w+)', text, re.M)[1]
+        self.mode = (re.findall(r'^\s*mode\s+(\w+)', text, re.M) or [None])[0]
 
-    def shown(self, number, word):
-        """A transfer with the numbers that the word's fields have."""
+    def shown(self, mode, number, word):
+        """A transfer of a mode with the numbers that the word's fields have."""
         def field(found):
             high, low = map(int, found.groups())
             return str(word >> low & (2 << high - low) - 1)
 
-        text = re.sub(rf'slice\({self.code},(\d+),(\d+)\)', field, self.transfers[number])
+        text = re.sub(rf'slice\({self.code},(\d+),(\d+)\)', field, self.transfers[mode][number])
         text = re.sub(r'zext\((\d+),\d+\)', r'\1', text)
         return re.sub(rf'\b{self.code}\b', str(word), text)
 
-    def is_turn(self, number):
-        return self.transfers[number].startswith(f'{self.counter} := ')
+    def is_turn(self, mode, number):
+        return self.transfers[mode][number].startswith(f'{self.counter} := ')
+
+    def put_mode(self, text):
+        """The mode that a transfer puts, or None."""
+        found = re.fullmatch(rf'{self.mode} := (\d+)(#\d+)?', text)
+        return int(found[1]) if self.mode and found else None
 
     def written(self, text):
         """The cell that a transfer writes, None for a computed one, and nothing where it writes a register."""
@@ -120,22 +131,26 @@ class Listing:
         words = re.findall(r'^word \d+ (\w+) (\S+)$', image, re.M)
         self.words = [(word, [] if numbers == '-' else list(map(int, numbers.split(',')))) for word, numbers in words]
         self.names = {at + k: f'{name}[{k}]' if length > 1 else name for name, at, length in self.places for k in range(length)}
-        self.end = []
+        self.end, self.turns = [], 0
         self.spread()
 
     def spread(self):
         """Gives each word to its statement. A test goes from its mark to its branches, an assignment to the word that writes its variable."""
-        now, in_test, has_turned = 0, False, False
+        now, in_test, has_turned, mode = 0, False, False, 0
         for at, (word, numbers) in enumerate(self.words):
-            texts = [self.netlist.shown(number, int(word, 16)) for number in numbers]
-            is_turn = any(map(self.netlist.is_turn, numbers))
+            texts = [self.netlist.shown(mode, number, int(word, 16)) for number in numbers]
+            is_turn = any(self.netlist.is_turn(mode, number) for number in numbers)
+            self.turns += is_turn
+            put = next((value for value in map(self.netlist.put_mode, texts) if value is not None), mode)
+            is_last = is_turn or put < mode
+            mode = put
             mark = self.marks.get(at)
             if mark is not None and mark != 'end':
                 now, in_test, has_turned = int(mark), True, False
             elif has_turned and not is_turn:
                 now, in_test, has_turned = now + 1, False, False
             has_turned = in_test and is_turn
-            rows = self.end if mark == 'end' else self.statements[now if in_test or not is_turn else max(now - 1, 0)].rows
+            rows = self.end if mark == 'end' else self.statements[now if in_test or not is_last else max(now - 1, 0)].rows
             rows.append((at, word, texts))
             if not in_test and any(cell is None or cell >= self.temps for text in texts for cell in self.netlist.written(text)):
                 now += 1
@@ -165,9 +180,8 @@ class Listing:
         yield ''
         yield 'end'
         yield from self.words_of(self.end)
-        turns = sum(any(map(self.netlist.is_turn, numbers)) for _, numbers in self.words)
         yield ''
-        yield f'{self.count - turns} words for {sum(self.costs)} steps, {turns} for jumps and branches, the end\'s among them'
+        yield f'{self.count - self.turns} words for {sum(self.costs)} steps, {self.turns} for jumps and branches, the end\'s among them'
 
 
 def listed(binary, netlist, source):

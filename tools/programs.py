@@ -1,12 +1,13 @@
 #!/usr/bin/env python3
 """Compiles random programs for random small processors, runs them with `record go`, and holds every checkpoint against an interpreter of its own.
 
-Usage: programs.py BINARY [--files] [COUNT] [SEED]
+Usage: programs.py BINARY [--files | --modes] [COUNT] [SEED]
 
 Each of COUNT runs (200 where none are given) makes a netlist and a program, and starts from random cells and registers. The lines of `go` have to
 show the stores that the interpreter below has before each test and at the end, each test always under one label, and each within one image length
 of clocks of the last. Then `record run` clocks the image to one of these lines, and has to show the same store at that mark. A run that is refused,
-for want of a cover for example, is counted and not compared. With --files each netlist has a register file.
+for want of a cover for example, is counted and not compared. With --files each netlist has a register file, and with --modes a mode register, which
+has to be 0 at each mark.
 """
 import collections
 import pathlib
@@ -95,11 +96,29 @@ def random_netlist(pick):
     return '\n'.join(head + lines) + '\n', operators, registers
 
 
+class Codes:
+    """A field of four bits for the operation, and its numbers from 1 on in a random order."""
+
+    def __init__(self, pick, fields):
+        self.field = fields.take(4)
+        self.left = pick.sample(range(1, 16), 15)
+
+    def take(self):
+        return self.left.pop()
+
+    def rows(self, rows):
+        """A value by the operation, and an enable for the numbers that have a row."""
+        mine = [self.take() for _ in rows]
+        enable = ', '.join(str(code) for code in sorted(mine))
+        return (f"case {self.field} {{ {' '.join(f'{code}: {row};' for code, row in zip(mine, rows))} else: 0#16; }}",
+                f'case {self.field} {{ {enable}: 1#1; else: 0#1; }}')
+
+
 def random_file_netlist(pick):
     """The same with a register file, which takes the place of most registers."""
     fields = Fields()
     fields.take(8)
-    operation = fields.take(4)
+    codes = Codes(pick, fields)
     width = pick.choice([0, 1, 1, 2, 2, 3])
     size, width = (1, 1) if width == 0 else (pick.randint((1 << width - 1) + 1, 1 << width), width)
     names = [fields.take(width) for _ in range(pick.randint(2, 3))]
@@ -113,18 +132,10 @@ def random_file_netlist(pick):
     rows = ['read(M, f)', 'zext(f, 16)'] + [f'{GATES[o]}({first}, {pick.choice(others)})' for o in operators]
     rows += [f'sub({pick.choice(others)}, {first})'] if pick.random() < 0.3 else []
     rows += pick.sample(registers, min(len(registers), 1))
-    codes = pick.sample(range(1, 16), 15)
-
-    def enabled(rows):
-        mine = [codes.pop() for _ in rows]
-        enable = ', '.join(str(code) for code in sorted(mine))
-        return (f"case {operation} {{ {' '.join(f'{code}: {row};' for code, row in zip(mine, rows))} else: 0#16; }}",
-                f'case {operation} {{ {enable}: 1#1; else: 0#1; }}')
-
-    value, when = enabled(rows)
+    value, when = codes.rows(rows)
     lines = [f'file F : 16 size {size} addr {width} write {value} at {target} when {when};']
     for register in registers:
-        value, when = enabled(pick.sample(['read(M, f)', 'zext(f, 16)', first, f'add({register}, {second})', f'sub({first}, {register})'], 2))
+        value, when = codes.rows(pick.sample(['read(M, f)', 'zext(f, 16)', first, f'add({register}, {second})', f'sub({first}, {register})'], 2))
         lines.append(f'register {register} : 16 in {value} when {when};')
     turns = [f'eq({first}, 0#16)'] + [f'{order}({first}, {second})' for order in ('ltu', 'lts') if pick.random() < 0.7]
     jump = fields.take(3)
@@ -134,6 +145,56 @@ def random_file_netlist(pick):
     lines.append(f'memory M : 16 size 256 addr 8 write {stored} at f when {fields.take(1)};')
     head = ['version 2;', f'code I : {fields.bits} size 256 at PC;', 'net f : 8 = I[7:0];', 'net next : 8 = add(PC, 1#8);']
     return '\n'.join(head + lines) + '\n', operators, registers
+
+
+def random_mode_netlist(pick):
+    """One whose operators depend on a mode of one or two bits, and a bus's drivers at times."""
+    fields = Fields()
+    fields.take(8)
+    codes = Codes(pick, fields)
+    width = pick.choice([1, 1, 2])
+    registers = [f'R{k}' for k in range(pick.randint(1, 2))]
+    operators = ['+', '-'] + pick.sample('*&|^', pick.randint(0, 2))
+    lines = []
+    operands = ['read(M, f)'] * 3 + registers
+    if pick.random() < 0.3:
+        first = fields.take(1)
+        second = f'and(S[0], {fields.take(1)})' if pick.random() < 0.7 else fields.take(1)
+        lines.append(f'bus B : 16 {{ read(M, f) when {first}; {registers[-1]} when {second}; zext(f, 16) when and(not({first}), not({second})); }}')
+        operands += ['B', 'B']
+
+    def by_mode(register, listed):
+        """A row that does another operator in each mode, these ones first."""
+        listed = listed + pick.choices(operators, k=(1 << width) - len(listed))
+        gates = [f'{GATES[o]}({register}, {pick.choice(operands) if pick.random() < 0.3 else "read(M, f)"})' for o in listed]
+        rows = ' '.join(f'{mode}: {gate};' for mode, gate in enumerate(gates[:-1]))
+        return f'case S {{ {rows} else: {gates[-1]}; }}'
+
+    for register in registers:
+        rows = ['read(M, f)', 'case S { 0: zext(f, 16); else: sext(f, 16); }' if pick.random() < 0.2 else 'zext(f, 16)']
+        rows += [by_mode(register, ['-', '+'])] + [by_mode(register, [pick.choice(operators), o]) for o in operators[2:]]
+        rows += [f'{GATES[o]}({register}, {pick.choice(operands)})' for o in operators if pick.random() < 0.3]
+        value, when = codes.rows(rows[:6])
+        lines.append(f'register {register} : 16 in {value} when {when};')
+    turns = [f'eq({pick.choice(registers)}, 0#16)']
+    turns += [f'{order}({", ".join(pick.sample(registers, 2))})' for order in ('ltu', 'lts') if len(registers) > 1]
+    jump = fields.take(3)
+    rows = ' '.join(f'{k}: case {turn} {{ {random_ways(pick)} }};' for k, turn in enumerate(turns, 2))
+    lines.append(f'register PC : 8 in case {jump} {{ 1: f; {rows} else: next; }};')
+    put = codes.take()
+    if pick.random() < 0.7:
+        lines.append(f'mode S : {width} in {fields.take(width)} when eq({codes.field}, {put}#4);')
+    else:
+        back, low = codes.take(), fields.take(width)
+        lines.append(f'mode S : {width} in case {codes.field} {{ {put}: {low}; else: 0#{width}; }} '
+                     f'when case {codes.field} {{ {put}, {back}: 1#1; else: 0#1; }};')
+    stored = 'R0' if pick.random() < 0.7 else pick.choice(registers)
+    lines.append(f'memory M : 16 size 256 addr 8 write {stored} at f when {fields.take(1)};')
+    head = ['version 3;', f'code I : {fields.bits} size 256 at PC;', 'net f : 8 = I[7:0];', 'net next : 8 = add(PC, 1#8);']
+    return '\n'.join(head + lines) + '\n', operators, registers
+
+
+NETLISTS = {'--files': random_file_netlist, '--modes': random_mode_netlist}
 
 
 class Maker:
@@ -298,6 +359,8 @@ def clocked_otherwise(state, image, held, line, shown):
     words = [entry.split() for entry in state]
     memory = {int(w[1]): int(w[2]) for w in words if w[0] == 'M'}
     counter = next(int(w[1]) for w in words if w[0] == 'PC')
+    if any(w[0] == 'S' and int(w[1]) != 0 for w in words):
+        return f'{line}: run is in another mode than 0'
     label = line.split()[2]
     if f'mark {counter} {label}' not in image:
         return f'{line}: run is at {counter}'
@@ -336,10 +399,10 @@ def differs(lines, program, cells, length):
     return None
 
 
-def one(binary, folder, seed, with_file):
+def one(binary, folder, seed, make):
     """What became of one run: what is wrong, or None, and how it is counted."""
     pick = random.Random(seed)
-    netlist, operators, registers = (random_file_netlist if with_file else random_netlist)(pick)
+    netlist, operators, registers = make(pick)
     maker = Maker(pick, operators)
     program = maker.program()
     source = 'var a, b, c, i, j, x[4];\n' + '\n'.join(statement_text(s) for s in program) + '\n'
@@ -378,12 +441,13 @@ def one(binary, folder, seed, with_file):
 
 def main():
     binary, *words = sys.argv[1:]
-    binary, with_file = str(pathlib.Path(binary).resolve()), words[:1] == ['--files']
-    count, first = [*map(int, words[with_file:]), *[200, 0][len(words) - with_file:]]
+    binary, make = str(pathlib.Path(binary).resolve()), NETLISTS.get(words[0], random_netlist) if words else random_netlist
+    numbers = [int(word) for word in words if word not in NETLISTS]
+    count, first = [*numbers, *[200, 0][len(numbers):]]
     counts = collections.Counter()
     with tempfile.TemporaryDirectory() as folder:
         for seed in range(first, first + count):
-            found, kind = one(binary, pathlib.Path(folder), seed, with_file)
+            found, kind = one(binary, pathlib.Path(folder), seed, make)
             counts[kind] += 1
             if found:
                 print(f'seed {seed}: {found}')

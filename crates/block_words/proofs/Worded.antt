@@ -7,7 +7,7 @@ use Rattle.net_model.specs.declared.hardware.Netlist.{Netlist}
 use Rattle.net_model.specs.declared.hardware.Space.{Space}
 use Rattle.net_model.specs.declared.hardware.Space.TheVariants.{Memory as InMemory, File as InFile}
 use Rattle.net_model.specs.Nets.{IsRegister, file_place, place_in}
-use Rattle.net_model.specs.Transfers.{space_move}
+use Rattle.net_model.specs.Transfers.{memory_move, space_move}
 use Rattle.net_model.proofs.Spaces.{by_space}
 use Rattle.net_model.specs.Fields.{move_fields}
 use Rattle.net_model.specs.Patterns.{IsPattern, IsWordOf, Pattern}
@@ -103,7 +103,12 @@ module _ (netlist : Netlist) (patterns : List Pattern) where
       let w = f.0.words x.setting f.0.of.setting in
       ((w.0, fits_alone x (c x) (live_before (operation_in netlist patterns) (singles xs) after) f.0 w.0 w.1 w.2 s.0), have_words c xs after f.1 s.1)
 
+  -- a word of a step's pattern with its setting that keeps the memory
+  pub jump_fits : (x : Step) (o : IsOfPattern netlist patterns x) (w : ℕ) → IsWordOf netlist o.pattern w → bit_and w (move_fields o.pattern.move) ≡ x.setting → memory_move netlist w ≡ keep
+      → FitsJump netlist w (operation_in netlist patterns x)
+  jump_fits x o w given bits memory = record { clean = given.clean; does = does x o w given bits; memory = memory }
+
   pub jump_has_word : (x : Step) → IsJumpWorded netlist patterns x → (w : ℕ) × FitsJump netlist w (operation_in netlist patterns x)
   jump_has_word x h =
       let w = h.words x.setting h.of.setting in
-      (w.0, record { clean = w.2.given.clean; does = does x h.of w.0 w.2.given w.1; memory = w.2.memory })
+      (w.0, jump_fits x h.of w.0 w.2.given w.1 w.2.memory)

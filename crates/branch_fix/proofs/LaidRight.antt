@@ -1,9 +1,7 @@
 -- Words that stand for a program's parts trace the program.
-use Rattle.std.proofs.Common.{ℕ, ◌≡◌, ◌≤◌, ◌+◌, List, length, None, sym, ◌∙◌, arith, slice_index}
+use Rattle.std.proofs.Common.{ℕ, ◌≡◌, ◌≤◌, ◌+◌, List, length, None, sym, ◌∙◌, arith}
 use Rattle.net_model.specs.declared.hardware.Netlist.{Netlist}
 use Rattle.net_model.specs.Nets.{memory_size, memory_width}
-use Rattle.net_model.specs.Widths.{WordFits}
-use Rattle.net_model.specs.Control.{IsSound}
 use Rattle.src_model.specs.Written.{Listing, acts_of}
 use Rattle.src_model.specs.Meaning.{cell_count}
 use Rattle.src_model.specs.Rules.{first_fault}
@@ -25,17 +23,17 @@ use Rattle.branch_fix.proofs.Laying.{address_total}
 use Rattle.branch_fix.proofs.Shapes.{program_is_flow}
 use Rattle.branch_fix.proofs.Placing.{made_placed}
 
-pub laid_right : (netlist : Netlist) (image : Image) (bits addr temps : ℕ) (l : Listing) (rules : List Rule) (parts : List Part) → IsSound netlist
+pub laid_right : (netlist : Netlist) (image : Image) (bits addr temps : ℕ) (l : Listing) (rules : List Rule) (parts : List Part)
     → first_fault bits l ≡ None → memory_width netlist.storages ≡ bits
     → InReach bits addr temps l.vars → temps + cell_count l.vars ≤ memory_size netlist.storages
     → image.places ≡ places_from temps (variables_of l.vars)
     → IsMade netlist image temps rules (program_flow l) (program_works (memory_map bits addr temps l.vars) l) parts
-    → length (words_of image) ≡ total parts → ((a : ℕ) → WordFits netlist (slice_index (words_of image) a))
+    → length (words_of image) ≡ total parts
     → TracesRight netlist image (strace bits l)
-laid_right netlist image bits addr temps l rules parts sound kept wide inreach room places made long fits =
+laid_right netlist image bits addr temps l rules parts kept wide inreach room places made long =
     let f : IsFlow (program_flow l) (places_in (acts_of l.body)) = program_is_flow l in
     let n = fit_length rules (program_flow l) 0 (program_flow l) parts made.fit in
     let m = f.long in
-    placed_right netlist image bits addr temps l (address parts) sound kept wide inreach room places
-    (made_placed netlist image sound temps rules (program_flow l) (program_works (memory_map bits addr temps l.vars) l) parts (places_in (acts_of l.body)) f made
-    (long ∙ sym (address_total parts (places_in (acts_of l.body) + 1) (omega (arith, n, m)))) fits)
+    placed_right netlist image bits addr temps l (address parts) kept wide inreach room places
+    (made_placed netlist image temps rules (program_flow l) (program_works (memory_map bits addr temps l.vars) l) parts (places_in (acts_of l.body)) f made
+    (long ∙ sym (address_total parts (places_in (acts_of l.body) + 1) (omega (arith, n, m)))))

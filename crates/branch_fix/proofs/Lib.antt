@@ -1,6 +1,7 @@
 pub mod Addresses
 pub mod Marking
 pub mod Walking
+pub mod Sections
 pub mod Placing
 pub mod Shapes
 pub mod Laying

@@ -1,14 +1,11 @@
 -- Words that stand for the parts of a flow do what the flow says.
-use Rattle.std.proofs.Common.{ℕ, zero, suc, ◌≡◌, ◌≤◌, ◌<◌, ◌+◌, ◌-◌, ◌==◌, Bool, true, false, if◌then◌else◌, List, length, Option, Some, None, refl, sym, ◌∙◌, ap, subst, arith, slice_get, slice_index, drop, eqb-true, eq-eqb}
+use Rattle.std.proofs.Common.{ℕ, zero, suc, ◌≡◌, ◌≤◌, ◌<◌, ◌+◌, ◌-◌, ◌==◌, Bool, true, false, if◌then◌else◌, List, length, Option, Some, None, refl, sym, ◌∙◌, ap, subst, arith, slice_get, drop, eqb-true, eq-eqb}
 use Rattle.net_model.specs.declared.hardware.Netlist.{Netlist}
 use Rattle.net_model.specs.declared.states.State.{State}
-use Rattle.net_model.specs.Widths.{WordFits}
-use Rattle.net_model.specs.Control.{IsSound}
 use Rattle.code_model.specs.declared.image.Image.{Image}
 use Rattle.code_model.specs.Places.{words_of, label_at}
-use Rattle.code_model.specs.Machine.{IsAt}
-use Rattle.code_model.specs.Flow.{Reaches}
-use Rattle.code_model.specs.Words.{DoesGoto}
+use Rattle.code_model.specs.Flow.{Reaches, Goes, GoesTo}
+use Rattle.code_model.specs.Machine.{IsCalm}
 use Rattle.code_model.proofs.Flowing.{reaches_on, reaches_one}
 use Rattle.form_model.specs.declared.flow.Flow.{Flow}
 use Rattle.form_model.specs.declared.flow.Flow.TheVariants.{Assign, Test as Tested, Jump as Jumped, End as Ended}
@@ -21,10 +18,10 @@ use Rattle.branch_fix.specs.declared.part.Fork.{Fork}
 use Rattle.branch_fix.specs.declared.part.Part.{Part}
 use Rattle.branch_fix.specs.declared.part.Part.TheVariants.{Block, Inner, Test, Jump, End}
 use Rattle.branch_fix.specs.Parts.{rule_at_one, branch_words, room, address, marks_from, FitsPart}
-use Rattle.branch_fix.specs.Made.{DoesBlock, DoesFork, TailGoes, image_word, IsMade}
+use Rattle.branch_fix.specs.Made.{DoesBlock, DoesFork, TailGoes, IsMade}
 use Rattle.branch_fix.specs.Inner.Flowing.{IsFlow}
 use Rattle.branch_fix.proofs.Addresses.{address_next, address_rises, address_first, own_label, first_mark, inner_mark, part_at, end_mark, flow_end}
-use Rattle.branch_fix.proofs.Walking.{walks_reaches, walks_end, split, Split, goes, Goes, branches}
+use Rattle.branch_fix.proofs.Walking.{walks_reaches, walks_end, split, Split}
 
 -- the clocks behind a branch word
 abbrev tail_words : Bool → Bool → ℕ
@@ -36,35 +33,35 @@ tail_less false true = omega arith
 tail_less true false = omega arith
 tail_less false false = omega arith
 
-module _ (netlist : Netlist) (image : Image) (sound : IsSound netlist) where
+module _ (netlist : Netlist) (image : Image) where
   record Tail (s : State) (to bound : ℕ) : Type 0 where
     taken : ℕ
     last : State
     within : taken ≤ bound
     reaches : Reaches netlist image s taken last
-    here : IsAt netlist to last
+    here : IsCalm netlist to last
     same : last.cells ≡ s.cells
 
-  stay_tail : (s : State) (to bound : ℕ) → IsAt netlist to s → Tail s to bound
+  stay_tail : (s : State) (to bound : ℕ) → IsCalm netlist to s → Tail s to bound
   stay_tail s to bound here = record { taken = 0; last = s; within = omega arith; reaches = refl; here = here; same = refl }
 
-  jump_tail : (s : State) (at to : ℕ) → DoesGoto netlist (image_word image at) to → label_at image.marks at ≡ None → IsAt netlist at s → Tail s to 1
+  jump_tail : (s : State) (at to : ℕ) → GoesTo netlist image at to → label_at image.marks at ≡ None → IsCalm netlist at s → Tail s to 1
   jump_tail s at to does free here =
-      let g : Goes netlist image sound s to = goes netlist image sound at to s does here in
-      record { taken = 1; last = g.next; within = omega arith; reaches = reaches_one netlist image s g.next (ap (label_at image.marks) here.counter ∙ free) g.clocked; here = g.here; same = g.same }
+      let g : Goes netlist image to s = does.goes s here in
+      record { taken = 1; last = g.next; within = omega arith; reaches = reaches_one netlist image s g.next (ap (label_at image.marks) here.here.counter ∙ free) g.clocked; here = g.here; same = g.same }
 
   tail_to : (next long : Bool) (p to other : ℕ) (s : State) → TailGoes netlist image next long p to other
       → ((a : ℕ) → p < a → a < p + branch_words next long → label_at image.marks a ≡ None)
-      → IsAt netlist (if long then p + 2 else to) s → Tail s to (tail_words next long)
+      → IsCalm netlist (if long then p + 2 else to) s → Tail s to (tail_words next long)
   tail_to next true p to other s b free here = jump_tail s (p + 2) to b.1 (free (p + 2) (omega arith) (omega arith)) here
   tail_to true false p to other s b free here = stay_tail s to 0 here
   tail_to false false p to other s b free here = stay_tail s to 1 here
 
   tail_other : (next long : Bool) (p to other : ℕ) (s : State) → TailGoes netlist image next long p to other
       → ((a : ℕ) → p < a → a < p + branch_words next long → label_at image.marks a ≡ None)
-      → (next ≡ true → long ≡ false → p + 1 ≡ other) → IsAt netlist (p + 1) s → Tail s other (tail_words next long)
+      → (next ≡ true → long ≡ false → p + 1 ≡ other) → IsCalm netlist (p + 1) s → Tail s other (tail_words next long)
   tail_other next true p to other s b free comes here = jump_tail s (p + 1) other b.0 (free (p + 1) (omega arith) (omega arith)) here
-  tail_other true false p to other s b free comes here = stay_tail s other 0 (subst (λ a. IsAt netlist a s) (comes refl refl) here)
+  tail_other true false p to other s b free comes here = stay_tail s other 0 (subst (λ a. IsCalm netlist a s) (comes refl refl) here)
   tail_other false false p to other s b free comes here = jump_tail s (p + 1) other b (free (p + 1) (omega arith) (omega arith)) here
 
   module _ (temps : ℕ) (rules : List Rule) (flow : List Flow) (jobs : List Work) (parts : List Part) (end : ℕ) (is_flow : IsFlow flow end) (made : IsMade netlist image temps rules flow jobs parts) where
@@ -165,8 +162,8 @@ module _ (netlist : Netlist) (image : Image) (sound : IsSound netlist) where
                 last = w.0;
                 within = omega arith;
                 reaches = walks_reaches netlist image p.1 (address parts at) (address parts (at + n)) s w.0 far (λ x low high. unmarked at p.0 p.1 p.2 x low (omega (arith, far))) w.1;
-                here = walks_end netlist image p.1 (address parts at) (address parts (at + n)) s w.0 far w.1;
-                same = w.2;
+                here = record { here = walks_end netlist image p.1 (address parts at) (address parts (at + n)) s w.0 far w.1; mode = w.2 };
+                same = w.3;
               };
         }
       where
@@ -184,28 +181,28 @@ module _ (netlist : Netlist) (image : Image) (sound : IsSound netlist) where
 
     fork_decides : (at : ℕ) (f : Fork) (job : Work) (w : Bool) (to other : ℕ) → slice_get parts at ≡ Some (Test f)
         → (d : DoesFork netlist image temps job w f (address parts at) to other)
-        → (f.next ≡ true → f.long ≡ false → address parts at + f.words + 1 ≡ other) → (s : State) → IsAt netlist (address parts at) s
+        → (f.next ≡ true → f.long ≡ false → address parts at + f.words + 1 ≡ other) → (s : State) → IsCalm netlist (address parts at) s
         → Lies temps s.cells job
         → Decides netlist image temps f.tree d.operands.used (if w then to else other) (if w then other else to) (f.words + tail_words f.next f.long) s
     fork_decides at f job w to other e d comes s here lies =
         let a : ℕ = address parts at in
         let p : ℕ = address parts at + f.words in
         let walk = d.operands.walks s here lies in
-        let there : IsAt netlist (address parts at + f.words) walk.0 = walks_end netlist image f.words (address parts at) (address parts at + f.words) s walk.0 refl walk.1 in
-        let b = branches netlist image sound d.condition w (address parts at + f.words) (if f.long then address parts at + f.words + 2 else to) walk.0 d.branch there in
+        let there : IsCalm netlist (address parts at + f.words) walk.0 = record { here = walks_end netlist image f.words (address parts at) (address parts at + f.words) s walk.0 refl walk.1; mode = walk.2 } in
+        let b = d.branch.branches walk.0 there in
         let less = tail_less f.next f.long in
         let open_words = λ (x : ℕ) (low : address parts at < x) (high : x < address parts at + (f.words + branch_words f.next f.long)). free at (Test f) e x low high in
         let sp : Split netlist image s f.words b.next =
         split netlist image f.words (address parts at) (address parts at + f.words + 1) s walk.0 b.next refl (λ x low high. open_words x (omega arith) (omega (arith, less))) walk.1 b.clocked in
         let behind_words = λ (x : ℕ) (low : address parts at + f.words < x) (high : x < address parts at + f.words + branch_words f.next f.long). open_words x (omega arith) (omega arith) in
         record {
-          label = ap (label_at image.marks) here.counter ∙ own at (Test f) e (omega (arith, less));
+          label = ap (label_at image.marks) here.here.counter ∙ own at (Test f) e (omega (arith, less));
           next = sp.next;
           clocked = sp.clocked;
-          on_one = λ is. finish s b.next walk.0 sp.next f.words (if w then to else other) (tail_words f.next f.long) sp.reaches walk.2 b.same
-              (by_one w b.next behind_words (b.one (walk.3 ∙ is)));
-          on_zero = λ is. finish s b.next walk.0 sp.next f.words (if w then other else to) (tail_words f.next f.long) sp.reaches walk.2 b.same
-              (by_zero w b.next behind_words (b.none (walk.3 ∙ is)));
+          on_one = λ is. finish s b.next walk.0 sp.next f.words (if w then to else other) (tail_words f.next f.long) sp.reaches walk.3 b.same
+              (by_one w b.next behind_words (b.one (walk.4 ∙ is)));
+          on_zero = λ is. finish s b.next walk.0 sp.next f.words (if w then other else to) (tail_words f.next f.long) sp.reaches walk.3 b.same
+              (by_zero w b.next behind_words (b.none (walk.4 ∙ is)));
         }
       where
         finish : (s u t next : State) (n to bound : ℕ) → Reaches netlist image next n u → drop temps t.cells ≡ drop temps s.cells → u.cells ≡ t.cells
@@ -223,14 +220,14 @@ module _ (netlist : Netlist) (image : Image) (sound : IsSound netlist) where
 
         by_one : (w : Bool) (u : State)
             → ((x : ℕ) → address parts at + f.words < x → x < address parts at + f.words + branch_words f.next f.long → label_at image.marks x ≡ None)
-            → IsAt netlist (if w then (if f.long then address parts at + f.words + 2 else to) else address parts at + f.words + 1) u
+            → IsCalm netlist (if w then (if f.long then address parts at + f.words + 2 else to) else address parts at + f.words + 1) u
             → Tail u (if w then to else other) (tail_words f.next f.long)
         by_one true u fr q = tail_to f.next f.long (address parts at + f.words) to other u d.behind fr q
         by_one false u fr q = tail_other f.next f.long (address parts at + f.words) to other u d.behind fr comes q
 
         by_zero : (w : Bool) (u : State)
             → ((x : ℕ) → address parts at + f.words < x → x < address parts at + f.words + branch_words f.next f.long → label_at image.marks x ≡ None)
-            → IsAt netlist (if w then address parts at + f.words + 1 else (if f.long then address parts at + f.words + 2 else to)) u
+            → IsCalm netlist (if w then address parts at + f.words + 1 else (if f.long then address parts at + f.words + 2 else to)) u
             → Tail u (if w then other else to) (tail_words f.next f.long)
         by_zero true u fr q = tail_other f.next f.long (address parts at + f.words) to other u d.behind fr comes q
         by_zero false u fr q = tail_to f.next f.long (address parts at + f.words) to other u d.behind fr q
@@ -301,9 +298,9 @@ module _ (netlist : Netlist) (image : Image) (sound : IsSound netlist) where
         by (End, g, h) = g
 
     -- all that the flow says is done
-    pub made_placed : length (words_of image) ≡ address parts (end + 1) → ((a : ℕ) → WordFits netlist (slice_index (words_of image) a))
+    pub made_placed : length (words_of image) ≡ address parts (end + 1)
         → IsPlaced netlist image temps flow jobs (address parts) end
-    made_placed long fits =
+    made_placed long =
         let e = end_part end is_flow.last in
         let a = address_next parts end End e in
         record {
@@ -321,5 +318,4 @@ module _ (netlist : Netlist) (image : Image) (sound : IsSound netlist) where
               let same = is_flow.only k.0 f in
               omega (arith, k.2, ap (address parts) same);
           end_word = made.ends end e;
-          fits = fits;
         }

@@ -7,5 +7,6 @@ pub mod Items
 pub mod Marked
 pub mod Laid
 pub mod Made
+pub mod Sections
 pub mod Worked
 pub mod Inner

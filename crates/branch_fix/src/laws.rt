@@ -5,9 +5,7 @@ ghost use Rattle.net_model.specs.declared.hardware.Netlist.{Netlist};
 ghost use Rattle.net_model.specs.declared.states.State.{State};
 ghost use Rattle.net_model.specs.Terms.{Term, term_width};
 ghost use Rattle.net_model.specs.Meaning.{mean};
-ghost use Rattle.net_model.specs.Control.{IsSound};
 ghost use Rattle.net_model.specs.Nets.{memory_size, memory_width};
-ghost use Rattle.net_model.specs.Widths.{WordFits};
 ghost use Rattle.src_model.specs.Written.{Listing, acts_of};
 ghost use Rattle.src_model.specs.Sizes.{statements_in};
 ghost use Rattle.src_model.specs.Meaning.{cell_count};
@@ -33,17 +31,16 @@ ghost use Rattle.branch_fix.specs.Costs.{block_costs, SizesWithin};
 ghost use Rattle.branch_fix.specs.Made.{IsMade};
 
 /// An image whose words stand for the parts of a program's flow, and whose marks are theirs, traces
-/// the program.
+/// the program, and stands in mode 0 at each mark.
 pub fn law_of_layouts()
-    ensures { (netlist : Netlist) (image : Image) (bits addr temps : ℕ) (l : Listing)
-        (rules : List Rule) (parts : List Part) →
-        IsSound netlist → first_fault bits l ≡ None → memory_width netlist.storages ≡ bits →
+    ensures { (netlist : Netlist) (image : Image)
+        (bits addr temps : ℕ) (l : Listing) (rules : List Rule) (parts : List Part) →
+        first_fault bits l ≡ None → memory_width netlist.storages ≡ bits →
         InReach bits addr temps l.vars → temps + cell_count l.vars ≤ memory_size netlist.storages →
         image.places ≡ places_from temps (variables_of l.vars) →
         IsMade netlist image temps rules (program_flow l)
         (program_works (memory_map bits addr temps l.vars) l) parts →
         length (words_of image) ≡ total parts →
-        ((a : ℕ) → WordFits netlist (slice_index (words_of image) a)) →
         TracesRight netlist image (strace bits l) }
 {}
 

@@ -11,7 +11,7 @@ use Rattle.code_model.specs.Machine.{store_in, TraceEntry}
 use Rattle.code_model.specs.Right.{IsPaced, ShowsSource}
 use Rattle.code_model.specs.Inner.Flow.{Follows}
 
-enough_of : (n m : ℕ) (ps : List Passed) → n < m → IsWhole m ps → Enough n ps
+pub enough_of : (n m : ℕ) (ps : List Passed) → n < m → IsWhole m ps → Enough n ps
 enough_of n m ps lt (inl e) = inl (omega arith)
 enough_of n m ps lt (inr e) = inr e
 
@@ -19,14 +19,14 @@ paced_more : (clocks a b : ℕ) (es : List TraceEntry) → a ≤ b → IsPaced c
 paced_more clocks a b [] le p = tt
 paced_more clocks a b (e ∷ es) le p = (let q : e.cycle ≤ a = p.0 in omega arith, p.1)
 
-pub shows_of : (netlist : Netlist) (image : Image) (way : Onward) (s : State) (l : ℕ) → length (words_of image) ≡ l + 1 → ((m : ℕ) → Whole m way) → ((m : ℕ) → Steady m way) →
-    ((m : ℕ) → Follows netlist image l l s (way m (store_in image s))) → (m : ℕ) → ShowsSource netlist image (λ cells j. way j cells) s m
-shows_of netlist image way s l long wholes steady follows m =
+pub shows_of : (netlist : Netlist) (image : Image) (good : State → Type 0) (way : Onward) (s : State) (l : ℕ) → length (words_of image) ≡ l + 1 → ((m : ℕ) → Whole m way) → ((m : ℕ) → Steady m way) →
+    ((m : ℕ) → Follows netlist image good l l s (way m (store_in image s))) → (m : ℕ) → ShowsSource netlist image (λ cells j. way j cells) s m
+shows_of netlist image good way s l long wholes steady follows m =
     let n : ℕ = m * length (words_of image) in
     let cells : List ℕ = store_in image s in
     let far : ℕ = m + (m * length (words_of image) + 1) in
     let whole : IsWhole far (way far cells) = wholes far far (omega arith) cells in
-    let h : Told netlist image l l s 0 n (way far cells) = told netlist image l (way far cells) l s 0 n (follows far) (enough_of n far (way far cells) (omega arith) whole) in
+    let h : Told netlist image l l s 0 n (way far cells) = told netlist image good l (way far cells) l s 0 n (follows far) (enough_of n far (way far cells) (omega arith) whole) in
     record {
       entries = h.entries;
       traced = h.traced;

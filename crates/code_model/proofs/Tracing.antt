@@ -71,18 +71,18 @@ module _ (netlist : Netlist) (image : Image) where
       mtrace netlist image u (c + 1) k ≡ Shows es → mtrace netlist image t c (suc k) ≡ Shows (record { cycle = c; passed = record { label = At tree; cells = cells } } ∷ es)
   test_trace t u c tree k cells es e s clk later = rw (e, s, clk, later) refl
 
-  enough_later : (k tree : ℕ) (cells : List ℕ) (ps : List Passed) → Enough (suc k) (record { label = At tree; cells = cells } ∷ ps) → Enough k ps
+  pub enough_later : (k tree : ℕ) (cells : List ℕ) (ps : List Passed) → Enough (suc k) (record { label = At tree; cells = cells } ∷ ps) → Enough k ps
   enough_later k tree cells ps (inl lt) = inl (omega arith)
   enough_later k tree cells ps (inr e) = inr e
 
-  enough_less : (n k : ℕ) (ps : List Passed) → k ≤ n → Enough n ps → Enough k ps
+  pub enough_less : (n k : ℕ) (ps : List Passed) → k ≤ n → Enough n ps → Enough k ps
   enough_less n k ps le (inl lt) = inl (omega arith)
   enough_less n k ps le (inr e) = inr e
 
   agrees_at : (l d e stop stop' : ℕ) (ps : List Passed) (es : List TraceEntry) → d ≡ e → stop ≡ stop' → Agrees l d stop ps es → Agrees l e stop' ps es
   agrees_at l d e stop stop' ps es p q a = subst (λ (x : ℕ). Agrees l x stop' ps es) p (subst (λ (x : ℕ). Agrees l d x ps es) q a)
 
-  module _ (l : ℕ) where
+  module _ (good : State → Type 0) (l : ℕ) where
     -- the trace from a mark on
     pub record ToldAt (t : State) (c k deadline : ℕ) (ps : List Passed) : Type 0 where
       pub entries : List TraceEntry
@@ -90,8 +90,8 @@ module _ (netlist : Netlist) (image : Image) where
       pub agrees : Agrees l deadline (c + k) ps entries
 
     told_at : (label : Checkpoint) (cells : List ℕ) (ps : List Passed) (t : State) (c k deadline : ℕ) → label_in netlist image t ≡ Some label → store_in image t ≡ cells → c ≤ deadline →
-        Then label ps ((u : State) × (clock netlist (words_of image) t ≡ Next u) × Follows netlist image l l u ps) → Enough k (record { label = label; cells = cells } ∷ ps) →
-        ((u : State) (c n : ℕ) → Follows netlist image l l u ps → Enough n ps → Told netlist image l l u c n ps) → ToldAt t c k deadline (record { label = label; cells = cells } ∷ ps)
+        Then label ps ((u : State) × (clock netlist (words_of image) t ≡ Next u) × Follows netlist image good l l u ps) → Enough k (record { label = label; cells = cells } ∷ ps) →
+        ((u : State) (c n : ℕ) → Follows netlist image good l l u ps → Enough n ps → Told netlist image l l u c n ps) → ToldAt t c k deadline (record { label = label; cells = cells } ∷ ps)
     told_at End cells ps t c k deadline e s le then enough ih = record {
       entries = record { cycle = c; passed = record { label = End; cells = cells } } ∷ [];
       traced = end_trace t c k cells e s;
@@ -114,8 +114,8 @@ module _ (netlist : Netlist) (image : Image) where
           agrees = (refl, le, agrees_at l (c + 1 + l) (c + (l + 1)) (c + 1 + k) (c + suc k) ps h.entries (omega arith) (omega arith) h.agrees);
         }
 
-    told_from : (p : Passed) (ps : List Passed) (d : ℕ) (s : State) (c n : ℕ) → (f : Follows netlist image l d s (p ∷ ps)) → Enough n (p ∷ ps) →
-        ((u : State) (c n : ℕ) → Follows netlist image l l u ps → Enough n ps → Told netlist image l l u c n ps) → (n < f.0) ⊎ (f.0 ≤ n) → Told netlist image l d s c n (p ∷ ps)
+    told_from : (p : Passed) (ps : List Passed) (d : ℕ) (s : State) (c n : ℕ) → (f : Follows netlist image good l d s (p ∷ ps)) → Enough n (p ∷ ps) →
+        ((u : State) (c n : ℕ) → Follows netlist image good l l u ps → Enough n ps → Told netlist image l l u c n ps) → (n < f.0) ⊎ (f.0 ≤ n) → Told netlist image l d s c n (p ∷ ps)
     told_from p ps d s c n f enough ih (inl lt) = record {
       entries = [];
       traced = short_trace f.0 s f.1 c n f.3 lt;
@@ -125,7 +125,7 @@ module _ (netlist : Netlist) (image : Image) where
         let le : f.0 ≤ d = f.2 in
         let split : n ≡ f.0 + (n - f.0) = omega arith in
         let h : ToldAt f.1 (c + f.0) (n - f.0) (c + d) (p ∷ ps) =
-        told_at p.label p.cells ps f.1 (c + f.0) (n - f.0) (c + d) f.4 f.5 (omega arith) f.6 (enough_less n (n - f.0) (p ∷ ps) (omega arith) enough) ih in
+        told_at p.label p.cells ps f.1 (c + f.0) (n - f.0) (c + d) f.4 f.5 (omega arith) f.7 (enough_less n (n - f.0) (p ∷ ps) (omega arith) enough) ih in
         record {
           entries = h.entries;
           traced = reach_trace f.0 s f.1 c (n - f.0) f.3 n (c + f.0) split refl ∙ h.traced;
@@ -133,7 +133,7 @@ module _ (netlist : Netlist) (image : Image) where
         }
 
     -- where checkpoints follow, the trace shows as many of them as its clocks allow
-    pub told : (ps : List Passed) (d : ℕ) (s : State) (c n : ℕ) → Follows netlist image l d s ps → Enough n ps → Told netlist image l d s c n ps
+    pub told : (ps : List Passed) (d : ℕ) (s : State) (c n : ℕ) → Follows netlist image good l d s ps → Enough n ps → Told netlist image l d s c n ps
     told [] d s c n f (inl lt) = absurd (omega arith)
     told [] d s c n f (inr e) = absurd (cc)
     told (p ∷ ps) d s c n f enough = told_from p ps d s c n f enough (λ u c n. told ps l u c n) (cases_lt n f.0)

@@ -4,6 +4,7 @@ use Rattle.net_model.specs.declared.hardware.Netlist.{Netlist}
 use Rattle.net_model.specs.declared.states.State.{State}
 use Rattle.net_model.specs.Widths.{IsState}
 use Rattle.net_model.specs.Clock.{clock, counter_in, Outcome, Next, Clash}
+use Rattle.net_model.specs.Fixed.{mode_in}
 use Rattle.src_model.specs.declared.checkpoint.Checkpoint.{Checkpoint}
 use Rattle.src_model.specs.declared.checkpoint.Checkpoint.TheVariants.{At, End}
 use Rattle.src_model.specs.Ways.{Passed}
@@ -18,11 +19,20 @@ label_in netlist image s = label_at image.marks (counter_in netlist s)
 abbrev pub store_in : Image → State → List ℕ
 store_in image s = cells_at image.places s.cells
 
--- a state that fits the netlist, with the program counter at this address; a start state has it at
--- 0
+-- a state that fits the netlist, with the program counter at this address
 pub record IsAt (netlist : Netlist) (address : ℕ) (s : State) : Type 0 where
   pub state : IsState netlist s
   pub counter : counter_in netlist s ≡ address
+
+-- one in mode 0; a start state has its program counter at 0
+pub record IsCalm (netlist : Netlist) (address : ℕ) (s : State) : Type 0 where
+  pub here : IsAt netlist address s
+  pub mode : mode_in netlist.special s ≡ 0
+
+-- a state that fits the netlist, in mode 0, wherever the program counter is
+pub record IsRestful (netlist : Netlist) (s : State) : Type 0 where
+  pub state : IsState netlist s
+  pub mode : mode_in netlist.special s ≡ 0
 
 -- a checkpoint with the cycle at which it is seen
 pub record TraceEntry : Type 0 where

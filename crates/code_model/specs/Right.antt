@@ -4,11 +4,13 @@ use Rattle.net_model.specs.declared.hardware.Netlist.{Netlist}
 use Rattle.net_model.specs.declared.states.State.{State}
 use Rattle.net_model.specs.Nets.{memory_size}
 use Rattle.net_model.specs.Clock.{run, Reached}
+use Rattle.net_model.specs.Fixed.{mode_in}
+use Rattle.src_model.specs.declared.checkpoint.Checkpoint.{Checkpoint}
 use Rattle.src_model.specs.declared.checkpoint.Checkpoint.TheVariants.{End}
 use Rattle.src_model.specs.Ways.{Passed}
 use Rattle.code_model.specs.declared.image.Image.{Image}
 use Rattle.code_model.specs.Places.{words_of, places_from, Apart}
-use Rattle.code_model.specs.Machine.{TraceEntry, Shows, mtrace, label_in, store_in, IsAt}
+use Rattle.code_model.specs.Machine.{TraceEntry, Shows, mtrace, label_in, store_in, IsCalm, IsRestful}
 
 -- ---- layout
 
@@ -41,16 +43,19 @@ pub record ShowsSource (netlist : Netlist) (image : Image) (trace : List ℕ →
   pub passed : take m (passed_of entries) ≡ trace (store_in image s) m
   pub paced : IsPaced (length (words_of image)) (length (words_of image)) entries
 
--- so many clocks from this state don't clash and leave the store
+-- so many clocks from this state don't clash, leave the store, and end in mode 0
 pub record Stays (netlist : Netlist) (image : Image) (s : State) (n : ℕ) : Type 0 where
   pub last : State
   pub runs : run netlist (words_of image) s n ≡ Reached last
   pub same : store_in image last ≡ store_in image s
+  pub mode : mode_in netlist.special last ≡ 0
 
--- the image's trace is that of a source, whose first m checkpoints from a store are given: from
--- every start state, for every m; and from each state at the end mark on no clock clashes and the
--- store stays
+-- The image's trace is that of a source, whose first m checkpoints from a store are given: from
+-- every start state in mode 0, for every m. Each mark is reached in mode 0; and from each state at
+-- the end mark on no clock clashes, the store stays and so does the mode.
 pub record TracesRight (netlist : Netlist) (image : Image) (trace : List ℕ → ℕ → List Passed) : Type 0 where
-  pub shows : (s : State) → IsAt netlist 0 s → (m : ℕ) → ShowsSource netlist image trace s m
-  pub stays : (s t : State) → IsAt netlist 0 s → (k : ℕ) → run netlist (words_of image) s k ≡ Reached t →
+  pub shows : (s : State) → IsCalm netlist 0 s → (m : ℕ) → ShowsSource netlist image trace s m
+  pub calm : (s t : State) → IsCalm netlist 0 s → (k : ℕ) → run netlist (words_of image) s k ≡ Reached t →
+      (label : Checkpoint) → label_in netlist image t ≡ Some label → IsRestful netlist t
+  pub stays : (s t : State) → IsCalm netlist 0 s → (k : ℕ) → run netlist (words_of image) s k ≡ Reached t →
       label_in netlist image t ≡ Some End → (n : ℕ) → Stays netlist image t n

@@ -1,10 +1,11 @@
--- What a word does to the memory and the program counter, whatever the state.
-use Rattle.std.specs.Prelude.{ℕ, Bool, true, false, ◌≡◌, ◌&&◌}
+-- What a word does to the memory, the mode and the program counter, whatever the state.
+use Rattle.std.specs.Prelude.{ℕ, Bool, true, false, ◌≡◌, ◌&&◌, Option, Some, None, slice_get}
 use Rattle.net_model.specs.declared.hardware.Netlist.{Netlist}
 use Rattle.net_model.specs.Terms.{Term, word, reg, const, read, un, bin, slice, cat, zext, sext, select, keep, write}
 use Rattle.net_model.specs.Symbolic.{no_state}
 use Rattle.net_model.specs.Meaning.{mean}
-use Rattle.net_model.specs.Transfers.{IsClean, counter_move, memory_move}
+use Rattle.net_model.specs.Nets.{IsRegister}
+use Rattle.net_model.specs.Transfers.{IsClean, counter_move, memory_move, move_at}
 
 -- an expression without registers and reads
 abbrev pub is_fixed : Term → Bool
@@ -33,6 +34,12 @@ pub record DoesJump (netlist : Netlist) (i address : ℕ) : Type 0 where
 
 pub record KeepsMemory (netlist : Netlist) (i : ℕ) : Type 0 where
   pub move : memory_move netlist i ≡ keep
+
+-- the word keeps the mode, where some storage holds one
+abbrev pub KeepsMode : Option ℕ → Netlist → ℕ → Type 0
+KeepsMode None netlist i = Unit {0}
+KeepsMode (Some mode) netlist i =
+    IsRegister (slice_get netlist.storages mode) × (move_at netlist i mode ≡ keep)
 
 -- a word that goes to an address and keeps the memory: a jump, and the end, which goes to itself
 pub record DoesGoto (netlist : Netlist) (i address : ℕ) : Type 0 where

@@ -3,3 +3,6 @@ pub mod Gates
 pub mod Runs
 pub mod Inlets
 pub mod Programs
+pub mod Trading
+pub mod Moding
+pub mod Sims

@@ -5,3 +5,4 @@ pub mod Operations
 pub mod Decoding
 pub mod Programs
 pub mod Running
+pub mod Moding

@@ -1,3 +1,5 @@
 pub mod Shown
 pub mod Clocks
+pub mod Trades
+pub mod Moded
 pub mod Inner

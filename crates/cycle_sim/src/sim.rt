@@ -8,6 +8,7 @@ ghost use Rattle.net_model.specs.Widths.{IsState, WordFits};
 ghost use Rattle.net_model.specs.Clock.{counter_in, word_at};
 ghost use Rattle.cycle_sim.specs.Clocks.{Clocks, register_in};
 ghost use Rattle.cycle_sim.specs.Inner.Ports.{HasPortWidth, memory_port_width};
+ghost use Rattle.cycle_sim.specs.Trades.{AreAlike, holding};
 
 use crate::decode::constants;
 use crate::edge::{Port, clock_cells, clock_registers, first_clash};
@@ -17,6 +18,7 @@ use net_model::{Checked, Netlist, Space, State, Storage};
 use rec_bits::{Items, NoMemory, mask};
 use std::alloc::Global;
 use std::marker::Model;
+use std::mem::swap;
 
 /// What a clock leads to.
 #[derive(Clone, Copy, PartialEq, Eq)]
@@ -169,6 +171,40 @@ impl<'a> Sim<'a> {
         }
         self.state.cells.set(at, value);
         true
+    }
+
+    /// Exchanges what two simulators hold, and which cells they wrote last. Their netlists have
+    /// storages of the same kinds, widths and sizes.
+    pub fn trade(&mut self, other: &mut Sim<'a>)
+        requires { AreAlike self.old.netlist other.old.netlist }
+        ensures here { self.new ≡ holding self.old other.old }
+        ensures there { other.new ≡ holding other.old self.old }
+    {
+        swap(&mut self.state, &mut other.state);
+        swap(&mut self.last_write, &mut other.last_write);
+    }
+
+    /// Puts a state in the place of what the simulator holds.
+    pub(crate) fn put(&mut self, state: State)
+        requires { IsState self.old.netlist state }
+        ensures { self.new ≡ record self.old { state = state } }
+    {
+        self.state = state;
+    }
+
+    /// The netlist.
+    pub fn checked(&self) -> &'a Checked
+        ensures { result.now.netlist ≡ self.now.netlist }
+    {
+        self.checked
+    }
+
+    /// What the storages hold.
+    pub(crate) fn state(&self) -> &State
+        ensures value { result.now ≡ self.now.state }
+        ensures fits { IsState self.now.netlist result.now }
+    {
+        &self.state
     }
 
     /// The cell that the last clock wrote, or None where it wrote none, where it clashed, and where

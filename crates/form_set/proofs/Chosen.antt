@@ -13,9 +13,9 @@ use Rattle.transfer_set.specs.Tables.{Table}
 use Rattle.form_set.specs.declared.pattern_ids.PatternIds.{PatternIds}
 use Rattle.form_set.specs.Inner.PatternIds.{InSet, ArePatternIds, ids_pattern}
 use Rattle.transfer_set.specs.Ready.{IsReady}
-use Rattle.form_set.specs.Words.{CanJump, ForEachSetting, CanKeep, IsSetOf, Joins, joins, fails, none, WordKeepsMemory, KeepsOthers, is_register_storage, with}
+use Rattle.form_set.specs.Words.{CanJump, ForEachSetting, CanKeep, IsSetOf, Joins, joins, fails, none, WordKeepsMemory, KeepsOthers, is_register_storage, with, CanTurn, WordKeepsBoth}
 use Rattle.form_set.proofs.Registers.{no_register, register_is}
-use Rattle.form_set.proofs.Holding.{and_set, each_is, keep_is, memory_kept, no_file, one_more, other_file, other_memory, own_file, own_memory, step_is}
+use Rattle.form_set.proofs.Holding.{and_set, each_is, keep_is, memory_kept, mode_kept, no_file, one_more, other_file, other_memory, own_file, own_memory, step_is}
 use Rattle.form_set.specs.Inner.Holds.{KeepsMemory, StepsTo}
 use Rattle.std.proofs.lemmas.Bool.{ltb-true, ltb-false}
 
@@ -55,6 +55,14 @@ module _ (netlist : Netlist) (old new : Diagrams) (pool : List Node) (table : Ta
   jump_set ids p id ei keeps ek set grows within words =
       and_set old new (IsWordOf netlist (ids_pattern pool ids)) (Keeps netlist (memory_id netlist.storages)) (WordKeepsMemory netlist (ids_pattern pool ids))
       ids.set keeps set grows p.set (memory_set p.memory id ei keeps ek) within words (memory_kept netlist (ids_pattern pool ids))
+
+  pub turn_set : (p : Pattern) (set : ℕ) → IsSetOf old (WordKeepsMemory netlist p) set → (id : ℕ) → id < length netlist.storages → (keeps : ℕ) → keeps ≡ slice_index table.keeps id
+      → (more : ℕ) → Extends old new → more < length new.nodes → ((word : ℕ) → has_word new more word ≡ (has_word old set word && has_word old keeps word))
+      → IsSetOf new (WordKeepsBoth netlist p id) more
+  turn_set p set h id lt keeps ek more grows within words =
+      let k = keep_is netlist old id _ (ready.patterns.keeps id lt) in
+      and_set old new (WordKeepsMemory netlist p) (Keeps netlist id) (WordKeepsBoth netlist p id)
+      set keeps more grows h (subst (IsSetOf old (Keeps netlist id)) (sym ek) k) within words (mode_kept netlist p id)
 
   pub more_set : (p : Pattern) (registers set : ℕ) → IsSetOf old (KeepsOthers netlist p registers) set → (id : ℕ) → id < length netlist.storages
       → (one : ℕ) → one ≡ 2 ^ id → (keeps : ℕ) → keeps ≡ slice_index table.keeps id
@@ -129,6 +137,11 @@ module _ (netlist : Netlist) (book : Diagrams) (pool : List Node) (table : Table
   pub jump_told : (set : ℕ) → IsSetOf book (WordKeepsMemory netlist (ids_pattern pool ids)) set → (b : Bool) → (b ≡ true) ↔ ForEachSetting ids.fields (InSet book set)
       → (b ≡ true) ↔ CanJump netlist (ids_pattern pool ids)
   jump_told set s b h = told book (WordKeepsMemory netlist (ids_pattern pool ids)) set ids.fields _ b h p.fields s
+      (λ word k. p.clean word k.given.clean)
+
+  pub turn_told : (mode set : ℕ) → IsSetOf book (WordKeepsBoth netlist (ids_pattern pool ids) mode) set → (b : Bool) → (b ≡ true) ↔ ForEachSetting ids.fields (InSet book set)
+      → (b ≡ true) ↔ CanTurn netlist (ids_pattern pool ids) mode
+  turn_told mode set s b h = told book (WordKeepsBoth netlist (ids_pattern pool ids) mode) set ids.fields _ b h p.fields s
       (λ word k. p.clean word k.given.clean)
 
 -- a register that doesn't join

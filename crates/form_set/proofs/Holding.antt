@@ -20,7 +20,7 @@ use Rattle.transfer_set.specs.Sets.{IsKeepSet, IsStepSet}
 use Rattle.sym_expr.specs.declared.pool.Node.{Node}
 use Rattle.form_set.specs.declared.pattern_ids.PatternIds.{PatternIds}
 use Rattle.form_set.specs.Inner.PatternIds.{InSet, ArePatternIds, ids_pattern}
-use Rattle.form_set.specs.Words.{ForEachSetting, IsSetOf, WordKeepsMemory, KeepsOthers, with}
+use Rattle.form_set.specs.Words.{ForEachSetting, IsSetOf, WordKeepsMemory, KeepsOthers, with, WordKeepsBoth}
 
 -- ---- sets
 
@@ -110,6 +110,13 @@ no_file netlist p ge word = (
 pub memory_kept : (netlist : Netlist) (p : Pattern) (word : ℕ) → (IsWordOf netlist p word × Keeps netlist (memory_id netlist.storages) word) ↔ WordKeepsMemory netlist p word
 memory_kept netlist p word =
     ((λ h. record { given = h.0; memory = h.1.keeps }), λ k. (k.given, record { clean = k.given.clean; keeps = k.memory }))
+
+-- and those that keep the mode
+pub mode_kept : (netlist : Netlist) (p : Pattern) (mode word : ℕ) → (WordKeepsMemory netlist p word × Keeps netlist mode word) ↔ WordKeepsBoth netlist p mode word
+mode_kept netlist p mode word = (
+  (λ h. record { given = h.0.given; memory = h.0.memory; special = h.1.keeps }),
+  λ k. (record { given = k.given; memory = k.memory }, record { clean = k.given.clean; keeps = k.special }),
+)
 
 -- ---- one register more
 

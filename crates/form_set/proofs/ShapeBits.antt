@@ -23,7 +23,8 @@ use Rattle.transfer_set.specs.TextMarks.{IsTermOf}
 use Rattle.form_model.specs.Shapes.{FieldFits, PlainFits, ShapeFits, Sum, SummandFits, field_setting, is_field, is_plain, is_plain_sum, is_shape, less_by, plain_setting, shape_setting, sum_of, sum_setting, sum_with, summands}
 use Rattle.form_model.proofs.SumNumbers.{sum_is_with}
 use Rattle.form_model.proofs.SumLaws.{IsSum, sum_is}
-use Rattle.form_model.proofs.FieldLaws.{less_true, then_some_true}
+use Rattle.form_model.proofs.FieldLaws.{field_small, less_true, then_some_true}
+use Rattle.form_model.proofs.PlainLaws.{sext_low}
 use Rattle.form_model.proofs.ShapeLaws.{setting_of_shape}
 
 -- the bits of a slice, in their places
@@ -223,6 +224,87 @@ pub shape_set : (bits : ℕ) (t : Term) → is_shape t ≡ true → ShapeFits bi
 shape_set bits t h f v b e s i lt is =
     let g = setting_of_shape bits t h f v b e in
     mean_fields t s i b (shape_word bits t h f i lt) (shape_word bits t h f b g.0) (is ∙ sym (shape_only bits t h f v b e)) ∙ shape_blank t h s b ∙ g.1
+
+-- ---- a shape without a sum has its value under no other bits
+
+field_meant : (bits : ℕ) (t : Term) → is_field t ≡ true → FieldFits bits t → (v b : ℕ) → field_setting t v ≡ Some b → (i : ℕ) → mean t no_state i ≡ v → bit_and i (fields t) ≡ b
+field_meant bits (word w) h f v b e i is =
+    (let g = then_some_true _ v b e in
+    ap (λ n. bit_and n (2 ^ w - 1)) is ∙ and_mask v w ∙ mod-eq_of_lt (less_true v (2 ^ w) g.0) ∙ g.1)
+field_meant bits (slice (word w) hi lo) h f v b e i is =
+    (let g = then_some_true _ (v * 2 ^ lo) b e in slice_bits i hi lo f.1 ∙ ap (λ n. n * 2 ^ lo) is ∙ g.1)
+field_meant bits (slice _ hi lo) h f v b e i is = absurd (true≢false (sym h))
+field_meant bits (reg r w) h f v b e i is = absurd (true≢false (sym h))
+field_meant bits (const w c) h f v b e i is = absurd (true≢false (sym h))
+field_meant bits (read space a w) h f v b e i is = absurd (true≢false (sym h))
+field_meant bits (un o a) h f v b e i is = absurd (true≢false (sym h))
+field_meant bits (bin o a c) h f v b e i is = absurd (true≢false (sym h))
+field_meant bits (cat a c) h f v b e i is = absurd (true≢false (sym h))
+field_meant bits (zext a w) h f v b e i is = absurd (true≢false (sym h))
+field_meant bits (sext a w) h f v b e i is = absurd (true≢false (sym h))
+field_meant bits (select a c d) h f v b e i is = absurd (true≢false (sym h))
+
+no_bits : (i : ℕ) → bit_and i 0 ≡ 0
+no_bits i = and_mask i 0 ∙ (let one : i % 2 ^ 0 ≡ 0 = omega arith in one)
+
+pub plain_meant : (bits : ℕ) (t : Term) → is_plain t ≡ true → ShapeFits bits t → (v b : ℕ) → plain_setting t v ≡ Some b → (i : ℕ) → i < 2 ^ bits → mean t no_state i ≡ v → bit_and i (fields t) ≡ b
+plain_meant bits (const w c) h f v b e i lt is = (let g = then_some_true (v == c) 0 b e in no_bits i ∙ g.1)
+plain_meant bits (zext a w) h f v b e i lt is = field_meant bits a h f.0 v b e i is
+plain_meant bits (sext a w) h f v b e i lt is = by (sext_of (v % 2 ^ term_width a) (term_width a) w == v) e
+  where
+    wide : term_width a ≤ w
+    wide = let less = f.2 in omega (arith, less)
+
+    low : mean a no_state i ≡ v % 2 ^ term_width a
+    low = sym (sext_low (mean a no_state i) (term_width a) w (field_small bits a h f.0 i lt) wide) ∙ ap (λ n. n % 2 ^ term_width a) is
+
+    by : (t : Bool) → cond t (field_setting a (v % 2 ^ term_width a)) None ≡ Some b → bit_and i (fields a) ≡ b
+    by true q = field_meant bits a h f.0 (v % 2 ^ term_width a) b q i low
+    by false q = absurd (cc)
+plain_meant bits (word w) h f v b e i lt is = field_meant bits (word w) h f v b e i is
+plain_meant bits (slice a hi lo) h f v b e i lt is = field_meant bits (slice a hi lo) h f v b e i is
+plain_meant bits (reg r w) h f v b e i lt is = absurd (true≢false (sym h))
+plain_meant bits (read space a w) h f v b e i lt is = absurd (true≢false (sym h))
+plain_meant bits (un o a) h f v b e i lt is = absurd (true≢false (sym h))
+plain_meant bits (bin o a c) h f v b e i lt is = absurd (true≢false (sym h))
+plain_meant bits (cat a c) h f v b e i lt is = absurd (true≢false (sym h))
+plain_meant bits (select a c d) h f v b e i lt is = absurd (true≢false (sym h))
+
+-- what has such bits is a shape without a sum, and is told as any shape is
+field_of_setting : (t : Term) (v b : ℕ) → field_setting t v ≡ Some b → is_field t ≡ true
+field_of_setting (word w) v b e = refl
+field_of_setting (slice (word w) hi lo) v b e = refl
+field_of_setting _ v b e = absurd (cc)
+
+pub plain_of_setting : (t : Term) (v b : ℕ) → plain_setting t v ≡ Some b → is_plain t ≡ true
+plain_of_setting (const w c) v b e = refl
+plain_of_setting (zext a w) v b e = field_of_setting a v b e
+plain_of_setting (sext a w) v b e = by (sext_of (v % 2 ^ term_width a) (term_width a) w == v) e
+  where
+    by : (t : Bool) → cond t (field_setting a (v % 2 ^ term_width a)) None ≡ Some b → is_field a ≡ true
+    by true q = field_of_setting a (v % 2 ^ term_width a) b q
+    by false q = absurd (cc)
+plain_of_setting (word w) v b e = refl
+plain_of_setting (slice a hi lo) v b e = field_of_setting (slice a hi lo) v b e
+plain_of_setting (reg r w) v b e = absurd (cc)
+plain_of_setting (read space a w) v b e = absurd (cc)
+plain_of_setting (un o a) v b e = absurd (cc)
+plain_of_setting (bin o a c) v b e = absurd (cc)
+plain_of_setting (cat a c) v b e = absurd (cc)
+plain_of_setting (select a c d) v b e = absurd (cc)
+
+pub plain_told : (t : Term) → is_plain t ≡ true → (v : ℕ) → shape_setting t v ≡ plain_setting t v
+plain_told (const w c) h v = refl
+plain_told (zext a w) h v = refl
+plain_told (sext a w) h v = refl
+plain_told (word w) h v = refl
+plain_told (slice a hi lo) h v = refl
+plain_told (reg r w) h v = refl
+plain_told (read space a w) h v = refl
+plain_told (un o a) h v = refl
+plain_told (bin o a c) h v = absurd (true≢false (sym h))
+plain_told (cat a c) h v = refl
+plain_told (select a c d) h v = refl
 
 -- ---- a shape of a netlist's expressions fits
 

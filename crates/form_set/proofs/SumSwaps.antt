@@ -64,7 +64,7 @@ turned_plain : (s : Bool) (o : Op2) (a b : Term) → is_plain (ordered s o a b) 
 turned_plain true o a b = refl
 turned_plain false o a b = refl
 
-plain_stays : (f : Path → Bool) (t : Term) → is_plain (swap_at f t) ≡ is_plain t
+pub plain_stays : (f : Path → Bool) (t : Term) → is_plain (swap_at f t) ≡ is_plain t
 plain_stays f (word w) = refl
 plain_stays f (reg r w) = refl
 plain_stays f (const w v) = refl

@@ -48,6 +48,20 @@ pub record WordKeepsMemory (netlist : Netlist) (pattern : Pattern) (word : ℕ) 
 abbrev pub CanJump : Netlist → Pattern → Type 0
 CanJump netlist pattern = ForEachSetting (move_fields pattern.move) (WordKeepsMemory netlist pattern)
 
+-- the word is in the pattern's set and keeps the data memory and one register, the mode
+pub record WordKeepsBoth (netlist : Netlist) (pattern : Pattern) (mode : ℕ) (word : ℕ) : Type 0 where
+  pub given : IsWordOf netlist pattern word
+  pub memory : memory_move netlist word ≡ keep
+  pub special : move_at netlist word mode ≡ keep
+
+-- what a jump or a branch asks for that keeps the mode
+abbrev pub CanTurn : Netlist → Pattern → ℕ → Type 0
+CanTurn netlist pattern mode = ForEachSetting (move_fields pattern.move) (WordKeepsBoth netlist pattern mode)
+
+abbrev pub TurnsAt : Netlist → Option Pattern → ℕ → Type 0
+TurnsAt netlist None mode = ⊥
+TurnsAt netlist (Some pattern) mode = CanTurn netlist pattern mode
+
 -- ---- the clobbers
 
 -- the same as IsRegister, computed

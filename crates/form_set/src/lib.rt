@@ -53,3 +53,4 @@ pub use laws::{
     law_of_words,
 };
 pub use listing::forms;
+pub use words::can_turn;

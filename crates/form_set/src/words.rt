@@ -4,13 +4,14 @@ ghost use Rattle.std.specs.Prelude.{◌≡◌, ◌↔◌, ◌<◌, ◌^◌, IfOk
 ghost use Rattle.bit_bdd.specs.Diagrams.{Extends};
 ghost use Rattle.form_set.specs.Inner.PatternIds.{ArePatternIds, ids_pattern};
 ghost use Rattle.transfer_set.specs.Ready.{IsReady};
+ghost use Rattle.transfer_set.specs.Rows.{row_patterns};
 ghost use Rattle.form_set.specs.Inner.Holds.{KeepsMemory, StepsTo};
 ghost use Rattle.form_set.specs.Static.{is_file_at};
-ghost use Rattle.form_set.specs.Words.{AreClobbers, AreKept, CanJump, CanKeep, IsSetOf, Joins, WordKeepsMemory, KeepsOthers, all_registers as all_registers_of, is_register_storage as is_register_of, own_storage as own_storage_of, with};
+ghost use Rattle.form_set.specs.Words.{AreClobbers, AreKept, CanJump, CanKeep, CanTurn, IsSetOf, Joins, TurnsAt, WordKeepsBoth, WordKeepsMemory, KeepsOthers, all_registers as all_registers_of, is_register_storage as is_register_of, own_storage as own_storage_of, with};
 
 use crate::decide::has_all;
 use crate::linear::one;
-use crate::pattern_ids::{PatternIds, keep_of};
+use crate::pattern_ids::{PatternIds, keep_of, known_ids};
 use bit_bdd::{Book, SetId};
 use net_model::{Checked, Space, Storage};
 use rec_bits::NoMemory;
@@ -215,6 +216,73 @@ pub(crate) fn can_jump(
     let words = jump_words(alloc, checked, pool, patterns, book, ids)?;
     let can = has_all(alloc, book, words, ids.fields)?;
     Ok(can)
+}
+
+// Those of a pattern's words that keep a storage, the mode, among those that keep the data memory.
+fn mode_words(
+    alloc: Global,
+    _checked: &Checked,
+    _pool: &Pool,
+    patterns: &Patterns,
+    book: &mut Book,
+    _ids: PatternIds,
+    words: SetId,
+    mode: u32,
+) -> Result<SetId, NoMemory>
+    requires ready { IsReady _checked.now.netlist book.old _pool.now patterns.now }
+    requires words { IsSetOf book.old (WordKeepsMemory _checked.now.netlist (ids_pattern _pool.now _ids)) words }
+    requires mode { mode < length _checked.now.netlist.storages }
+    ensures grows { Extends book.old book.new }
+    ensures words { IfOk result (IsSetOf book.new (WordKeepsBoth _checked.now.netlist (ids_pattern _pool.now _ids) mode)) }
+{
+    let kept = book.and(alloc, words, keep_of(patterns, mode))?;
+    Ok(kept)
+}
+
+// Whether a pattern has for every setting a word that keeps the data memory and the mode.
+fn turns(
+    alloc: Global,
+    checked: &Checked,
+    pool: &Pool,
+    patterns: &Patterns,
+    book: &mut Book,
+    ids: PatternIds,
+    mode: u32,
+) -> Result<bool, NoMemory>
+    requires ready { IsReady checked.now.netlist book.old pool.now patterns.now }
+    requires ids { ArePatternIds checked.now.netlist book.old pool.now ids }
+    requires mode { mode < length checked.now.netlist.storages }
+    ensures grows { Extends book.old book.new }
+    ensures can { IfOk result (λ can. IsTrue can ↔ CanTurn checked.now.netlist (ids_pattern pool.now ids) mode) }
+{
+    let memory = jump_words(alloc, checked, pool, patterns, book, ids)?;
+    let words = mode_words(alloc, checked, pool, patterns, book, ids, memory, mode)?;
+    let can = has_all(alloc, book, words, ids.fields)?;
+    Ok(can)
+}
+
+/// Whether the pattern of this number has for every setting a word that keeps the data memory and
+/// the storage `mode`; no pattern past the last one has. The book grows, and what it held means what
+/// it meant. Want of memory is the only refusal.
+pub fn can_turn(
+    alloc: Global,
+    checked: &Checked,
+    pool: &Pool,
+    patterns: &Patterns,
+    book: &mut Book,
+    pattern: u32,
+    mode: u32,
+) -> Result<bool, NoMemory>
+    requires ready { IsReady checked.now.netlist book.old pool.now patterns.now }
+    requires mode { mode < length checked.now.netlist.storages }
+    ensures grows { Extends book.old book.new }
+    ensures can { IfOk result (λ can. IsTrue can
+        ↔ TurnsAt checked.now.netlist (slice_get (row_patterns pool.now patterns.now.rows) pattern) mode) }
+{
+    match known_ids(checked, pool, patterns, book, pattern) {
+        Some(ids) => turns(alloc, checked, pool, patterns, book, ids, mode),
+        None => Ok(false),
+    }
 }
 
 // Those that keep one storage more, where it is a register and every setting still has such a word.

@@ -25,7 +25,7 @@ use Rattle.net_asm.specs.Disassembled.{ShowsWord}
 use Rattle.net_asm.specs.Laws.{ClocksAlike, IsTaken, ReadsAgain}
 use Rattle.net_asm.specs.declared.fault.AsmFault.TheVariants as fault
 use Rattle.net_asm.proofs.AsmLaws.{no_broken_rule, no_text_fault, one_lines}
-use Rattle.net_asm.proofs.MachineLaws.{bits_are, machine_texts, narrow, no_net_text, one_machine, rules_of}
+use Rattle.net_asm.proofs.MachineLaws.{bits_are, machine_texts, narrow, no_net_text, one_machine, kept_of, rules_of}
 use Rattle.net_asm.proofs.ShownLines.{shown_fits}
 use Rattle.net_asm.proofs.Zips.{zip_at, zip_middle, zip_turned}
 
@@ -67,7 +67,7 @@ module _ (machine : Machine) (net : List ℕ) (is : IsMachine net machine) where
   -- the line that is shown of a word of the code fits
   own_fits : (word : ℕ) → word < 2 ^ Bits → (line : Line) → ShowsWord machine word line → Fits line
   own_fits word lt line shown =
-      shown_fits machine.netlist is.file.file.keeps.order (rules_of net machine is)
+      shown_fits machine.netlist (kept_of net machine is).order (rules_of net machine is)
       (subst (λ (n : Netlist). HasSpelledNames n) (sym is.netlist) (spelled_names net is.entries is.file.file.says))
       (subst (λ (n : Netlist). HasPlainNames n) (sym is.netlist) (plain_names net is.entries is.file.file.says))
       machine.patterns is.patterns word Bits (bits_are machine.netlist) lt line shown
@@ -120,7 +120,7 @@ clocks_alike net image text out d a s state =
     elim (zip_at (ShowsWord d.machine) (λ (word : ℕ) (line : Line). HasLeastWord d.machine line word) (words_of d.said) a.words d.lines d.shown least (counter_in d.machine.netlist s))
     as (λ _. clock d.machine.netlist a.words s ≡ clock d.machine.netlist (words_of d.said) s) [
       | inl (line, shown, word) ↦
-          words_clock_alike d.machine.netlist d.is.file.file.keeps.order d.machine.patterns (word_at d.machine.netlist (words_of d.said) s) (word_at d.machine.netlist a.words s) line
+          words_clock_alike d.machine.netlist (kept_of net d.machine d.is).order d.machine.patterns (word_at d.machine.netlist (words_of d.said) s) (word_at d.machine.netlist a.words s) line
           (rules_of net d.machine d.is) d.is.patterns.every shown word.is (words_of d.said) a.words s state refl refl
       | inr same ↦ ap (step d.machine.netlist s) same
     ]

@@ -4,14 +4,14 @@ use Rattle.std.specs.List.{All, AllZip}
 use Rattle.std.proofs.lemmas.Bool.{cases_lt}
 use Rattle.std.proofs.lemmas.List.{append-nil}
 use Rattle.net_model.specs.declared.fault.NetFault.{NetFault}
-use Rattle.net_extract.specs.Extracts.{BreaksAnyRule}
-use Rattle.net_extract.proofs.RoutedLaws.{no_broken_any}
+use Rattle.net_extract.specs.Taken.{BreaksAnyTaken}
+use Rattle.net_extract.proofs.RoutedTaken.{no_broken_any_taken}
 use Rattle.code_model.specs.ImageFits.{limits_of}
 use Rattle.code_model.specs.ImageText.{image_text}
 use Rattle.net_run.proofs.ImageLaws.{cut}
 use Rattle.asm_text.specs.declared.line.Line.{Line}
 use Rattle.asm_text.specs.Texts.{IsAsmFault}
-use Rattle.net_asm.specs.Machines.{IsMachine, Machine, texts_of}
+use Rattle.net_asm.specs.Machines.{IsMachine, Machine, texts_of, assembled_edition}
 use Rattle.net_asm.specs.Assembled.{HasLeastWord, HasWord, IsAssembled, IsNoAsmFile, IsWorded, IsWordless, SaysText, bare_image}
 use Rattle.net_asm.proofs.MachineLaws.{machine_texts, narrow, one_machine}
 use Rattle.net_asm.proofs.OneLine.{in_middle, no_fault, one_fault, text_one}
@@ -88,5 +88,5 @@ module _ (net text : List ℕ) where
 
 -- ---- the netlist's refusals
 
-pub no_broken_rule : (net : List ℕ) (machine : Machine) (fault : NetFault) → IsMachine net machine → BreaksAnyRule net fault → ⊥
-no_broken_rule net machine fault is broken = no_broken_any net is.entries fault is.file broken
+pub no_broken_rule : (net : List ℕ) (machine : Machine) (fault : NetFault) → IsMachine net machine → BreaksAnyTaken assembled_edition net fault → ⊥
+no_broken_rule net machine fault is broken = no_broken_any_taken assembled_edition net is.entries fault is.file is.taken broken

@@ -1,15 +1,16 @@
 -- Bytes are one machine's at most, and its patterns have texts of transfers.
-use Rattle.std.proofs.Common.{◌≡◌, ℕ, List, [], ◌∷◌, refl, sym, ap, subst, ◌∙◌}
+use Rattle.std.proofs.Common.{◌≡◌, ◌<◌, ℕ, List, [], ◌∷◌, refl, sym, ap, subst, ◌∙◌, arith}
 use Rattle.std.specs.Prelude.{slice_get}
 use Rattle.net_model.specs.declared.hardware.Code.{Code}
 use Rattle.net_model.specs.declared.hardware.Netlist.{Netlist}
 use Rattle.net_model.specs.CheckedRules.{KeepsRules}
+use Rattle.net_model.specs.ModeRules.{KeepsInOrder}
 use Rattle.net_model.specs.Elaborated.{netlist_of}
 use Rattle.net_model.specs.Nets.{code_bits, word_width}
 use Rattle.net_model.specs.Patterns.{ArePatterns, Pattern}
 use Rattle.net_model.specs.Written.{Text}
 use Rattle.net_parser.specs.Texts.{IsNoNetText}
-use Rattle.net_front.proofs.FrontLaws.{no_text_fault}
+use Rattle.net_front.proofs.FrontLaws.{no_text_fault, rules_alone}
 use Rattle.net_extract.specs.Extracts.{IsRoutedFile}
 use Rattle.net_extract.proofs.PlainNames.{plain_names, spelled_names}
 use Rattle.code_model.specs.ImageFits.{limits_in, limits_of}
@@ -29,9 +30,10 @@ bits_are netlist = by netlist.codes
     by (code ∷ codes) = refl
 
 -- the patterns of a netlist file have texts of transfers
-pub file_texts : (net : List ℕ) (entries : Text) → IsRoutedFile net entries → (patterns : List Pattern) → ArePatterns (netlist_of entries) patterns → AreTransferTexts (move_texts (netlist_of entries) patterns)
-file_texts net entries file patterns are =
-    transfer_texts (netlist_of entries) file.file.keeps.order file.file.keeps.rules (spelled_names net entries file.file.says) (plain_names net entries file.file.says) patterns are
+pub file_texts : (net : List ℕ) (entries : Text) → IsRoutedFile net entries → entries.edition < 3 → (patterns : List Pattern) → ArePatterns (netlist_of entries) patterns → AreTransferTexts (move_texts (netlist_of entries) patterns)
+file_texts net entries file early patterns are =
+    let kept = rules_alone entries early file.file.keeps in
+    transfer_texts (netlist_of entries) kept.order kept.rules (spelled_names net entries file.file.says) (plain_names net entries file.file.says) patterns are
 
 module _ (net : List ℕ) where
   pub one_machine : (a b : Machine) → IsMachine net a → IsMachine net b → a ≡ b
@@ -45,13 +47,20 @@ module _ (net : List ℕ) where
   no_net_text machine at p none = no_text_fault net p.entries at p.file.file.says none
 
   module _ (machine : Machine) (is : IsMachine net machine) where
-    pub rules_of : KeepsRules machine.netlist is.file.file.keeps.order
-    rules_of = subst (λ (n : Netlist). KeepsRules n is.file.file.keeps.order) (sym is.netlist) is.file.file.keeps.rules
+    -- its netlist has no modes
+    early : is.entries.edition < 3
+    early = let taken = is.taken in omega (arith, taken)
+
+    pub kept_of : KeepsInOrder machine.netlist
+    kept_of = subst KeepsInOrder (sym is.netlist) (rules_alone is.entries early is.file.file.keeps)
+
+    pub rules_of : KeepsRules machine.netlist kept_of.order
+    rules_of = kept_of.rules
 
     pub machine_texts : AreTransferTexts (texts_of machine)
     machine_texts =
         subst (λ (n : Netlist). AreTransferTexts (move_texts n machine.patterns)) (sym is.netlist)
-        (file_texts net is.entries is.file machine.patterns (subst (λ (n : Netlist). ArePatterns n machine.patterns) is.netlist is.patterns))
+        (file_texts net is.entries is.file early machine.patterns (subst (λ (n : Netlist). ArePatterns n machine.patterns) is.netlist is.patterns))
 
     pub narrow : Narrow (limits_of machine.netlist)
     narrow = subst (λ (n : Netlist). Narrow (limits_of n)) (sym is.netlist) (narrow_of net is.entries is.file.file)

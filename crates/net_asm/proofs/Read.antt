@@ -14,13 +14,13 @@ use Rattle.code_model.specs.ImageFits.{CodeFits, limits_of}
 use Rattle.code_model.specs.ImageLines.{IsLineFault}
 use Rattle.transfer_set.specs.Rows.{row_patterns}
 use Rattle.net_extract.specs.Extraction.{IsExtractedFrom}
-use Rattle.net_extract.specs.Extracts.{IsRoutedNet}
-use Rattle.net_extract.specs.declared.netlists.Extracted.{Extracted}
+use Rattle.net_extract.specs.Taken.{IsTakenNet}
+use Rattle.net_extract.specs.declared.netlists.Isa.{Isa}
 use Rattle.asm_text.specs.declared.line.Line.{Line}
 use Rattle.asm_text.specs.Lines.{AreTransferTexts, LineFits}
 use Rattle.asm_text.specs.Texts.{IsAsmFault, SayLines, lines_text}
 use Rattle.text_lines.specs.Lines.{lines_of}
-use Rattle.net_asm.specs.Machines.{IsMachine, Machine, texts_of}
+use Rattle.net_asm.specs.Machines.{IsMachine, Machine, texts_of, assembled_edition}
 use Rattle.net_asm.specs.Assembled.{HasLeastWord, HasWord, IsAssembled, IsAssembleFault, SaysText, bare_word}
 use Rattle.net_asm.specs.Disassembled.{IsDisassembled, IsDisassembleFault, ShowsWord}
 use Rattle.net_asm.specs.Inner.Tables.{IsImageFault, IsOutOf, IsShownIn, IsSourceFault, IsTextFault, IsWordFault, SaysLines, machine_of, row_texts}
@@ -28,7 +28,7 @@ use Rattle.net_asm.specs.declared.fault.AsmFault.{AsmFault}
 use Rattle.net_asm.specs.declared.fault.AsmFault.TheVariants as asm
 use Rattle.net_asm.specs.declared.fault.DisFault.{DisFault}
 use Rattle.net_asm.specs.declared.fault.DisFault.TheVariants as dis
-use Rattle.net_asm.proofs.MachineLaws.{bits_are, machine_texts, rules_of}
+use Rattle.net_asm.proofs.MachineLaws.{bits_are, kept_of, machine_texts, rules_of}
 use Rattle.net_asm.proofs.Tables.{take_next, texts_are, word_small}
 
 -- ---- lines
@@ -44,7 +44,7 @@ pub lines_fit : (texts : List (List ℕ)) (netlist : Netlist) (text : List ℕ) 
 lines_fit texts netlist text lines says =
     subst (λ (bits : ℕ). All (LineFits texts bits) lines) (bits_are netlist) (said_fit texts (limits_of netlist).bits (lines_of text) lines says.says)
 
-module _ (netlist : Netlist) (extracted : Extracted) (from : IsExtractedFrom netlist extracted) (text : List ℕ) where
+module _ (netlist : Netlist) (extracted : Isa) (from : IsExtractedFrom netlist extracted) (text : List ℕ) where
   abbrev own : Machine
   own = machine_of netlist extracted
 
@@ -71,9 +71,15 @@ module _ (netlist : Netlist) (extracted : Extracted) (from : IsExtractedFrom net
 
 -- ---- the netlist
 
-module _ (net : List ℕ) (checked : Ordered) (extracted : Extracted) (read : IsRoutedNet net checked) (from : IsExtractedFrom checked.netlist extracted) (are : ArePatterns checked.netlist (row_patterns extracted.pool extracted.patterns.rows)) where
+module _ (net : List ℕ) (checked : Ordered) (extracted : Isa) (read : IsTakenNet assembled_edition net checked) (from : IsExtractedFrom checked.netlist extracted) (are : ArePatterns checked.netlist (row_patterns extracted.pool extracted.patterns.rows)) where
   pub is_machine : IsMachine net (machine_of checked.netlist extracted)
-  is_machine = record { entries = read.entries; file = read.file; netlist = read.netlist.netlist; patterns = are }
+  is_machine = record {
+    entries = read.routed.entries;
+    file = read.routed.file;
+    taken = read.taken;
+    netlist = read.routed.netlist.netlist;
+    patterns = are;
+  }
 
   pub texts_ready : AreTransferTexts (row_texts extracted.patterns.rows)
   texts_ready =
@@ -86,7 +92,7 @@ module _ (net : List ℕ) (checked : Ordered) (extracted : Extracted) (read : Is
 line_small : (net : List ℕ) (machine : Machine) → IsMachine net machine → (line : Line) → LineFits (texts_of machine) (limits_of machine.netlist).bits line → (word : ℕ) → HasWord machine line word → word < 2 ^ (limits_of machine.netlist).bits
 line_small net machine is line fits word does =
     subst (λ (n : ℕ). word < 2 ^ n) (sym (bits_are machine.netlist))
-    (word_small machine.netlist is.file.file.keeps.order (rules_of net machine is) machine.patterns (texts_of machine) line
+    (word_small machine.netlist (kept_of net machine is).order (rules_of net machine is) machine.patterns (texts_of machine) line
     (subst (λ (n : ℕ). LineFits (texts_of machine) n line) (bits_are machine.netlist) fits) word does)
 
 module _ (net text : List ℕ) (machine : Machine) (is : IsMachine net machine) where
@@ -162,7 +168,7 @@ shown_next machine words n word lines line lt is shown one =
     ap (map (λ (word : Word). word.word)) (take_next words n word lt is) ∙ map-append (λ (word : Word). word.word) (take n words) (word ∷ []) in
     subst (λ (ws : List ℕ). AllZip (ShowsWord machine) ws (lines ++ (line ∷ []))) (sym more) (all_zipped_more (ShowsWord machine) (map (λ (word : Word). word.word) (take n words)) lines word.word line shown one)
 
-module _ (netlist : Netlist) (extracted : Extracted) (from : IsExtractedFrom netlist extracted) where
+module _ (netlist : Netlist) (extracted : Isa) (from : IsExtractedFrom netlist extracted) where
   -- the text of lines by the kept texts is that by the machine's
   pub text_own : (lines : List Line) (text : List ℕ) → text ≡ lines_text (row_texts extracted.patterns.rows) (limits_of netlist).bits lines → text ≡ lines_text (texts_of (machine_of netlist extracted)) (limits_of netlist).bits lines
   text_own lines text e =

@@ -9,7 +9,6 @@ use Rattle.std.proofs.lemmas.List.{length-map, take-append-drop, take_more}
 use Rattle.std.proofs.lemmas.Option.{same_Some}
 use Rattle.std.proofs.lemmas.Slice.Zip.{all_zipped_more}
 use Rattle.bit_bdd.specs.Diagrams.{Diagrams, Extends, has_word}
-use Rattle.bit_bdd.proofs.CallerLemmas.{same_words, still_within}
 use Rattle.net_model.specs.declared.hardware.Code.{Code}
 use Rattle.net_model.specs.declared.hardware.Netlist.{Netlist}
 use Rattle.net_model.specs.declared.hardware.Storage.{Storage}
@@ -22,10 +21,8 @@ use Rattle.transfer_set.specs.Ready.{IsReady}
 use Rattle.transfer_set.specs.Rows.{row_patterns}
 use Rattle.transfer_set.specs.Tables.{IsRow, Table}
 use Rattle.transfer_set.specs.declared.row.Row.{Row}
-use Rattle.transfer_set.proofs.ReadyLaws.{ready_later}
 use Rattle.net_extract.specs.Extraction.{IsExtractedFrom}
-use Rattle.net_extract.specs.Sets.{IsCleanSet}
-use Rattle.net_extract.specs.declared.netlists.Extracted.{Extracted}
+use Rattle.net_extract.specs.declared.netlists.Isa.{Isa}
 use Rattle.word_fit.specs.Fits.{IsLeastFit}
 use Rattle.asm_text.specs.declared.line.Line.{Line}
 use Rattle.asm_text.specs.declared.line.Line.TheVariants.{Raw, Do}
@@ -71,25 +68,6 @@ module _ (netlist : Netlist) (book : Diagrams) (pool : List Node) (table : Table
   pub texts_are : row_texts table.rows ≡ move_texts netlist (row_patterns pool table.rows)
   texts_are = texts_from table.rows ready.patterns.rows
 
--- ---- as the book grows
-
-clean_later : (netlist : Netlist) (old new : Diagrams) → Extends old new → (set : ℕ) → IsCleanSet netlist old set → IsCleanSet netlist new set
-clean_later netlist old new grows set is = record {
-  within = still_within old new grows set is.within;
-  words = λ word lt.
-      (let same = same_words old new grows set is.within word in
-      let told = is.words word (subst (λ (n : ℕ). word < 2 ^ n) grows.bits lt) in
-      (λ h. told.0 (sym same ∙ h), λ clean. same ∙ told.1 clean));
-}
-
-pub extracted_later : (netlist : Netlist) (old new : Extracted) → IsExtractedFrom netlist old → Extends old.book new.book → new.pool ≡ old.pool → new.patterns ≡ old.patterns → new.legal ≡ old.legal → IsExtractedFrom netlist new
-extracted_later netlist old new from grows pool patterns legal = record {
-  ready =
-      subst (λ (ns : List Node). IsReady netlist new.book ns new.patterns) (sym pool)
-      (subst (IsReady netlist new.book old.pool) (sym patterns) (ready_later netlist old.book new.book old.pool old.patterns grows from.ready));
-  legal = subst (IsCleanSet netlist new.book) (sym legal) (clean_later netlist old.book new.book grows old.legal from.legal);
-}
-
 -- ---- storages
 
 -- a netlist has a storage, its program counter
@@ -132,7 +110,7 @@ least_found P book id None l there back = λ word does. true≢false (sym (back 
 least_found P book id (Some word) l there back = record { is = there word l.within l.some; least = λ other does. l.least other (back other does) }
 
 -- the least word of the set that was made for a line is the line's
-pub least_of_line : (netlist : Netlist) (order : List ℕ) → KeepsRules netlist order → (extracted : Extracted) → IsExtractedFrom netlist extracted → (line : Line) → LineFits (row_texts extracted.patterns.rows) (word_width netlist) line
+pub least_of_line : (netlist : Netlist) (order : List ℕ) → KeepsRules netlist order → (extracted : Isa) → IsExtractedFrom netlist extracted → (line : Line) → LineFits (row_texts extracted.patterns.rows) (word_width netlist) line
     → (new : Diagrams) (set : ℕ) (found : Option ℕ) → Extends extracted.book new
     → ((n : Netlist) (pool : List Node) → IsReady n extracted.book pool extracted.patterns → (word : ℕ) → word < 2 ^ extracted.book.bits → (has_word new set word ≡ true) ↔ IsWordOfLine n (row_patterns pool extracted.patterns.rows) line word)
     → IsLeastIn new set found → IsLeastOf (machine_of netlist extracted) line found
@@ -183,11 +161,11 @@ least_next machine lines n line words word lt is least one =
     subst (λ (ls : List Line). AllZip (HasLeastWord machine) ls (words ++ (word ∷ []))) (sym (take_next lines n line lt is)) (all_zipped_more (HasLeastWord machine) (take n lines) words line word least one)
 
 -- the patterns that are kept are one machine's
-pub kept_machine : (netlist : Netlist) (old new : Extracted) → KeepsPatterns old new → machine_of netlist new ≡ machine_of netlist old
+pub kept_machine : (netlist : Netlist) (old new : Isa) → KeepsPatterns old new → machine_of netlist new ≡ machine_of netlist old
 kept_machine netlist old new kept =
     let pool = kept.pool in
     let patterns = kept.patterns in
     (λ k. record { netlist = netlist; patterns = row_patterns (pool k) (patterns k).rows })
 
-pub kept_on : (a b c : Extracted) → KeepsPatterns a b → KeepsPatterns b c → KeepsPatterns a c
+pub kept_on : (a b c : Isa) → KeepsPatterns a b → KeepsPatterns b c → KeepsPatterns a c
 kept_on a b c p q = record { pool = q.pool ∙ p.pool; patterns = q.patterns ∙ p.patterns }

@@ -2,7 +2,7 @@
 use Rattle.std.specs.Prelude.{◌≡◌, ℕ, List, [], ◌∷◌, ◌++◌, All, length, map}
 use Rattle.std.specs.List.{AllZip}
 use Rattle.net_parser.specs.Texts.{IsNoNetText}
-use Rattle.net_extract.specs.Extracts.{BreaksAnyRule}
+use Rattle.net_extract.specs.Taken.{BreaksAnyTaken}
 use Rattle.code_model.specs.declared.image.Image.{Image}
 use Rattle.code_model.specs.declared.image.Word.{Word}
 use Rattle.code_model.specs.ImageFits.{limits_of}
@@ -11,7 +11,7 @@ use Rattle.word_fit.specs.Fits.{IsLeastFit}
 use Rattle.asm_text.specs.declared.line.Line.{Line}
 use Rattle.asm_text.specs.Texts.{IsAsmFault, IsAsmText}
 use Rattle.asm_words.specs.Asked.{IsWordOfLine}
-use Rattle.net_asm.specs.Machines.{IsMachine, Machine, texts_of}
+use Rattle.net_asm.specs.Machines.{IsMachine, Machine, assembled_edition, texts_of}
 use Rattle.net_asm.specs.declared.fault.AsmFault.{AsmFault}
 use Rattle.net_asm.specs.declared.fault.AsmFault.TheVariants as fault
 
@@ -81,7 +81,7 @@ pub record IsWordless (net text : List ℕ) (number : ℕ) : Type 0 where
 -- when each refusal comes; nothing is said where memory ran out
 abbrev pub IsAssembleFault : List ℕ → List ℕ → AsmFault → Type 0
 IsAssembleFault net text (fault.NetText at) = IsNoNetText net at
-IsAssembleFault net text (fault.Net broken) = BreaksAnyRule net broken
+IsAssembleFault net text (fault.Net broken) = BreaksAnyTaken assembled_edition net broken
 IsAssembleFault net text (fault.Text at) = IsNoAsmFile net text at
 IsAssembleFault net text (fault.Word number) = IsWordless net text number
 IsAssembleFault net text fault.Memory = Unit {0}

@@ -2,7 +2,7 @@
 use Rattle.std.specs.Prelude.{◌≡◌, ℕ, List}
 use Rattle.std.specs.List.{AllZip}
 use Rattle.net_parser.specs.Texts.{IsNoNetText}
-use Rattle.net_extract.specs.Extracts.{BreaksAnyRule}
+use Rattle.net_extract.specs.Taken.{BreaksAnyTaken}
 use Rattle.code_model.specs.declared.image.Image.{Image}
 use Rattle.code_model.specs.ImageFits.{limits_of}
 use Rattle.code_model.specs.ImageLines.{IsImageText}
@@ -11,7 +11,7 @@ use Rattle.net_run.specs.Runs.{IsNoImageFile}
 use Rattle.asm_text.specs.declared.line.Line.{Line}
 use Rattle.asm_text.specs.Texts.{lines_text}
 use Rattle.asm_words.specs.Shown.{IsLineOf}
-use Rattle.net_asm.specs.Machines.{IsMachine, IsMachineText, Machine, texts_of}
+use Rattle.net_asm.specs.Machines.{IsMachine, IsMachineText, Machine, assembled_edition, texts_of}
 use Rattle.net_asm.specs.declared.fault.DisFault.{DisFault}
 use Rattle.net_asm.specs.declared.fault.DisFault.TheVariants as fault
 
@@ -32,6 +32,6 @@ pub record IsDisassembled (net image text : List ℕ) : Type 0 where
 -- when each refusal comes; nothing is said where memory ran out
 abbrev pub IsDisassembleFault : List ℕ → List ℕ → DisFault → Type 0
 IsDisassembleFault net image (fault.NetText at) = IsNoNetText net at
-IsDisassembleFault net image (fault.Net broken) = BreaksAnyRule net broken
+IsDisassembleFault net image (fault.Net broken) = BreaksAnyTaken assembled_edition net broken
 IsDisassembleFault net image (fault.ImageText at) = IsMachineText net × IsNoImageFile net image at
 IsDisassembleFault net image fault.Memory = Unit {0}

@@ -1,5 +1,5 @@
 -- A netlist with its patterns, as assembler texts speak of it.
-use Rattle.std.specs.Prelude.{◌≡◌, ℕ, List, map}
+use Rattle.std.specs.Prelude.{◌≡◌, ◌≤◌, ℕ, List, map}
 use Rattle.net_model.specs.declared.hardware.Netlist.{Netlist}
 use Rattle.net_model.specs.Elaborated.{netlist_of}
 use Rattle.net_model.specs.Patterns.{ArePatterns, Pattern}
@@ -11,11 +11,17 @@ pub record Machine : Type 0 where
   pub netlist : Netlist
   pub patterns : List Pattern
 
--- the bytes are a netlist text that keeps all rules, and the machine is its netlist, with all
--- patterns in their order
+-- the newest edition of the netlist texts for which words are assembled: a text of a later one has
+-- a netlist, and patterns, for each mode
+abbrev pub assembled_edition : ℕ
+assembled_edition = 2
+
+-- the bytes are a netlist text of such an edition that keeps all rules, and the machine is its
+-- netlist, with all patterns in their order
 pub record IsMachine (net : List ℕ) (machine : Machine) : Type 0 where
   pub entries : Text
   pub file : IsRoutedFile net entries
+  pub taken : entries.edition ≤ assembled_edition
   pub netlist : machine.netlist ≡ netlist_of entries
   pub patterns : ArePatterns machine.netlist machine.patterns
 

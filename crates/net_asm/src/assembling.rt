@@ -10,12 +10,13 @@ ghost use Rattle.asm_text.specs.Lines.{AreTransferTexts, LineFits};
 ghost use Rattle.net_asm.specs.Assembled.{HasLeastWord, IsAssembled, IsAssembleFault, bare_image, bare_word};
 ghost use Rattle.net_asm.specs.Inner.Tables.{AreLeastWords, IsLeastOf, IsOutOf, IsSourceFault, IsTextFault, IsWordFault, KeepsPatterns, SaysLines, machine_of, row_texts};
 
+use crate::EDITION;
 use crate::fault::AsmFault;
 use crate::texts::texts_of;
 use asm_text::{Line, lines};
 use asm_words::words;
 use code_model::{Image, Limits, Word};
-use net_extract::{Extracted, read_extracted};
+use net_extract::{Isa, read_extracted_taken};
 use net_model::Checked;
 use rec_bits::{Items, NoMemory};
 use std::alloc::Global;
@@ -43,7 +44,7 @@ fn lines_in(
 fn least_word(
     alloc: Global,
     checked: &Checked,
-    extracted: &mut Extracted,
+    extracted: &mut Isa,
     line: &Line,
 ) -> Result<Option<u64>, NoMemory>
     requires rules { KeepsRules checked.now.netlist checked.now.order }
@@ -68,7 +69,7 @@ fn least_word(
 fn least_words(
     alloc: Global,
     checked: &Checked,
-    extracted: &mut Extracted,
+    extracted: &mut Isa,
     lines: &[Line],
 ) -> Result<Items<u64>, AsmFault>
     requires rules { KeepsRules checked.now.netlist checked.now.order }
@@ -122,7 +123,7 @@ fn image_bytes(alloc: Global, bits: u8, words: &[u64]) -> Result<Vec<u8>, NoMemo
 fn words_in(
     alloc: Global,
     checked: &Checked,
-    extracted: &mut Extracted,
+    extracted: &mut Isa,
     text: &[u8],
 ) -> Result<Items<u64>, AsmFault>
     requires rules { KeepsRules checked.now.netlist checked.now.order }
@@ -140,7 +141,7 @@ fn words_in(
 fn out_of(
     alloc: Global,
     checked: &Checked,
-    extracted: &mut Extracted,
+    extracted: &mut Isa,
     text: &[u8],
 ) -> Result<Vec<u8>, AsmFault>
     requires rules { KeepsRules checked.now.netlist checked.now.order }
@@ -163,6 +164,6 @@ pub fn assemble(alloc: Global, net: &[u8], text: &[u8]) -> Result<Vec<u8>, AsmFa
     ensures assembled { IfOk result (λ out. IsAssembled net.now text.now out.items) }
     ensures refused { IfErr result (IsAssembleFault net.now text.now) }
 {
-    let (checked, mut extracted) = read_extracted(alloc, net)?;
+    let (checked, mut extracted) = read_extracted_taken(alloc, net, EDITION)?;
     out_of(alloc, &checked, &mut extracted, text)
 }

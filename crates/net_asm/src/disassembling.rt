@@ -11,12 +11,13 @@ ghost use Rattle.asm_text.specs.Texts.{lines_text};
 ghost use Rattle.net_asm.specs.Disassembled.{IsDisassembled, IsDisassembleFault, ShowsWord};
 ghost use Rattle.net_asm.specs.Inner.Tables.{IsImageFault, IsShownIn, IsShownOf, machine_of, row_texts};
 
+use crate::EDITION;
 use crate::fault::DisFault;
 use crate::texts::texts_of;
 use asm_text::{Line, print};
 use asm_words::line_of;
 use code_model::{Image, Limits, Word};
-use net_extract::{Extracted, read_extracted};
+use net_extract::{Isa, read_extracted_taken};
 use net_model::Checked;
 use rec_bits::NoMemory;
 use std::alloc::Global;
@@ -26,7 +27,7 @@ use transfer_set::Patterns;
 fn lines_of(
     alloc: Global,
     checked: &Checked,
-    extracted: &Extracted,
+    extracted: &Isa,
     words: &[Word],
 ) -> Result<Vec<Line>, NoMemory>
     requires extracted { IsExtractedFrom checked.now.netlist extracted.now }
@@ -34,7 +35,7 @@ fn lines_of(
     ensures { IfOk result (λ lines. AllZip (ShowsWord (machine_of checked.now.netlist extracted.now))
         (map (λ (word : Word). word.word) words.now) lines.items) }
 {
-    let Extracted {
+    let Isa {
         book,
         pool,
         patterns,
@@ -75,7 +76,7 @@ fn text_of(
 fn shown_of(
     alloc: Global,
     checked: &Checked,
-    extracted: &Extracted,
+    extracted: &Isa,
     image: &Image,
 ) -> Result<Vec<u8>, NoMemory>
     requires extracted { IsExtractedFrom checked.now.netlist extracted.now }
@@ -90,7 +91,7 @@ fn shown_of(
 fn out_of(
     alloc: Global,
     checked: &Checked,
-    extracted: &Extracted,
+    extracted: &Isa,
     image: &[u8],
 ) -> Result<Vec<u8>, DisFault>
     requires extracted { IsExtractedFrom checked.now.netlist extracted.now }
@@ -112,6 +113,6 @@ pub fn disassemble(alloc: Global, net: &[u8], image: &[u8]) -> Result<Vec<u8>, D
     ensures disassembled { IfOk result (λ text. IsDisassembled net.now image.now text.items) }
     ensures refused { IfErr result (IsDisassembleFault net.now image.now) }
 {
-    let (checked, extracted) = read_extracted(alloc, net)?;
+    let (checked, extracted) = read_extracted_taken(alloc, net, EDITION)?;
     out_of(alloc, &checked, &extracted, image)
 }

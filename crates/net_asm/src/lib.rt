@@ -24,6 +24,8 @@
 //!   `OneLine`: bytes say one list of lines; `MachineLaws`, `AsmLaws`, `DisLaws`: each answer is
 //!   one, and the answers exclude each other; `Tables` and `Read` from what was read to the texts;
 //!   `Again` for the laws; `Zips` for lists in step.
+//!
+//! A netlist with modes has words for each mode, so texts of its edition aren't taken.
 #![tactic(auto)]
 
 mod assembling;
@@ -36,3 +38,6 @@ pub use assembling::assemble;
 pub use disassembling::disassemble;
 pub use fault::{AsmFault, DisFault};
 pub use laws::{law_of_clocks, law_of_reading, law_of_taking};
+
+// The newest edition of the netlist texts for which words are assembled.
+const EDITION: u8 = 2;

@@ -11,3 +11,4 @@ pub mod Meets
 pub mod Joins
 pub mod Closes
 pub mod SearchEnds
+pub mod InModes

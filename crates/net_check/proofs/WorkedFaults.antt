@@ -85,6 +85,7 @@ module _ (enable : ℕ) where
     sizes = ((lit≤ tt, lit≤ tt), (lit≤ tt, lit≤ tt));
     address = lit≤ tt;
     file = (refl, tt);
+    mode = tt;
   }
 
 -- the enable comes first, and the selector only where the enable is static
@@ -125,6 +126,7 @@ filed_roles size addr file = record {
   sizes = ((lit≤ tt, lit≤ tt), (lit≤ tt, lit≤ tt));
   address = lit≤ tt;
   file = file;
+  mode = tt;
 }
 
 -- the file is written where the program counter says

@@ -5,7 +5,8 @@
 //! an order of its nets in which it keeps every rule, or refuses it with the first of N5 to N9 and
 //! N14 that it breaks (`found`). It accepts exactly where the rules are kept (`accepted`:
 //! `KeepsRules`) and refuses exactly where one is broken (`refused`: `FaultOf`), but for want of
-//! memory.
+//! memory. `check_modes` does the same of what a netlist is in each of its modes (`AreModesOf`,
+//! `KeepsModes`, `ModeFaultOf`), where each rule is tried in all modes before the next.
 //!
 //! Invariant: the walk that orders the nets keeps its own path, of which each open net names the
 //! next, and every placed net stands behind all that it names (`specs/Inner/Walk`). The search for
@@ -18,9 +19,11 @@
 //! - `stack`: a list whose last item is taken first.
 //! - `walk`: the nets in an order, or one that depends on itself.
 //! - `cycle`: N5; the least net on a cycle, by strongly connected components.
-//! - `role`: N6; the first part that the netlist lacks, or the register file of its edition.
+//! - `role`: N6; the first part that the netlist lacks, or the register file or the mode of its
+//!   edition.
 //! - `control`: N7 to N9, on the nets in control places, and N14, on the addresses of a file.
 //! - `rules`: the rules in their order, and `check`.
+//! - `modes`: `check_modes`.
 //! - `specs/Inner/`: `Walk`, `Components`, `Graphs`, `Roles` and `Control`, which go with the
 //!   loops. Public contracts cite no file here, since the rules are `net_model/specs/CheckedRules`
 //!   and `NetFaults`; `specs/Worked` has small netlists.
@@ -31,9 +34,11 @@
 mod control;
 mod cycle;
 mod graph;
+mod modes;
 mod role;
 mod rules;
 mod stack;
 mod walk;
 
+pub use modes::check_modes;
 pub use rules::check;

@@ -1,7 +1,7 @@
 // The parts that each processor has.
 
 ghost use Rattle.std.specs.Prelude.{◌≡◌, ◌≤◌, ◌↔◌, IsTrue, MatchOption, None, option_map, slice_get};
-ghost use Rattle.net_model.specs.CheckedRules.{HasFile, HasRoles, IsCounter, IsAddressed, IsWellFormed, count_in, files_of};
+ghost use Rattle.net_model.specs.CheckedRules.{HasFile, HasMode, HasRoles, IsCounter, IsAddressed, IsWellFormed, count_in, files_of};
 ghost use Rattle.net_model.specs.declared.hardware.Space.TheVariants.{File as InFile};
 ghost use Rattle.net_model.specs.NetFaults.{LacksRole};
 ghost use Rattle.net_model.specs.Nets.{array_in, storage_bits};
@@ -15,6 +15,9 @@ const COUNTER_BITS: u8 = 16;
 
 // The least size of a code, a memory or a file.
 const LEAST_SIZE: u32 = 1;
+
+// The edition whose netlists have a mode.
+const MODED: u8 = 3;
 
 // The measures of a memory or a file.
 #[derive(Clone, Copy)]
@@ -63,6 +66,13 @@ fn files_of(edition: u8) -> usize
     ensures { result ≡ files_of edition }
 {
     if edition == 2 { 1 } else { 0 }
+}
+
+// Whether the netlist has a mode, where its edition has one.
+fn has_mode(netlist: &Netlist) -> bool
+    ensures { IsTrue result ↔ HasMode netlist.now }
+{
+    netlist.edition != MODED || netlist.special.is_some()
 }
 
 // The memory, where there is just one.
@@ -155,6 +165,9 @@ pub(crate) fn lacking_role(netlist: &Netlist) -> Option<Role>
     }
     if !has_file(netlist) {
         return Some(Role::File);
+    }
+    if !has_mode(netlist) {
+        return Some(Role::Mode);
     }
     None
 }

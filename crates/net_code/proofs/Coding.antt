@@ -2,20 +2,17 @@
 use Rattle.std.proofs.Common.{◌≡◌, ℕ, zero, suc, ◌+◌, ◌<◌, ◌≤◌, ◌-◌, Bool, true, false, List, [], ◌∷◌, ◌++◌, Option, Some, None, length, slice_get, refl, sym, ap, subst, ◌∙◌, inl, inr, add-one, arith, length-append}
 use Rattle.std.specs.Prelude.{slice_index_or}
 use Rattle.std.proofs.lemmas.Bool.{cases_lt}
-use Rattle.net_model.specs.declared.hardware.Netlist.{Netlist}
-use Rattle.net_model.specs.Patterns.{Pattern}
-use Rattle.form_model.specs.Covers.{Choice, Stock}
-use Rattle.form_model.specs.Live.{no_regs}
 use Rattle.form_model.specs.declared.flow.Flow.{Flow}
 use Rattle.form_model.specs.declared.flow.Flow.TheVariants.{Assign, Test, Jump, End}
 use Rattle.src_trees.specs.Blocks.{IsAssignBlock, continues, is_assign, jobs_at}
 use Rattle.src_trees.specs.Lowered.{Work}
 use Rattle.branch_fix.specs.Parts.{branch_or_zero, blocks_before, place_blocks, place_tests, tests_before}
-use Rattle.right_code.specs.Images.{choices_at}
-use Rattle.right_code.specs.Jobs.{jobs_steps}
+use Rattle.mode_set.specs.Costs.{Planned}
+use Rattle.mode_set.specs.Keeping.{Isas}
+use Rattle.right_code.specs.Cuts.{plans_at}
+use Rattle.right_code.specs.Tasks.{Task}
 use Rattle.compaction.specs.declared.packer.PackedBlock.{PackedBlock}
-use Rattle.net_code.specs.Blocks.{IsPackedBlock}
-use Rattle.net_code.specs.Inner.Coded.{IsBlockCode, IsTestCode, block_at, no_block}
+use Rattle.net_code.specs.Inner.Coded.{IsBlockCode, IsRunCode, IsTestCode, block_at, no_block}
 
 -- ---- lists
 
@@ -107,9 +104,9 @@ no_test (Some End) e = refl
 
 -- ---- one place more
 
-module _ (netlist : Netlist) (patterns : List Pattern) (stock : Stock) (flow : List Flow) (works : List Work) (choices : List Choice) where
+module _ (task : Task) (isas : Isas task.netlist) (flow : List Flow) (works : List Work) (plans : List Planned) where
   abbrev Coded : ℕ → List PackedBlock → List (ℕ × ℕ) → Type 0
-  Coded = IsBlockCode netlist patterns stock flow works choices
+  Coded = IsBlockCode task isas flow works plans
 
   pub nothing_coded : Coded 0 [] []
   nothing_coded = record { long = refl; many = refl; runs = λ at n lt. absurd (omega arith); tests = λ at tree one none lt. absurd (omega arith) }
@@ -132,20 +129,20 @@ module _ (netlist : Netlist) (patterns : List Pattern) (stock : Stock) (flow : L
 
   -- a block of assignments
   pub run_more : (upto n : ℕ) (blocks : List PackedBlock) (branches : List (ℕ × ℕ)) (new : PackedBlock) → Coded upto blocks branches → IsAssignBlock flow upto n → place_tests (slice_get flow upto) ≡ 0
-      → IsPackedBlock netlist patterns (jobs_steps stock (jobs_at flow works upto n) (choices_at flow choices upto n)) no_regs new → Coded (upto + 1) (blocks ++ new ∷ []) branches
+      → IsRunCode task isas (jobs_at flow works upto n) (plans_at flow plans upto n) new → Coded (upto + 1) (blocks ++ new ∷ []) branches
   run_more upto n blocks branches new h block t least = record {
     long = let e = ap (blocks_before flow) (add-one upto) in let l = length-append blocks (new ∷ []) in omega (arith, h.long, begins, e, l);
     many = let e = ap (tests_before flow) (add-one upto) in omega (arith, h.many, t, e);
     runs = λ at m lt other. elim (cases_lt at upto) [
-      | inl before ↦ subst (IsPackedBlock netlist patterns (jobs_steps stock (jobs_at flow works at m) (choices_at flow choices at m)) no_regs)
+      | inl before ↦ subst (IsRunCode task isas (jobs_at flow works at m) (plans_at flow plans at m))
           (sym (word_kept blocks new no_block (blocks_before flow at) (omega (arith, h.long, block_counted flow at upto before (block_begins flow at m other)))))
           (h.runs at m before other)
       | inr le ↦ here at m (omega arith) other
     ];
-    tests = λ at tree one none lt there job choice w c. elim (cases_lt at upto) [
-      | inl before ↦ subst (λ ws. IsTestCode netlist patterns stock job choice ws (branch_or_zero (slice_get branches (tests_before flow at))))
+    tests = λ at tree one none lt there job planned w c. elim (cases_lt at upto) [
+      | inl before ↦ subst (λ ws. IsTestCode task isas job planned ws (branch_or_zero (slice_get branches (tests_before flow at))))
           (sym (word_kept blocks new no_block (blocks_before flow at) (omega (arith, h.long, block_counted flow at upto before (ap (λ o. place_blocks o (continues flow at)) there)))))
-          (h.tests at tree one none before there job choice w c)
+          (h.tests at tree one none before there job planned w c)
       | inr le ↦ absurd (let e : at ≡ upto = omega arith in let c : place_tests (slice_get flow at) ≡ 1 = ap place_tests there in let d = ap (λ k. place_tests (slice_get flow k)) e in omega (arith, t, c, d))
     ];
   }
@@ -157,32 +154,32 @@ module _ (netlist : Netlist) (patterns : List Pattern) (stock : Stock) (flow : L
       last = word_last blocks new no_block (blocks_before flow upto) (sym h.long)
 
       here : (at m : ℕ) → at ≡ upto → IsAssignBlock flow at m
-          → IsPackedBlock netlist patterns (jobs_steps stock (jobs_at flow works at m) (choices_at flow choices at m)) no_regs (block_at (blocks ++ new ∷ []) (blocks_before flow at))
+          → IsRunCode task isas (jobs_at flow works at m) (plans_at flow plans at m) (block_at (blocks ++ new ∷ []) (blocks_before flow at))
       here at m e other =
           let other_there : IsAssignBlock flow upto m = subst (λ k. IsAssignBlock flow k m) e other in
           let same : n ≡ m = block_one flow upto n m block other_there in
-          let mine : IsPackedBlock netlist patterns (jobs_steps stock (jobs_at flow works upto m) (choices_at flow choices upto m)) no_regs (block_at (blocks ++ new ∷ []) (blocks_before flow upto)) =
-          subst (λ k. IsPackedBlock netlist patterns (jobs_steps stock (jobs_at flow works upto k) (choices_at flow choices upto k)) no_regs (block_at (blocks ++ new ∷ []) (blocks_before flow upto))) same
-          (subst (IsPackedBlock netlist patterns (jobs_steps stock (jobs_at flow works upto n) (choices_at flow choices upto n)) no_regs) (sym last) least) in
-          subst (λ k. IsPackedBlock netlist patterns (jobs_steps stock (jobs_at flow works k m) (choices_at flow choices k m)) no_regs (block_at (blocks ++ new ∷ []) (blocks_before flow k))) (sym e) mine
+          let mine : IsRunCode task isas (jobs_at flow works upto m) (plans_at flow plans upto m) (block_at (blocks ++ new ∷ []) (blocks_before flow upto)) =
+          subst (λ k. IsRunCode task isas (jobs_at flow works upto k) (plans_at flow plans upto k) (block_at (blocks ++ new ∷ []) (blocks_before flow upto))) same
+          (subst (IsRunCode task isas (jobs_at flow works upto n) (plans_at flow plans upto n)) (sym last) least) in
+          subst (λ k. IsRunCode task isas (jobs_at flow works k m) (plans_at flow plans k m) (block_at (blocks ++ new ∷ []) (blocks_before flow k))) (sym e) mine
 
   -- a test
   pub test_more : (upto tree one none : ℕ) (blocks : List PackedBlock) (branches : List (ℕ × ℕ)) (new : PackedBlock) (branch : ℕ × ℕ) → Coded upto blocks branches → slice_get flow upto ≡ Some (Test tree one none)
-      → (job : Work) (choice : Choice) → slice_get works tree ≡ Some job → slice_get choices tree ≡ Some choice → IsTestCode netlist patterns stock job choice new branch
+      → (job : Work) (planned : Planned) → slice_get works tree ≡ Some job → slice_get plans tree ≡ Some planned → IsTestCode task isas job planned new branch
       → Coded (upto + 1) (blocks ++ new ∷ []) (branches ++ branch ∷ [])
-  test_more upto tree one none blocks branches new branch h there job choice w c code = record {
+  test_more upto tree one none blocks branches new branch h there job planned w c code = record {
     long = let e = ap (blocks_before flow) (add-one upto) in let l = length-append blocks (new ∷ []) in omega (arith, h.long, begins, e, l);
     many = let e = ap (tests_before flow) (add-one upto) in let l = length-append branches (branch ∷ []) in omega (arith, h.many, tests_here, e, l);
     runs = λ at m lt other. elim (cases_lt at upto) [
-      | inl before ↦ subst (IsPackedBlock netlist patterns (jobs_steps stock (jobs_at flow works at m) (choices_at flow choices at m)) no_regs)
+      | inl before ↦ subst (IsRunCode task isas (jobs_at flow works at m) (plans_at flow plans at m))
           (sym (word_kept blocks new no_block (blocks_before flow at) (omega (arith, h.long, block_counted flow at upto before (block_begins flow at m other)))))
           (h.runs at m before other)
       | inr le ↦ absurd (no_run at m (omega arith) other)
     ];
     tests = λ at other a b lt place k d e f. elim (cases_lt at upto) [
-      | inl before ↦ subst (λ ws. IsTestCode netlist patterns stock k d ws (branch_or_zero (slice_get (branches ++ branch ∷ []) (tests_before flow at))))
+      | inl before ↦ subst (λ ws. IsTestCode task isas k d ws (branch_or_zero (slice_get (branches ++ branch ∷ []) (tests_before flow at))))
           (sym (word_kept blocks new no_block (blocks_before flow at) (omega (arith, h.long, block_counted flow at upto before (ap (λ o. place_blocks o (continues flow at)) place)))))
-          (subst (λ o. IsTestCode netlist patterns stock k d (block_at blocks (blocks_before flow at)) (branch_or_zero o))
+          (subst (λ o. IsTestCode task isas k d (block_at blocks (blocks_before flow at)) (branch_or_zero o))
           (sym (get_kept branches branch (tests_before flow at) (omega (arith, h.many, test_counted flow at upto before (ap place_tests place)))))
           (h.tests at other a b before place k d e f))
       | inr le ↦ here at other a b (omega arith) place k d e f
@@ -213,18 +210,18 @@ module _ (netlist : Netlist) (patterns : List Pattern) (stock : Stock) (flow : L
       test_tree (Jump t) = 0
       test_tree End = 0
 
-      here : (at other a b : ℕ) → at ≡ upto → slice_get flow at ≡ Some (Test other a b) → (k : Work) (d : Choice) → slice_get works other ≡ Some k → slice_get choices other ≡ Some d
-          → IsTestCode netlist patterns stock k d (block_at (blocks ++ new ∷ []) (blocks_before flow at)) (branch_or_zero (slice_get (branches ++ branch ∷ []) (tests_before flow at)))
+      here : (at other a b : ℕ) → at ≡ upto → slice_get flow at ≡ Some (Test other a b) → (k : Work) (d : Planned) → slice_get works other ≡ Some k → slice_get plans other ≡ Some d
+          → IsTestCode task isas k d (block_at (blocks ++ new ∷ []) (blocks_before flow at)) (branch_or_zero (slice_get (branches ++ branch ∷ []) (tests_before flow at)))
       here at other a b e place k d kw dc =
           let place_there : slice_get flow upto ≡ Some (Test other a b) = ap (slice_get flow) (sym e) ∙ place in
           let some : Some (Test tree one none) ≡ Some (Test other a b) = sym there ∙ place_there in
           let flows : Test tree one none ≡ Test other a b = cc in
           let trees : tree ≡ other = ap test_tree flows in
           let jobs : job ≡ k = (let p : Some job ≡ Some k = sym w ∙ ap (slice_get works) trees ∙ kw in cc) in
-          let covers : choice ≡ d = (let p : Some choice ≡ Some d = sym c ∙ ap (slice_get choices) trees ∙ dc in cc) in
-          let mine : IsTestCode netlist patterns stock job choice (block_at (blocks ++ new ∷ []) (blocks_before flow upto)) (branch_or_zero (slice_get (branches ++ branch ∷ []) (tests_before flow upto))) =
-          subst (λ ws. IsTestCode netlist patterns stock job choice ws (branch_or_zero (slice_get (branches ++ branch ∷ []) (tests_before flow upto)))) (sym last)
-          (subst (IsTestCode netlist patterns stock job choice new) (sym last_branch) code) in
-          subst (λ n. IsTestCode netlist patterns stock k d (block_at (blocks ++ new ∷ []) (blocks_before flow n)) (branch_or_zero (slice_get (branches ++ branch ∷ []) (tests_before flow n)))) (sym e)
-          (subst (λ x. IsTestCode netlist patterns stock k x (block_at (blocks ++ new ∷ []) (blocks_before flow upto)) (branch_or_zero (slice_get (branches ++ branch ∷ []) (tests_before flow upto)))) covers
-          (subst (λ x. IsTestCode netlist patterns stock x choice (block_at (blocks ++ new ∷ []) (blocks_before flow upto)) (branch_or_zero (slice_get (branches ++ branch ∷ []) (tests_before flow upto)))) jobs mine))
+          let covers : planned ≡ d = (let p : Some planned ≡ Some d = sym c ∙ ap (slice_get plans) trees ∙ dc in cc) in
+          let mine : IsTestCode task isas job planned (block_at (blocks ++ new ∷ []) (blocks_before flow upto)) (branch_or_zero (slice_get (branches ++ branch ∷ []) (tests_before flow upto))) =
+          subst (λ ws. IsTestCode task isas job planned ws (branch_or_zero (slice_get (branches ++ branch ∷ []) (tests_before flow upto)))) (sym last)
+          (subst (IsTestCode task isas job planned new) (sym last_branch) code) in
+          subst (λ n. IsTestCode task isas k d (block_at (blocks ++ new ∷ []) (blocks_before flow n)) (branch_or_zero (slice_get (branches ++ branch ∷ []) (tests_before flow n)))) (sym e)
+          (subst (λ x. IsTestCode task isas k x (block_at (blocks ++ new ∷ []) (blocks_before flow upto)) (branch_or_zero (slice_get (branches ++ branch ∷ []) (tests_before flow upto)))) covers
+          (subst (λ x. IsTestCode task isas x planned (block_at (blocks ++ new ∷ []) (blocks_before flow upto)) (branch_or_zero (slice_get (branches ++ branch ∷ []) (tests_before flow upto)))) jobs mine))

@@ -1,9 +1,10 @@
 -- The registers that are wanted behind a test are those that its branch's condition reads.
-use Rattle.std.proofs.Common.{◌≡◌, ℕ, ◌<◌, ◌≤◌, ◌||◌, ◌^◌, nat_lt, Bool, true, false, List, Some, length, slice_get, refl, sym, ◌∙◌, ap, arith}
+use Rattle.std.proofs.Common.{◌≡◌, ℕ, ◌<◌, ◌≤◌, ◌||◌, ◌^◌, nat_lt, Bool, true, false, Some, length, slice_get, refl, sym, ◌∙◌, ap, arith}
 use Rattle.std.proofs.lemmas.Bool.{ltb-true, ltb-false, ne_eqb}
 use Rattle.net_model.specs.declared.hardware.Space.TheVariants.{Memory as InMemory, File as InFile}
 use Rattle.net_model.specs.declared.hardware.Netlist.{Netlist}
-use Rattle.net_model.specs.Patterns.{ArePatterns, Pattern}
+use Rattle.net_model.specs.ModeRules.{KeepsInOrder, base_at}
+use Rattle.net_model.proofs.ModeFaults.{first_keeps}
 use Rattle.net_model.specs.Terms.{Term, word, reg, const, read, un, bin, slice, cat, zext, sext, select}
 use Rattle.net_model.proofs.KeptRules.{few_storages}
 use Rattle.net_model.proofs.WordWidths.{has_bits}
@@ -14,13 +15,15 @@ use Rattle.form_model.specs.Live.{regs_of}
 use Rattle.form_model.specs.Plans.{Plan, use_form}
 use Rattle.form_model.specs.Rules.{BranchTarget, Rule, branches, tested}
 use Rattle.form_model.specs.Steps.{branch_setting, rule_at}
-use Rattle.form_set.specs.Listing.{AreForms}
+use Rattle.mode_set.specs.Keeping.{Isas}
 use Rattle.emit_seq.specs.Spares.{wanted}
 use Rattle.emit_seq.proofs.Opened.{opened_plan}
 use Rattle.live_sets.proofs.Bits.{regs_of_past}
 use Rattle.right_code.specs.Forks.{plan_rule}
 use Rattle.right_code.specs.Inner.Forks.{IsBranchForm}
-use Rattle.right_code.specs.Tasks.{IsChecked, Task, task_stock}
+use Rattle.right_code.specs.Covered.{mode_stock}
+use Rattle.right_code.specs.Tasks.{IsChecked, Task}
+use Rattle.right_code.proofs.Kept.{part_of}
 use Rattle.right_code.proofs.Known.{known_of}
 use Rattle.right_code.proofs.Layouts.{plan_goal}
 use Rattle.right_code.proofs.Turns.{fork_form}
@@ -46,34 +49,42 @@ past_netlist netlist few (select c a b) h i r le =
     neither (term_reads i c (register r)) (term_reads i a (register r) || term_reads i b (register r)) (past_netlist netlist few c h.0 i r le)
     (neither (term_reads i a (register r)) (term_reads i b (register r)) (past_netlist netlist few a h.1 i r le) (past_netlist netlist few b h.2 i r le))
 
-module _ (order : List ℕ) (task : Task) (checked : IsChecked order task) (patterns : List Pattern) (are : ArePatterns task.netlist patterns)
-    (rules : List Rule) (reach : ℕ) (forms : AreForms task.netlist patterns rules reach) where
+module _ (task : Task) (checked : IsChecked task) (isas : Isas task.netlist) where
   -- the registers that are wanted after a test's steps
-  pub wanted_registers : (tree : Term) (plan : Plan) → IsOrderly (task_stock rules task) tested tree true plan
-      → (n : ℕ) → n < 2 ^ 16 → AreConditionReads patterns (plan_rule (task_stock rules task) plan).pattern n → wanted (task_stock rules task) tested tree plan ≡ regs_of n
+  pub wanted_registers : (tree : Term) (plan : Plan) → IsOrderly (mode_stock task isas 0) tested tree true plan
+      → (n : ℕ) → n < 2 ^ 16 → AreConditionReads (isas 0).patterns (plan_rule (mode_stock task isas 0) plan).pattern n → wanted (mode_stock task isas 0) tested tree plan ≡ regs_of n
   wanted_registers tree (use_form k ps cs) orderly n small reads = λ x r. point r (nat_lt r 16) refl x
     where
+      base : Netlist
+      base = base_at task.netlist 0
+
+      keeps : KeepsInOrder (base_at task.netlist 0)
+      keeps = first_keeps task.netlist checked.netlist
+
       rule : Rule
-      rule = rule_at (task_stock rules task) k
+      rule = rule_at (mode_stock task isas 0) k
 
       setting : ℕ
-      setting = branch_setting (task_stock rules task) tree (use_form k ps cs)
+      setting = branch_setting (mode_stock task isas 0) tree (use_form k ps cs)
 
       goal : (b : Bool) × (way : BranchTarget) × (rule.goal ≡ branches b way)
-      goal = plan_goal (task_stock rules task) tree (use_form k ps cs) orderly
+      goal = plan_goal (mode_stock task isas 0) tree (use_form k ps cs) orderly
 
-      form : IsBranchForm task.netlist patterns rule goal.0 goal.1
-      form = fork_form task.netlist order checked.netlist (has_bits task.netlist order checked.netlist) patterns (known_of task.netlist order checked.netlist patterns are) reach rules forms k rule goal.0 goal.1
-          (opened_plan (task_stock rules task) k ps cs tested tree true orderly).listed goal.2
+      -- a form that keeps the mode is one of all forms
+      among : (j : ℕ) × (slice_get (isas 0).all j ≡ Some rule)
+      among = part_of base (isas 0).patterns task.netlist.special (isas 0).all (isas 0).rules (isas 0).kept k rule (opened_plan (mode_stock task isas 0) k ps cs tested tree true orderly).listed
 
-      terms : IsTermOf task.netlist form.condition
-      terms = (known_of task.netlist order checked.netlist patterns are rule.pattern _ form.is).terms.0
+      form : IsBranchForm base (isas 0).patterns rule goal.0 goal.1
+      form = fork_form base keeps.order keeps.rules (has_bits base keeps.order keeps.rules) (isas 0).patterns (known_of base keeps.order keeps.rules (isas 0).patterns (isas 0).are) (isas 0).most (isas 0).all (isas 0).forms among.0 rule goal.0 goal.1 among.1 goal.2
 
-      condition : pattern_condition (slice_get patterns rule.pattern) ≡ Some form.condition
+      terms : IsTermOf base form.condition
+      terms = (known_of base keeps.order keeps.rules (isas 0).patterns (isas 0).are rule.pattern _ form.is).terms.0
+
+      condition : pattern_condition (slice_get (isas 0).patterns rule.pattern) ≡ Some form.condition
       condition = ap pattern_condition form.is
 
       point : (r : ℕ) (b : Bool) → nat_lt r 16 ≡ b → term_reads setting rule.value (register r) ≡ regs_of n r
       point r true e = form.alike.reads setting r ∙ sym (reads form.condition condition setting r (ltb-true r 16 e))
       point r false e =
           let le = ltb-false r 16 e in
-          form.alike.reads setting r ∙ past_netlist task.netlist (few_storages task.netlist order checked.netlist) form.condition terms setting r le ∙ sym (regs_of_past n r small le)
+          form.alike.reads setting r ∙ past_netlist base (few_storages base keeps.order keeps.rules) form.condition terms setting r le ∙ sym (regs_of_past n r small le)

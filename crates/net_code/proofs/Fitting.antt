@@ -5,6 +5,10 @@ use Rattle.std.proofs.lemmas.List.{length-map}
 use Rattle.rec_bits.proofs.Lists.{all_append}
 use Rattle.net_model.specs.declared.hardware.Code.{Code}
 use Rattle.net_model.specs.CheckedRules.{code_size}
+use Rattle.net_model.specs.ModeRules.{KeepsInOrder, base_at}
+use Rattle.net_model.proofs.Bases.{base_of}
+use Rattle.net_model.proofs.ModeFaults.{first_keeps}
+use Rattle.form_set.specs.Listing.{greatest_reach}
 use Rattle.net_model.specs.Nets.{code_bits}
 use Rattle.src_model.specs.declared.program.Cmp.{Cmp}
 use Rattle.src_model.specs.declared.program.Cmp.TheVariants.{Ne}
@@ -159,17 +163,19 @@ codes_small [] h = omega arith
 codes_small (code ∷ codes) h = h.0
 
 -- an image that is made for a task fits its netlist
-pub image_fitting : (order : List ℕ) (task : Task) → IsChecked order task → (image : Image) (made : IsMadeFor task image) → length (words_of image) ≤ code_size task.netlist.codes → length (words_of image) ≤ made.reach
+pub image_fitting : (task : Task) → IsChecked task → (image : Image) (made : IsMadeFor task image) → length (words_of image) ≤ code_size task.netlist.codes → length (words_of image) ≤ greatest_reach (made.isas 0).rules
     → AllByRecursion PlaceFits image.places → AllByRecursion CostFits image.costs → IsFitting (limits_of task.netlist) image
-image_fitting order task checked image made room reached places costs =
-    let small = codes_small task.netlist.codes checked.netlist.formed.limits.words in
+image_fitting task checked image made room reached places costs =
+    let first : KeepsInOrder (base_at task.netlist 0) = first_keeps task.netlist checked.netlist in
+    let codes : (base_at task.netlist 0).codes ≡ task.netlist.codes = (base_of task.netlist task.netlist.special 0).codes in
+    let small : code_size task.netlist.codes ≤ 65536 = subst (λ (list : List Code). code_size list ≤ 65536) codes (codes_small (base_at task.netlist 0).codes first.rules.formed.limits.words) in
     let statements : statements_in (acts_of task.listing.body) ≤ 65536 = (rules_hold task.width task.listing checked.program).few_statements in
     let temps = few_temps task.width task.listing checked.program in
     let as_told = made.layout.temps in
     let marks = marks_fit task.listing (length (words_of image)) image.marks statements (omega (arith, room, small)) made.marked in
     let long : length (words_of image) ≡ length image.words = length-map image.words (λ (w : Word). w.word) in
     let bits : word_width task.netlist ≡ (limits_of task.netlist).bits = limit_bits task.netlist.codes in
-    let some = has_bits task.netlist order checked.netlist in
+    let some : 0 < word_width task.netlist = subst (λ (list : List Code). 0 < code_bits (slice_get list 0)) codes (has_bits (base_at task.netlist 0) first.order first.rules) in
     record {
       bits = made.bits ∙ bits;
       few = let words = limit_words task.netlist.codes in omega (arith, room, long, words);
@@ -180,5 +186,5 @@ image_fitting order task checked image made room reached places costs =
       in_order = marks.1;
       words =
           codes_fit (limits_of task.netlist).bits image.words
-          (λ k. subst (λ b. slice_index (words_of image) k < 2 ^ b) bits ((image_fits order task checked image made room reached k).fits 0 some)) (lists_ascend made.groups _ image.words made.lists);
+          (λ k. subst (λ b. slice_index (words_of image) k < 2 ^ b) bits ((image_fits task checked image made room reached k).fits 0 some)) (lists_ascend made.groups _ image.words made.lists);
     }

@@ -1,26 +1,19 @@
--- What the list of a netlist's forms lacks, its patterns lack.
-use Rattle.std.proofs.Common.{◌≡◌, ◌&&◌, ℕ, Bool, true, false, not, List, [], ◌∷◌, Some, ap, get_or, refl, slice_get, subst}
+-- What is asked of each form of a list is asked of its rules, and each form of a netlist without a
+-- mode keeps it.
+use Rattle.std.proofs.Common.{◌≡◌, ◌&&◌, ℕ, Bool, inl, List, [], ◌∷◌, Option, None, ap, refl, subst, sym}
 use Rattle.std.specs.List.{list_all}
-use Rattle.std.proofs.lemmas.List.Elements.{All-contains, All-from_get_or, All-get_or}
-use Rattle.std.proofs.lemmas.Option.{get_or_from_slice_get, slice_get-get_or, slice_get_within}
 use Rattle.net_model.specs.declared.hardware.Netlist.{Netlist}
-use Rattle.net_model.specs.Patterns.{ArePatterns, IsPattern, Pattern}
+use Rattle.net_model.specs.ModeRules.{base_at}
+use Rattle.net_model.specs.Patterns.{ArePatterns, Pattern}
+use Rattle.net_model.proofs.ModeFaults.{alone_base}
 use Rattle.form_model.specs.declared.forms.Form.{Form}
-use Rattle.form_model.specs.Rules.{Kind, kind_of, rules_of}
+use Rattle.form_model.specs.Rules.{Kind, kind_of, Rule, rules_of}
+use Rattle.form_set.specs.Listing.{AreForms}
 use Rattle.form_set.specs.Promises.{all_rules, is_control_goal, is_no_jump, no_jumps, only_control}
-
-module _ (netlist : Netlist) (patterns : List Pattern) (are : ArePatterns netlist patterns) (P : Pattern → Type 0) where
-  -- what no pattern of the list has, no pattern of the netlist has
-  pub none_of_netlist : ((k : ℕ) (p : Pattern) → slice_get patterns k ≡ Some p → P p → ⊥) → (p : Pattern) → IsPattern netlist p → P p → ⊥
-  none_of_netlist none p is = All-contains (λ q. P q → ⊥) patterns p (All-from_get_or (λ q. P q → ⊥) patterns p (λ i within. none i (get_or patterns i p) (slice_get-get_or patterns i p within))) (are.every p is)
-
-  -- and the other way round
-  pub none_of_list : ((p : Pattern) → IsPattern netlist p → P p → ⊥) → (k : ℕ) (p : Pattern) → slice_get patterns k ≡ Some p → P p → ⊥
-  none_of_list none k p at = none p (subst (IsPattern netlist) (get_or_from_slice_get patterns k p p at) (All-get_or (IsPattern netlist) patterns k p (slice_get_within patterns k p at) are.each))
+use Rattle.mode_set.specs.Keeping.{AreKeeping, Isa}
 
 -- ---- lists
 
--- what is asked of each form of a list is asked of its rules
 asked_of_rules : (q : Kind → Bool) (fs : List Form) → list_all (λ (f : Form). q (kind_of f.goal)) fs ≡ all_rules (λ rule. q rule.goal) (rules_of fs)
 asked_of_rules q [] = refl
 asked_of_rules q (f ∷ fs) = ap (λ (b : Bool). q (kind_of f.goal) && b) (asked_of_rules q fs)
@@ -31,14 +24,20 @@ control_of_list fs = asked_of_rules is_control_goal fs
 pub jumps_of_list : (fs : List Form) → list_all (λ (f : Form). is_no_jump (kind_of f.goal)) fs ≡ no_jumps (rules_of fs)
 jumps_of_list fs = asked_of_rules is_no_jump fs
 
-pub true_of_not : (b : Bool) → not b ≡ false → b ≡ true
-true_of_not true e = refl
-true_of_not false e = absurd cc
+-- ---- a netlist without a mode
 
-pub false_of_not : (b : Bool) → not b ≡ true → b ≡ false
-false_of_not true e = absurd cc
-false_of_not false e = refl
+pub all_kept : (netlist : Netlist) (patterns : List Pattern) (rules : List Rule) → AreKeeping netlist patterns None rules rules
+all_kept netlist patterns [] = refl
+all_kept netlist patterns (rule ∷ rules) = (rules, all_kept netlist patterns rules, inl (tt, refl))
 
-pub not_and_is : (b : Bool) → not b ≡ false → b ≡ false → ⊥
-not_and_is true e f = absurd cc
-not_and_is false e f = absurd cc
+-- what such a netlist is told in its only mode
+abbrev pub plain_isa : (netlist : Netlist) → netlist.special ≡ None → (patterns : List Pattern) → ArePatterns netlist patterns → (rules : List Rule) (reach : ℕ) → AreForms netlist patterns rules reach → Isa netlist 0
+plain_isa netlist plain patterns are rules reach forms = record {
+  patterns = patterns;
+  are = subst (λ (n : Netlist). ArePatterns n patterns) (sym (alone_base netlist plain 0)) are;
+  all = rules;
+  most = reach;
+  forms = subst (λ (n : Netlist). AreForms n patterns rules reach) (sym (alone_base netlist plain 0)) forms;
+  rules = rules;
+  kept = subst (λ (o : Option ℕ). AreKeeping (base_at netlist 0) patterns o rules rules) (sym plain) (all_kept (base_at netlist 0) patterns rules);
+}

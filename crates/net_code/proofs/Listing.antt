@@ -1,22 +1,26 @@
--- The covers of jobs, their costs and the words of items, one after the other.
+-- The plans of jobs, their costs and the words of items, one after the other.
 use Rattle.std.proofs.Common.{◌≡◌, ℕ, zero, suc, ◌+◌, ◌<◌, ◌≤◌, List, [], ◌∷◌, ◌++◌, Some, map, option_map, take, length, get_or, slice_get, refl, sym, ap, subst, ◌∙◌, add-one, append_assoc, arith}
 use Rattle.std.specs.List.{AllByRecursion}
 use Rattle.std.proofs.lemmas.List.{length-take-le, map-append}
 use Rattle.std.proofs.lemmas.Option.{slice_get-map, slice_get_read}
-use Rattle.cover.specs.Best.{choice_of}
-use Rattle.cover.specs.declared.covers.JobCover.{JobCover}
 use Rattle.net_model.specs.declared.hardware.Netlist.{Netlist}
 use Rattle.net_model.specs.Patterns.{Pattern}
 use Rattle.code_model.specs.declared.image.Word.{Word}
-use Rattle.form_model.specs.Covers.{Choice, IsChosen, Stock, job_cost}
+use Rattle.form_model.specs.Covers.{Stock, job_cost}
+use Rattle.form_model.specs.Live.{Regs}
+use Rattle.mode_set.specs.declared.plans.Plan.{Plan}
+use Rattle.mode_set.specs.Costs.{IsPlanned, Planned, mode_cost, mode_words}
+use Rattle.mode_set.specs.Plans.{planned_of}
 use Rattle.branch_fix.specs.declared.laid.Item.{Item}
 use Rattle.src_trees.specs.Lowered.{Work}
-use Rattle.right_code.specs.Covered.{AllChosen, HasCover, IsFirstBare, job_costs, numbered}
+use Rattle.right_code.specs.Covered.{AllPlanned, HasCover, IsFirstBare, numbered, plan_costs}
 use Rattle.compaction.specs.declared.packer.PackedBlock.{PackedBlock}
 use Rattle.net_code.specs.Inner.Coded.{AreItemWords, IsWordOf}
+use Rattle.net_code.specs.Inner.Planning.{told_costs}
 use Rattle.net_code.specs.Inner.Uncovered.{IsOneBare, IsUncovered}
 use Rattle.net_code.specs.declared.fault.CodeFault.{CodeFault}
 use Rattle.net_code.specs.declared.fault.CodeFault.TheVariants.{NoStep, NoJump, NoCover, NoReach, ImageFull, Memory}
+use Rattle.net_code.proofs.Stepping.{plans_even}
 
 -- ---- lists
 
@@ -42,78 +46,73 @@ get_taken xs zero k lt = absurd (omega arith)
 get_taken (x ∷ xs) (suc n) zero lt = refl
 get_taken (x ∷ xs) (suc n) (suc k) lt = get_taken xs n k (omega arith)
 
--- ---- covers
+-- ---- plans
 
-module _ (stock : Stock) where
-  pub chosen_long : (works : List Work) (choices : List Choice) → AllChosen stock works choices → length choices ≡ length works
-  chosen_long [] [] h = refl
-  chosen_long [] (c ∷ choices) h = absurd h
-  chosen_long (x ∷ works) [] h = absurd h
-  chosen_long (x ∷ works) (c ∷ choices) h = let e = chosen_long works choices h.1 in omega (arith, e)
+module _ (stock : ℕ → Stock) (Usable : ℕ → Type 0) where
+  pub planned_more : (works : List Work) (plans : List Planned) (work : Work) (planned : Planned) → AllPlanned stock Usable works plans → IsPlanned stock Usable work.destination work.trees planned
+      → AllPlanned stock Usable (works ++ work ∷ []) (plans ++ planned ∷ [])
+  planned_more [] [] work planned h is = (is, tt)
+  planned_more [] (d ∷ plans) work planned h is = absurd h
+  planned_more (x ∷ works) [] work planned h is = absurd h
+  planned_more (x ∷ works) (d ∷ plans) work planned h is = (h.0, planned_more works plans work planned h.1 is)
 
-  pub chosen_more : (works : List Work) (choices : List Choice) (work : Work) (choice : Choice) → AllChosen stock works choices → IsChosen stock work.destination work.trees choice
-      → AllChosen stock (works ++ work ∷ []) (choices ++ choice ∷ [])
-  chosen_more [] [] work choice h is = (is, tt)
-  chosen_more [] (c ∷ choices) work choice h is = absurd h
-  chosen_more (x ∷ works) [] work choice h is = absurd h
-  chosen_more (x ∷ works) (c ∷ choices) work choice h is = (h.0, chosen_more works choices work choice h.1 is)
+  pub costs_more : (works : List Work) (plans : List Planned) (work : Work) (planned : Planned) → AllPlanned stock Usable works plans
+      → plan_costs (works ++ work ∷ []) (plans ++ planned ∷ []) ≡ plan_costs works plans ++ mode_cost planned.mode work.destination planned.choice.plan ∷ []
+  costs_more [] [] work planned h = refl
+  costs_more [] (d ∷ plans) work planned h = absurd h
+  costs_more (x ∷ works) [] work planned h = absurd h
+  costs_more (x ∷ works) (d ∷ plans) work planned h = ap (λ (costs : List ℕ). mode_cost d.mode x.destination d.choice.plan ∷ costs) (costs_more works plans work planned h.1)
 
-  pub costs_more : (works : List Work) (choices : List Choice) (work : Work) (choice : Choice) → AllChosen stock works choices
-      → job_costs (works ++ work ∷ []) (choices ++ choice ∷ []) ≡ job_costs works choices ++ job_cost work.destination choice.plan ∷ []
-  costs_more [] [] work choice h = refl
-  costs_more [] (c ∷ choices) work choice h = absurd h
-  costs_more (x ∷ works) [] work choice h = absurd h
-  costs_more (x ∷ works) (c ∷ choices) work choice h = ap (λ (costs : List ℕ). job_cost x.destination c.plan ∷ costs) (costs_more works choices work choice h.1)
-
-  -- the first jobs have as many covers
-  pub chosen_count : (works : List Work) (choices : List Choice) (number : ℕ) → number ≤ length works → AllChosen stock (take number works) choices → length choices ≡ number
-  chosen_count works choices number le h = chosen_long (take number works) choices h ∙ length-take-le number works le
+  -- the first jobs have as many plans
+  pub planned_count : (works : List Work) (plans : List Planned) (number : ℕ) → number ≤ length works → AllPlanned stock Usable (take number works) plans → length plans ≡ number
+  planned_count works plans number le h = plans_even stock Usable (take number works) plans h ∙ length-take-le number works le
 
   -- one job more
-  module _ (works : List Work) (old new : List JobCover) (number : ℕ) (work : Work) (chosen : JobCover) (at : slice_get works number ≡ Some work) (more : new ≡ old ++ chosen ∷ [])
-      (all : AllChosen stock (take number works) (map choice_of old)) where
+  module _ (works : List Work) (old new : List Plan) (number : ℕ) (work : Work) (plan : Plan) (at : slice_get works number ≡ Some work) (more : new ≡ old ++ plan ∷ [])
+      (all : AllPlanned stock Usable (take number works) (map planned_of old)) where
     works_taken : take (number + 1) works ≡ take number works ++ work ∷ []
     works_taken = take_get works number work at
 
-    choices_made : map choice_of new ≡ map choice_of old ++ choice_of chosen ∷ []
-    choices_made = ap (map choice_of) more ∙ map-append choice_of old (chosen ∷ [])
+    plans_made : map planned_of new ≡ map planned_of old ++ planned_of plan ∷ []
+    plans_made = ap (map planned_of) more ∙ map-append planned_of old (plan ∷ [])
 
-    pub covers_more : IsChosen stock work.destination work.trees (choice_of chosen) → AllChosen stock (take (number + 1) works) (map choice_of new)
-    covers_more is =
-        subst (λ ws. AllChosen stock ws (map choice_of new)) (sym works_taken)
-        (subst (AllChosen stock (take number works ++ work ∷ [])) (sym choices_made) (chosen_more (take number works) (map choice_of old) work (choice_of chosen) all is))
+    pub plans_more : IsPlanned stock Usable work.destination work.trees (planned_of plan) → AllPlanned stock Usable (take (number + 1) works) (map planned_of new)
+    plans_more is =
+        subst (λ ws. AllPlanned stock Usable ws (map planned_of new)) (sym works_taken)
+        (subst (AllPlanned stock Usable (take number works ++ work ∷ [])) (sym plans_made) (planned_more (take number works) (map planned_of old) work (planned_of plan) all is))
 
-    pub prices_more : chosen.cost ≡ job_cost work.destination (choice_of chosen).plan → map (λ (c : JobCover). c.cost) old ≡ job_costs (take number works) (map choice_of old)
-        → map (λ (c : JobCover). c.cost) new ≡ job_costs (take (number + 1) works) (map choice_of new)
+    pub prices_more : plan.cover.cost ≡ job_cost work.destination (planned_of plan).choice.plan → told_costs old ≡ plan_costs (take number works) (map planned_of old)
+        → told_costs new ≡ plan_costs (take (number + 1) works) (map planned_of new)
     prices_more price before =
-        ap (map (λ (c : JobCover). c.cost)) more
-        ∙ map-append (λ (c : JobCover). c.cost) old (chosen ∷ [])
-        ∙ (λ i. before i ++ price i ∷ [])
-        ∙ sym (costs_more (take number works) (map choice_of old) work (choice_of chosen) all)
-        ∙ (λ i. job_costs (sym works_taken i) (sym choices_made i))
+        ap told_costs more
+        ∙ map-append (λ (p : Plan). p.cover.cost + mode_words p.mode) old (plan ∷ [])
+        ∙ (λ i. before i ++ (price i + mode_words plan.mode) ∷ [])
+        ∙ sym (costs_more (take number works) (map planned_of old) work (planned_of plan) all)
+        ∙ (λ i. plan_costs (sym works_taken i) (sym plans_made i))
 
-  has_covers : (works : List Work) (choices : List Choice) → AllChosen stock works choices → (k : ℕ) (other : Work) → slice_get works k ≡ Some other → HasCover stock other
-  has_covers [] choices h k other e = absurd (cc e)
+  has_covers : (works : List Work) (plans : List Planned) → AllPlanned stock Usable works plans → (k : ℕ) (other : Work) → slice_get works k ≡ Some other → HasCover stock Usable other
+  has_covers [] plans h k other e = absurd (cc e)
   has_covers (x ∷ works) [] h k other e = absurd h
-  has_covers (x ∷ works) (c ∷ choices) h zero other e = let q : x ≡ other = cc in subst (HasCover stock) q (c, h.0.covers)
-  has_covers (x ∷ works) (c ∷ choices) h (suc k) other e = has_covers works choices h.1 k other e
+  has_covers (x ∷ works) (d ∷ plans) h zero other e =
+      (let q : x ≡ other = cc in subst (HasCover stock Usable) q (record { mode = d.mode; choice = d.choice; covers = record { can = h.0.can; may = h.0.may; covers = h.0.chosen.covers } }))
+  has_covers (x ∷ works) (d ∷ plans) h (suc k) other e = has_covers works plans h.1 k other e
 
   -- the first job that has no cover
-  pub uncovered : (works : List Work) (choices : List Choice) (number : ℕ) (work : Work) (fault : CodeFault) → AllChosen stock (take number works) choices → slice_get works number ≡ Some work
-      → IsOneBare stock work number fault → IsUncovered stock works fault
-  uncovered works choices number work (NoCover told) h at bare =
-      subst (IsFirstBare stock works) (sym bare.0)
+  pub uncovered : (works : List Work) (plans : List Planned) (number : ℕ) (work : Work) (fault : CodeFault) → AllPlanned stock Usable (take number works) plans → slice_get works number ≡ Some work
+      → IsOneBare stock Usable work number fault → IsUncovered stock Usable works fault
+  uncovered works plans number work (NoCover told) h at bare =
+      subst (IsFirstBare stock Usable works) (sym bare.0)
       (record {
         job = work;
         at = at;
         none = bare.1;
-        earlier = λ k other lt e. has_covers (take number works) choices h k other (get_taken works number k lt ∙ e);
+        earlier = λ k other lt e. has_covers (take number works) plans h k other (get_taken works number k lt ∙ e);
       })
-  uncovered works choices number work NoStep h at bare = absurd bare
-  uncovered works choices number work NoJump h at bare = absurd bare
-  uncovered works choices number work (NoReach bound reach) h at bare = absurd bare
-  uncovered works choices number work (ImageFull len size bound) h at bare = absurd bare
-  uncovered works choices number work Memory h at bare = tt
+  uncovered works plans number work NoStep h at bare = absurd bare
+  uncovered works plans number work NoJump h at bare = absurd bare
+  uncovered works plans number work (NoReach bound reach) h at bare = absurd bare
+  uncovered works plans number work (ImageFull len size bound) h at bare = absurd bare
+  uncovered works plans number work Memory h at bare = tt
 
 -- ---- costs
 
@@ -124,9 +123,9 @@ numbered_more lines number cost costs rest e =
 
 -- ---- words
 
-module _ (netlist : Netlist) (patterns : List Pattern) (blocks : List PackedBlock) where
-  pub words_more : (items : List Item) (words : List Word) (item : Item) (word : Word) → AreItemWords netlist patterns blocks items words → IsWordOf netlist patterns blocks item word
-      → AreItemWords netlist patterns blocks (items ++ item ∷ []) (words ++ word ∷ [])
+module _ (netlist : Netlist) (patterns : List Pattern) (kept : Regs) (blocks : List PackedBlock) where
+  pub words_more : (items : List Item) (words : List Word) (item : Item) (word : Word) → AreItemWords netlist patterns kept blocks items words → IsWordOf netlist patterns kept blocks item word
+      → AreItemWords netlist patterns kept blocks (items ++ item ∷ []) (words ++ word ∷ [])
   words_more [] [] item word h is = (is, tt)
   words_more [] (w ∷ words) item word h is = absurd h
   words_more (x ∷ items) [] item word h is = absurd h

@@ -1,61 +1,78 @@
 -- An image that is put together of the words of its layout is made for its task.
-use Rattle.std.proofs.Common.{◌≡◌, ℕ, zero, suc, ◌+◌, ◌<◌, Bool, true, false, if◌then◌else◌, List, [], ◌∷◌, ◌++◌, map, Some, length, slice_get, slice_index, refl, sym, ap, subst, ◌∙◌, arith, length-append, append_assoc}
+use Rattle.std.proofs.Common.{◌≡◌, ℕ, zero, suc, ◌+◌, ◌<◌, Bool, true, false, if◌then◌else◌, List, [], ◌∷◌, ◌++◌, map, Option, Some, length, slice_get, slice_index, refl, sym, ap, subst, ◌∙◌, arith, length-append, append_assoc}
 use Rattle.std.proofs.lemmas.Option.{slice_get_within}
 use Rattle.net_model.specs.declared.hardware.Netlist.{Netlist}
 use Rattle.net_model.specs.Patterns.{Pattern}
 use Rattle.code_model.specs.declared.image.Word.{Word}
-use Rattle.form_model.specs.Covers.{Choice, Stock}
+use Rattle.form_model.specs.Live.{Regs, regs_of}
 use Rattle.form_model.specs.Rules.{Rule}
 use Rattle.form_model.specs.declared.flow.Flow.{Flow}
 use Rattle.form_model.specs.declared.flow.Flow.TheVariants.{Assign, Test as Tested, Jump as Jumped, End as Ended}
 use Rattle.src_trees.specs.Blocks.{IsAssignBlock, continues, jobs_at}
 use Rattle.src_trees.specs.Lowered.{Work}
+use Rattle.block_words.specs.Laws.{operation_in}
 use Rattle.branch_fix.specs.declared.laid.Item.{Item}
+use Rattle.branch_fix.specs.declared.laid.Item.TheVariants.{Group, Jump as Turn}
 use Rattle.branch_fix.specs.declared.part.Fork.{Fork}
 use Rattle.branch_fix.specs.declared.part.Part.{Part}
 use Rattle.branch_fix.specs.declared.part.Part.TheVariants.{Block, Inner, Test, Jump, End}
 use Rattle.branch_fix.specs.Parts.{fork_to, branch_or_zero, part_for, parts_of, rule_at_one, blocks_before, tests_before}
 use Rattle.branch_fix.specs.Rounds.{IsFixpoint}
-use Rattle.right_code.specs.Images.{AreBlockWords, AreTestWords, IsBranchOf, choices_at}
+use Rattle.mode_set.specs.Costs.{Planned}
+use Rattle.mode_set.specs.Keeping.{IsModeRegister, Isas}
+use Rattle.net_model.specs.ModeRules.{base_at}
+use Rattle.right_code.specs.Covered.{mode_stock}
+use Rattle.right_code.specs.Cuts.{AreBlockCuts, cuts_of, plans_at}
+use Rattle.right_code.specs.Images.{AreTestWords, IsBranchOf}
+use Rattle.right_code.specs.Tasks.{Task}
 use Rattle.right_code.specs.Words.{IsItemWord, ListItems, StandItems}
 use Rattle.compaction.specs.declared.packer.PackedBlock.{PackedBlock}
-use Rattle.net_code.specs.Inner.Coded.{AreItemWords, IsBlockCode, groups_at, words_at}
+use Rattle.net_code.specs.Inner.Coded.{AreItemWords, IsBlockCode, IsKeptWord, groups_at, words_at}
+use Rattle.net_code.specs.Inner.Views.{mode_bits}
+use Rattle.net_code.proofs.ModeRegs.{least_turn}
 use Rattle.net_code.proofs.Places.{settled_part, shortened}
 
 -- ---- words in their order
 
-module _ (netlist : Netlist) (patterns : List Pattern) (blocks : List PackedBlock) where
-  pub words_long : (items : List Item) (words : List Word) → AreItemWords netlist patterns blocks items words → length words ≡ length items
+module _ (netlist : Netlist) (patterns : List Pattern) (kept : Regs) (blocks : List PackedBlock) where
+  pub words_long : (items : List Item) (words : List Word) → AreItemWords netlist patterns kept blocks items words → length words ≡ length items
   words_long [] [] h = refl
   words_long [] (w ∷ words) h = absurd h
   words_long (i ∷ items) [] h = absurd h
   words_long (i ∷ items) (w ∷ words) h = ap suc (words_long items words h.1)
 
   -- they list the patterns of their steps
-  pub words_list : (items : List Item) (words : List Word) → AreItemWords netlist patterns blocks items words → ListItems (groups_at blocks) items words
+  pub words_list : (items : List Item) (words : List Word) → AreItemWords netlist patterns kept blocks items words → ListItems (groups_at blocks) items words
   words_list [] [] h = tt
   words_list [] (w ∷ words) h = absurd h
   words_list (i ∷ items) [] h = absurd h
   words_list (i ∷ items) (w ∷ words) h = (h.0.lists, words_list items words h.1)
 
-  index_seam : (front : List ℕ) (w : ℕ) (rest : List ℕ) (at : ℕ) → at ≡ length front → slice_index (front ++ w ∷ rest) at ≡ w
-  index_seam [] w rest zero e = refl
-  index_seam [] w rest (suc at) e = absurd (omega arith)
-  index_seam (x ∷ front) w rest zero e = absurd (omega arith)
-  index_seam (x ∷ front) w rest (suc at) e = index_seam front w rest at (omega arith)
+index_seam : (front : List ℕ) (w : ℕ) (rest : List ℕ) (at : ℕ) → at ≡ length front → slice_index (front ++ w ∷ rest) at ≡ w
+index_seam [] w rest zero e = refl
+index_seam [] w rest (suc at) e = absurd (omega arith)
+index_seam (x ∷ front) w rest zero e = absurd (omega arith)
+index_seam (x ∷ front) w rest (suc at) e = index_seam front w rest at (omega arith)
 
-  stand_behind : (front : List ℕ) (items : List Item) (words : List Word) (at : ℕ) → at ≡ length front → AreItemWords netlist patterns blocks items words
-      → StandItems netlist patterns (words_at blocks) (front ++ map (λ (w : Word). w.word) words) at items
+-- jump and branch words that keep the register that holds the mode keep the mode
+module _ (netlist : Netlist) (patterns : List Pattern) (special : Option ℕ) (register : IsModeRegister special netlist) (blocks : List PackedBlock) where
+  item_word : (i : ℕ) (item : Item) → IsKeptWord netlist patterns (regs_of (mode_bits special)) (words_at blocks) i item → IsItemWord netlist special patterns (words_at blocks) i item
+  item_word i (Group block at) h = h
+  item_word i (Turn step) h = least_turn netlist (operation_in netlist patterns step) special register i h
+
+  stand_behind : (front : List ℕ) (items : List Item) (words : List Word) (at : ℕ) → at ≡ length front → AreItemWords netlist patterns (regs_of (mode_bits special)) blocks items words
+      → StandItems netlist special patterns (words_at blocks) (front ++ map (λ (w : Word). w.word) words) at items
   stand_behind front [] [] at e h = tt
   stand_behind front [] (w ∷ words) at e h = absurd h
   stand_behind front (i ∷ items) [] at e h = absurd h
   stand_behind front (i ∷ items) (w ∷ words) at e h = (
-    subst (λ n. IsItemWord netlist patterns (words_at blocks) n i) (sym (index_seam front w.word (map (λ (x : Word). x.word) words) at e)) h.0.is,
-    subst (λ code. StandItems netlist patterns (words_at blocks) code (at + 1) items) (append_assoc front (w.word ∷ []) (map (λ (x : Word). x.word) words))
+    subst (λ n. IsItemWord netlist special patterns (words_at blocks) n i) (sym (index_seam front w.word (map (λ (x : Word). x.word) words) at e)) (item_word w.word i h.0.is),
+    subst (λ code. StandItems netlist special patterns (words_at blocks) code (at + 1) items) (append_assoc front (w.word ∷ []) (map (λ (x : Word). x.word) words))
         (stand_behind (front ++ w.word ∷ []) items words (at + 1) (let l = length-append front (w.word ∷ []) in omega (arith, e, l)) h.1),
   )
 
-  pub words_stand : (items : List Item) (words : List Word) → AreItemWords netlist patterns blocks items words → StandItems netlist patterns (words_at blocks) (map (λ (w : Word). w.word) words) 0 items
+  pub words_stand : (items : List Item) (words : List Word) → AreItemWords netlist patterns (regs_of (mode_bits special)) blocks items words
+      → StandItems netlist special patterns (words_at blocks) (map (λ (w : Word). w.word) words) 0 items
   words_stand items words h = stand_behind [] items words 0 refl h
 
 -- ---- sizes
@@ -191,33 +208,31 @@ module _ (rules : List Rule) (flow : List Flow) (sizes : List ℕ) (forks : List
 
 -- ---- the words of blocks and tests, as the image has them
 
-module _ (netlist : Netlist) (patterns : List Pattern) (stock : Stock) (flow : List Flow) (works : List Work) (choices : List Choice) (blocks : List PackedBlock) (branches : List (ℕ × ℕ))
-    (code : IsBlockCode netlist patterns stock flow works choices (length flow) blocks branches) (parts : List Part)
-    (settled : IsFixpoint stock.rules (parts_of stock.rules flow (sizes blocks) branches) parts) where
+module _ (task : Task) (isas : Isas task.netlist) (flow : List Flow) (works : List Work) (plans : List Planned) (blocks : List PackedBlock) (branches : List (ℕ × ℕ))
+    (code : IsBlockCode task isas flow works plans (length flow) blocks branches) (parts : List Part)
+    (settled : IsFixpoint (isas 0).rules (parts_of (isas 0).rules flow (sizes blocks) branches) parts) where
   pub blocks_made : (at n block size : ℕ) → IsAssignBlock flow at n → slice_get parts at ≡ Some (Block block size)
-      → AreBlockWords netlist patterns stock (jobs_at flow works at n) (choices_at flow choices at n) (groups_at blocks block) (words_at blocks block) size
+      → AreBlockCuts task isas (cuts_of (jobs_at flow works at n) (plans_at flow plans at n)) (groups_at blocks block) (words_at blocks block)
+      × (size ≡ length (words_at blocks block))
   blocks_made at n block size run e =
-      let t = block_there stock.rules flow (sizes blocks) branches parts settled at block size e in
-      subst (λ b. AreBlockWords netlist patterns stock (jobs_at flow works at n) (choices_at flow choices at n) (groups_at blocks b) (words_at blocks b) size) (sym t.number)
-      (let r = code.runs at n t.within run in record { packing = r.packing; least = r.least; long = t.words ∙ sizes_at blocks (blocks_before flow at) })
+      let t = block_there (isas 0).rules flow (sizes blocks) branches parts settled at block size e in
+      subst (λ b. AreBlockCuts task isas (cuts_of (jobs_at flow works at n) (plans_at flow plans at n)) (groups_at blocks b) (words_at blocks b) × (size ≡ length (words_at blocks b))) (sym t.number)
+      ((code.runs at n t.within run).cuts, t.words ∙ sizes_at blocks (blocks_before flow at))
 
-  pub tests_made : (at : ℕ) (f : Fork) → slice_get parts at ≡ Some (Test f) → (job : Work) → slice_get works f.tree ≡ Some job → (choice : Choice) → slice_get choices f.tree ≡ Some choice
-      → AreTestWords netlist patterns stock job choice (groups_at blocks f.block) (words_at blocks f.block) f
-  tests_made at f e job w choice c =
-      let t = test_there stock.rules flow (sizes blocks) branches parts settled at f e in
-      let k = code.tests at f.tree t.when_one t.when_zero t.within t.place job choice w c in
-      subst (λ b. AreTestWords netlist patterns stock job choice (groups_at blocks b) (words_at blocks b) f) (sym t.number)
+  pub tests_made : (at : ℕ) (f : Fork) → slice_get parts at ≡ Some (Test f) → (job : Work) → slice_get works f.tree ≡ Some job → (planned : Planned) → slice_get plans f.tree ≡ Some planned
+      → AreTestWords (base_at task.netlist 0) task.netlist.special (isas 0).patterns (mode_stock task isas 0) job planned.choice (groups_at blocks f.block) (words_at blocks f.block) f
+  tests_made at f e job w planned c =
+      let t = test_there (isas 0).rules flow (sizes blocks) branches parts settled at f e in
+      let k = code.tests at f.tree t.when_one t.when_zero t.within t.place job planned w c in
+      subst (λ b. AreTestWords (base_at task.netlist 0) task.netlist.special (isas 0).patterns (mode_stock task isas 0) job planned.choice (groups_at blocks b) (words_at blocks b) f) (sym t.number)
       (record {
         packing = k.packed.packing;
         least = k.packed.least;
         long = t.words ∙ sizes_at blocks (blocks_before flow at);
-        branch = record { form = ap (slice_get stock.rules) t.form ∙ k.form; setting = t.setting ∙ k.setting };
+        branch = record { form = ap (slice_get (isas 0).rules) t.form ∙ k.form; setting = t.setting ∙ k.setting };
       })
 
--- the branches of the layout are those of the covers
-module _ (stock : Stock) (flow : List Flow) (works : List Work) (choices : List Choice) (netlist : Netlist) (patterns : List Pattern) (blocks : List PackedBlock) (branches : List (ℕ × ℕ))
-    (code : IsBlockCode netlist patterns stock flow works choices (length flow) blocks branches) (parts : List Part)
-    (settled : IsFixpoint stock.rules (parts_of stock.rules flow (sizes blocks) branches) parts) where
-  pub branches_made : (at : ℕ) (f : Fork) → slice_get parts at ≡ Some (Test f) → (job : Work) → slice_get works f.tree ≡ Some job → (choice : Choice) → slice_get choices f.tree ≡ Some choice
-      → IsBranchOf stock job choice f
-  branches_made at f e job w choice c = (tests_made netlist patterns stock flow works choices blocks branches code parts settled at f e job w choice c).branch
+  -- the branches of the layout are those of the covers
+  pub branches_made : (at : ℕ) (f : Fork) → slice_get parts at ≡ Some (Test f) → (job : Work) → slice_get works f.tree ≡ Some job → (planned : Planned) → slice_get plans f.tree ≡ Some planned
+      → IsBranchOf (mode_stock task isas 0) job planned.choice f
+  branches_made at f e job w planned c = (tests_made at f e job w planned c).branch

@@ -1,37 +1,38 @@
--- Of which kinds a netlist has patterns, by the list of its forms.
-use Rattle.std.proofs.Common.{◌≡◌, ℕ, Bool, true, false, List, sym, ◌∙◌}
+-- Of which kinds a netlist has forms in mode 0 that keep the mode, by the list of these.
+use Rattle.std.proofs.Common.{◌≡◌, Bool, true, false, List, sym, ap, ◌∙◌}
 use Rattle.std.specs.List.{list_all}
 use Rattle.net_model.specs.declared.hardware.Netlist.{Netlist}
-use Rattle.net_model.specs.Patterns.{ArePatterns, Pattern}
 use Rattle.form_model.specs.declared.forms.Form.{Form}
 use Rattle.form_model.specs.Rules.{kind_of, rules_of}
-use Rattle.form_set.specs.Listing.{AreForms, IsJump, IsPlain}
-use Rattle.form_set.specs.Promises.{is_control_goal, is_no_jump}
-use Rattle.form_set.proofs.NoForms.{no_jump, no_step}
+use Rattle.form_set.specs.Promises.{is_control_goal, is_no_jump, no_jumps, only_control}
+use Rattle.mode_set.specs.Keeping.{Isa}
+use Rattle.right_code.proofs.OneForms.{rules_alike}
 use Rattle.net_code.specs.declared.fault.CodeFault.{CodeFault}
 use Rattle.net_code.specs.declared.fault.CodeFault.TheVariants.{NoStep, NoJump, NoCover, NoReach, ImageFull, Memory}
 use Rattle.net_code.specs.Refusals.{IsFormless, IsJumpless, IsKindsFault, IsStepless}
-use Rattle.net_code.proofs.FormLemmas.{control_of_list, jumps_of_list, none_of_list, none_of_netlist}
+use Rattle.net_code.proofs.FormLemmas.{control_of_list, jumps_of_list}
 
 both : (b : Bool) → b ≡ true → b ≡ false → ⊥
 both b e f = cc
 
-module _ (netlist : Netlist) (patterns : List Pattern) (are : ArePatterns netlist patterns) (list : List Form) (reach : ℕ) (forms : AreForms netlist patterns (rules_of list) reach) where
+module _ (netlist : Netlist) (isa : Isa netlist 0) (list : List Form) (same : rules_of list ≡ isa.rules) where
+  own_control : list_all (λ (form : Form). is_control_goal (kind_of form.goal)) list ≡ only_control isa.rules
+  own_control = control_of_list list ∙ ap only_control same
+
+  own_jumps : list_all (λ (form : Form). is_no_jump (kind_of form.goal)) list ≡ no_jumps isa.rules
+  own_jumps = jumps_of_list list ∙ ap no_jumps same
+
   pub some_step : list_all (λ (form : Form). is_control_goal (kind_of form.goal)) list ≡ false → IsStepless netlist → ⊥
-  some_step lacks none =
-      both (list_all (λ (form : Form). is_control_goal (kind_of form.goal)) list)
-      (control_of_list list ∙ (no_step netlist reach 0 patterns (rules_of list) forms.list).1 (none_of_list netlist patterns are (IsPlain netlist) none)) lacks
+  some_step lacks none = both (only_control isa.rules) (ap only_control (rules_alike netlist 0 isa none.isa) ∙ none.control) (sym own_control ∙ lacks)
 
   pub some_jump : list_all (λ (form : Form). is_no_jump (kind_of form.goal)) list ≡ false → IsJumpless netlist → ⊥
-  some_jump lacks none =
-      both (list_all (λ (form : Form). is_no_jump (kind_of form.goal)) list)
-      (jumps_of_list list ∙ (no_jump netlist reach 0 patterns (rules_of list) forms.list).1 (none_of_list netlist patterns are (IsJump netlist) none)) lacks
+  some_jump lacks none = both (no_jumps isa.rules) (ap no_jumps (rules_alike netlist 0 isa none.isa) ∙ none.jumpless) (sym own_jumps ∙ lacks)
 
   pub stepless : list_all (λ (form : Form). is_control_goal (kind_of form.goal)) list ≡ true → IsStepless netlist
-  stepless e = none_of_netlist netlist patterns are (IsPlain netlist) ((no_step netlist reach 0 patterns (rules_of list) forms.list).0 (sym (control_of_list list) ∙ e))
+  stepless e = record { isa = isa; control = sym own_control ∙ e }
 
   jumpless : list_all (λ (form : Form). is_no_jump (kind_of form.goal)) list ≡ true → IsJumpless netlist
-  jumpless e = none_of_netlist netlist patterns are (IsJump netlist) ((no_jump netlist reach 0 patterns (rules_of list) forms.list).0 (sym (jumps_of_list list) ∙ e))
+  jumpless e = record { isa = isa; jumpless = sym own_jumps ∙ e }
 
   pub formless : (fault : CodeFault) → IsKindsFault list fault → IsFormless netlist fault
   formless NoStep e = stepless e
@@ -39,4 +40,4 @@ module _ (netlist : Netlist) (patterns : List Pattern) (are : ArePatterns netlis
   formless (NoCover number) h = absurd h
   formless (NoReach bound reached) h = absurd h
   formless (ImageFull len size bound) h = absurd h
-  formless Memory h = tt
+  formless Memory h = absurd h

@@ -1,70 +1,95 @@
--- The steps of a block's jobs, and how long a block is.
+-- The steps of a block's jobs, each by the forms of its own mode, and how long a block is.
 use Rattle.std.proofs.Common.{◌≡◌, ℕ, zero, suc, ◌+◌, ◌-◌, ◌<◌, ◌≤◌, nat_lt, Bool, true, false, ◌&&◌, not, List, [], ◌∷◌, ◌++◌, Option, Some, None, length, slice_get, refl, sym, ap, subst, ◌∙◌, add-one, append-nil, append_assoc, arith, length-append}
 use Rattle.std.proofs.lemmas.Option.{slice_get_past}
 use Rattle.net_model.specs.Terms.{Term}
-use Rattle.form_model.specs.Covers.{Choice, IsChosen, Stock}
+use Rattle.form_model.specs.Covers.{Stock}
 use Rattle.form_model.specs.Steps.{cover_steps}
 use Rattle.form_model.specs.declared.flow.Flow.{Flow}
 use Rattle.form_model.specs.declared.flow.Flow.TheVariants.{Assign, Test, Jump, End}
 use Rattle.form_model.specs.declared.forms.Step.{Step}
 use Rattle.src_trees.specs.Blocks.{IsAssignBlock, continues, is_assign, is_entered, job_at, job_list, jobs_at}
 use Rattle.src_trees.specs.Lowered.{Work}
-use Rattle.right_code.specs.Covered.{AllChosen}
-use Rattle.right_code.specs.Images.{choice_at, choices_of, choices_at}
-use Rattle.right_code.specs.Jobs.{job_steps, jobs_steps, tree_or_none}
+use Rattle.mode_set.specs.Costs.{IsPlanned, Planned}
+use Rattle.right_code.specs.Covered.{AllPlanned}
+use Rattle.right_code.specs.Cuts.{plan_at, plans_at, plans_of}
+use Rattle.right_code.specs.Jobs.{job_steps, tree_or_none}
+use Rattle.net_code.specs.Inner.Planning.{steps_in}
+
+-- ---- plans that go with jobs
+
+module _ (stock : ℕ → Stock) (Usable : ℕ → Type 0) where
+  -- the plan of a job
+  pub planned_at : (works : List Work) (plans : List Planned) (k : ℕ) (job : Work) (planned : Planned) → AllPlanned stock Usable works plans → slice_get works k ≡ Some job → slice_get plans k ≡ Some planned
+      → IsPlanned stock Usable job.destination job.trees planned
+  planned_at [] plans k job planned all e f = absurd (cc)
+  planned_at (w ∷ works) [] k job planned all e f = absurd all
+  planned_at (w ∷ works) (x ∷ plans) zero job planned all e f =
+      let same : w ≡ job = cc in
+      let also : x ≡ planned = cc in
+      subst (λ (j : Work). IsPlanned stock Usable j.destination j.trees planned) same (subst (λ y. IsPlanned stock Usable w.destination w.trees y) also all.0)
+  planned_at (w ∷ works) (x ∷ plans) (suc k) job planned all e f = planned_at works plans k job planned all.1 e f
+
+  -- each job has one, and there are no others
+  pub plans_even : (works : List Work) (plans : List Planned) → AllPlanned stock Usable works plans → length plans ≡ length works
+  plans_even [] [] all = refl
+  plans_even [] (x ∷ plans) all = absurd all
+  plans_even (w ∷ works) [] all = absurd all
+  plans_even (w ∷ works) (x ∷ plans) all = ap suc (plans_even works plans all.1)
+
+  pub plan_there : (works : List Work) (plans : List Planned) (k : ℕ) (job : Work) → AllPlanned stock Usable works plans → slice_get works k ≡ Some job → (planned : Planned) × (slice_get plans k ≡ Some planned)
+  plan_there [] plans k job all e = absurd (cc)
+  plan_there (w ∷ works) [] k job all e = absurd all
+  plan_there (w ∷ works) (x ∷ plans) zero job all e = (x, refl)
+  plan_there (w ∷ works) (x ∷ plans) (suc k) job all e = plan_there works plans k job all.1 e
+
+  pub job_there : (works : List Work) (plans : List Planned) (k : ℕ) (planned : Planned) → AllPlanned stock Usable works plans → slice_get plans k ≡ Some planned → (job : Work) × (slice_get works k ≡ Some job)
+  job_there [] [] k planned all e = absurd (cc)
+  job_there [] (x ∷ plans) k planned all e = absurd all
+  job_there (w ∷ works) [] k planned all e = absurd all
+  job_there (w ∷ works) (x ∷ plans) zero planned all e = (w, refl)
+  job_there (w ∷ works) (x ∷ plans) (suc k) planned all e = job_there works plans k planned all.1 e
 
 -- ---- one job
 
-module _ (stock : Stock) where
-  no_choices : (jobs : List Work) → jobs_steps stock jobs [] ≡ []
-  no_choices [] = refl
-  no_choices (job ∷ jobs) = refl
+module _ (stock : ℕ → Stock) where
+  no_plans : (jobs : List Work) → steps_in stock jobs [] ≡ []
+  no_plans [] = refl
+  no_plans (job ∷ jobs) = refl
 
-  -- no job of this number, or no cover
-  pub jobless : (works : List Work) (choices : List Choice) (tree : ℕ) (steps : List Step) → length works ≤ tree
-      → steps ≡ steps ++ jobs_steps stock (job_list (slice_get works tree)) (choices_of (slice_get choices tree))
-  jobless works choices tree steps le =
-      sym (append-nil steps) ∙ ap (λ (o : Option Work). steps ++ jobs_steps stock (job_list o) (choices_of (slice_get choices tree))) (sym (slice_get_past works tree le))
+  -- no job of this number, or no plan
+  pub jobless : (works : List Work) (plans : List Planned) (tree : ℕ) (steps : List Step) → length works ≤ tree
+      → steps ≡ steps ++ steps_in stock (job_list (slice_get works tree)) (plans_of (slice_get plans tree))
+  jobless works plans tree steps le =
+      sym (append-nil steps) ∙ ap (λ (o : Option Work). steps ++ steps_in stock (job_list o) (plans_of (slice_get plans tree))) (sym (slice_get_past works tree le))
 
-  pub coverless : (works : List Work) (choices : List Choice) (tree : ℕ) (steps : List Step) → length choices ≤ tree
-      → steps ≡ steps ++ jobs_steps stock (job_list (slice_get works tree)) (choices_of (slice_get choices tree))
-  coverless works choices tree steps le =
+  pub planless : (works : List Work) (plans : List Planned) (tree : ℕ) (steps : List Step) → length plans ≤ tree
+      → steps ≡ steps ++ steps_in stock (job_list (slice_get works tree)) (plans_of (slice_get plans tree))
+  planless works plans tree steps le =
       sym (append-nil steps)
-      ∙ ap (λ (more : List Step). steps ++ more) (sym (no_choices (job_list (slice_get works tree))))
-      ∙ ap (λ (o : Option Choice). steps ++ jobs_steps stock (job_list (slice_get works tree)) (choices_of o)) (sym (slice_get_past choices tree le))
-
-  -- the chosen cover of a job
-  pub chosen_at : (works : List Work) (choices : List Choice) (k : ℕ) (job : Work) (choice : Choice) → AllChosen stock works choices → slice_get works k ≡ Some job → slice_get choices k ≡ Some choice
-      → IsChosen stock job.destination job.trees choice
-  chosen_at [] choices k job choice all e f = absurd (cc)
-  chosen_at (w ∷ works) [] k job choice all e f = absurd all
-  chosen_at (w ∷ works) (x ∷ choices) zero job choice all e f =
-      let same : w ≡ job = cc in
-      let also : x ≡ choice = cc in
-      subst (λ (j : Work). IsChosen stock j.destination j.trees choice) same (subst (λ y. IsChosen stock w.destination w.trees y) also all.0)
-  chosen_at (w ∷ works) (x ∷ choices) (suc k) job choice all e f = chosen_at works choices k job choice all.1 e f
+      ∙ ap (λ (more : List Step). steps ++ more) (sym (no_plans (job_list (slice_get works tree))))
+      ∙ ap (λ (o : Option Planned). steps ++ steps_in stock (job_list (slice_get works tree)) (plans_of o)) (sym (slice_get_past plans tree le))
 
   -- the steps of the cover of a job
-  pub covered_steps : (works : List Work) (choices : List Choice) (k : ℕ) (job : Work) (choice : Choice) (tree : Term) (steps : List Step) → slice_get works k ≡ Some job → slice_get choices k ≡ Some choice
-      → slice_get job.trees choice.which ≡ Some tree → steps ≡ cover_steps stock job.destination tree choice.plan
-      → steps ≡ jobs_steps stock (job_list (slice_get works k)) (choices_of (slice_get choices k))
-  covered_steps works choices k job choice tree steps has covers used are =
-      are ∙ ap (λ (o : Option Term). cover_steps stock job.destination (tree_or_none o) choice.plan) (sym used)
-      ∙ sym (append-nil (job_steps stock job choice))
-      ∙ ap (λ (o : Option Work). jobs_steps stock (job_list o) (choice ∷ [])) (sym has)
-      ∙ ap (λ (o : Option Choice). jobs_steps stock (job_list (slice_get works k)) (choices_of o)) (sym covers)
+  pub covered_steps : (works : List Work) (plans : List Planned) (k : ℕ) (job : Work) (planned : Planned) (tree : Term) (steps : List Step) → slice_get works k ≡ Some job → slice_get plans k ≡ Some planned
+      → slice_get job.trees planned.choice.which ≡ Some tree → steps ≡ cover_steps (stock planned.mode) job.destination tree planned.choice.plan
+      → steps ≡ steps_in stock (job_list (slice_get works k)) (plans_of (slice_get plans k))
+  covered_steps works plans k job planned tree steps has covers used are =
+      are ∙ ap (λ (o : Option Term). cover_steps (stock planned.mode) job.destination (tree_or_none o) planned.choice.plan) (sym used)
+      ∙ sym (append-nil (job_steps (stock planned.mode) job planned.choice))
+      ∙ ap (λ (o : Option Work). steps_in stock (job_list o) (planned ∷ [])) (sym has)
+      ∙ ap (λ (o : Option Planned). steps_in stock (job_list (slice_get works k)) (plans_of o)) (sym covers)
 
   -- where no assignment stands there are no steps
-  pub placeless : (works : List Work) (choices : List Choice) (flow : List Flow) (at : ℕ) (steps : List Step) → length flow ≤ at
-      → steps ≡ steps ++ jobs_steps stock (job_at works (slice_get flow at)) (choice_at choices (slice_get flow at))
-  placeless works choices flow at steps le =
-      sym (append-nil steps) ∙ ap (λ (o : Option Flow). steps ++ jobs_steps stock (job_at works o) (choice_at choices o)) (sym (slice_get_past flow at le))
+  pub placeless : (works : List Work) (plans : List Planned) (flow : List Flow) (at : ℕ) (steps : List Step) → length flow ≤ at
+      → steps ≡ steps ++ steps_in stock (job_at works (slice_get flow at)) (plan_at plans (slice_get flow at))
+  placeless works plans flow at steps le =
+      sym (append-nil steps) ∙ ap (λ (o : Option Flow). steps ++ steps_in stock (job_at works o) (plan_at plans o)) (sym (slice_get_past flow at le))
 
-  pub unassigned : (works : List Work) (choices : List Choice) (o : Option Flow) (f : Flow) (steps : List Step) → o ≡ Some f → ((tree : ℕ) → f ≡ Assign tree → ⊥)
-      → steps ≡ steps ++ jobs_steps stock (job_at works o) (choice_at choices o)
-  unassigned works choices o f steps at none = by f none ∙ ap (λ (p : Option Flow). steps ++ jobs_steps stock (job_at works p) (choice_at choices p)) (sym at)
+  pub unassigned : (works : List Work) (plans : List Planned) (o : Option Flow) (f : Flow) (steps : List Step) → o ≡ Some f → ((tree : ℕ) → f ≡ Assign tree → ⊥)
+      → steps ≡ steps ++ steps_in stock (job_at works o) (plan_at plans o)
+  unassigned works plans o f steps at none = by f none ∙ ap (λ (p : Option Flow). steps ++ steps_in stock (job_at works p) (plan_at plans p)) (sym at)
     where
-      by : (g : Flow) → ((tree : ℕ) → g ≡ Assign tree → ⊥) → steps ≡ steps ++ jobs_steps stock (job_at works (Some g)) (choice_at choices (Some g))
+      by : (g : Flow) → ((tree : ℕ) → g ≡ Assign tree → ⊥) → steps ≡ steps ++ steps_in stock (job_at works (Some g)) (plan_at plans (Some g))
       by (Assign tree) no_tree = absurd (no_tree tree refl)
       by (Test tree one none) no_tree = sym (append-nil steps)
       by (Jump to) no_tree = sym (append-nil steps)
@@ -72,46 +97,46 @@ module _ (stock : Stock) where
 
   -- ---- one place more
 
-  steps_on : (xs ys : List Work) (cs ds : List Choice) → length cs ≡ length xs → jobs_steps stock (xs ++ ys) (cs ++ ds) ≡ jobs_steps stock xs cs ++ jobs_steps stock ys ds
-  steps_on [] ys [] ds e = refl
-  steps_on [] ys (c ∷ cs) ds e = absurd (omega arith)
-  steps_on (x ∷ xs) ys [] ds e = absurd (omega arith)
-  steps_on (x ∷ xs) ys (c ∷ cs) ds e =
-      ap (λ (more : List Step). job_steps stock x c ++ more) (steps_on xs ys cs ds (omega arith))
-      ∙ sym (append_assoc (job_steps stock x c) (jobs_steps stock xs cs) (jobs_steps stock ys ds))
+  steps_on : (xs ys : List Work) (ps qs : List Planned) → length ps ≡ length xs → steps_in stock (xs ++ ys) (ps ++ qs) ≡ steps_in stock xs ps ++ steps_in stock ys qs
+  steps_on [] ys [] qs e = refl
+  steps_on [] ys (p ∷ ps) qs e = absurd (omega arith)
+  steps_on (x ∷ xs) ys [] qs e = absurd (omega arith)
+  steps_on (x ∷ xs) ys (p ∷ ps) qs e =
+      ap (λ (more : List Step). job_steps (stock p.mode) x p.choice ++ more) (steps_on xs ys ps qs (omega arith))
+      ∙ sym (append_assoc (job_steps (stock p.mode) x p.choice) (steps_in stock xs ps) (steps_in stock ys qs))
 
-  even_at : (works : List Work) (choices : List Choice) (k : ℕ) → length choices ≡ length works → length (choices_of (slice_get choices k)) ≡ length (job_list (slice_get works k))
-  even_at [] [] k e = refl
-  even_at [] (c ∷ choices) k e = absurd (omega arith)
-  even_at (x ∷ works) [] k e = absurd (omega arith)
-  even_at (x ∷ works) (c ∷ choices) zero e = refl
-  even_at (x ∷ works) (c ∷ choices) (suc k) e = even_at works choices k (omega arith)
+even_at : (works : List Work) (plans : List Planned) (k : ℕ) → length plans ≡ length works → length (plans_of (slice_get plans k)) ≡ length (job_list (slice_get works k))
+even_at [] [] k e = refl
+even_at [] (p ∷ plans) k e = absurd (omega arith)
+even_at (x ∷ works) [] k e = absurd (omega arith)
+even_at (x ∷ works) (p ∷ plans) zero e = refl
+even_at (x ∷ works) (p ∷ plans) (suc k) e = even_at works plans k (omega arith)
 
-  module _ (works : List Work) (choices : List Choice) (even : length choices ≡ length works) where
-    even_place : (o : Option Flow) → length (choice_at choices o) ≡ length (job_at works o)
-    even_place None = refl
-    even_place (Some (Assign tree)) = even_at works choices tree even
-    even_place (Some (Test tree one none)) = refl
-    even_place (Some (Jump to)) = refl
-    even_place (Some End) = refl
+module _ (works : List Work) (plans : List Planned) (even : length plans ≡ length works) where
+  pub even_place : (o : Option Flow) → length (plan_at plans o) ≡ length (job_at works o)
+  even_place None = refl
+  even_place (Some (Assign tree)) = even_at works plans tree even
+  even_place (Some (Test tree one none)) = refl
+  even_place (Some (Jump to)) = refl
+  even_place (Some End) = refl
 
-    even_places : (flow : List Flow) (at n : ℕ) → length (choices_at flow choices at n) ≡ length (jobs_at flow works at n)
-    even_places flow at zero = refl
-    even_places flow at (suc n) =
-        let here = even_place (slice_get flow (at + n)) in
-        let before = even_places flow at n in
-        length-append (choices_at flow choices at n) (choice_at choices (slice_get flow (at + n)))
-        ∙ (λ i. before i + here i)
-        ∙ sym (length-append (jobs_at flow works at n) (job_at works (slice_get flow (at + n))))
+  pub even_places : (flow : List Flow) (at n : ℕ) → length (plans_at flow plans at n) ≡ length (jobs_at flow works at n)
+  even_places flow at zero = refl
+  even_places flow at (suc n) =
+      let here = even_place (slice_get flow (at + n)) in
+      let before = even_places flow at n in
+      length-append (plans_at flow plans at n) (plan_at plans (slice_get flow (at + n)))
+      ∙ (λ i. before i + here i)
+      ∙ sym (length-append (jobs_at flow works at n) (job_at works (slice_get flow (at + n))))
 
-    pub place_more : (flow : List Flow) (at n : ℕ) (old new : List Step) → old ≡ jobs_steps stock (jobs_at flow works at n) (choices_at flow choices at n)
-        → new ≡ old ++ jobs_steps stock (job_at works (slice_get flow (at + n))) (choice_at choices (slice_get flow (at + n)))
-        → new ≡ jobs_steps stock (jobs_at flow works at (n + 1)) (choices_at flow choices at (n + 1))
-    place_more flow at n old new before more =
-        more
-        ∙ ap (λ (steps : List Step). steps ++ jobs_steps stock (job_at works (slice_get flow (at + n))) (choice_at choices (slice_get flow (at + n)))) before
-        ∙ sym (steps_on (jobs_at flow works at n) (job_at works (slice_get flow (at + n))) (choices_at flow choices at n) (choice_at choices (slice_get flow (at + n))) (even_places flow at n))
-        ∙ ap (λ (k : ℕ). jobs_steps stock (jobs_at flow works at k) (choices_at flow choices at k)) (sym (add-one n))
+  pub place_more : (stock : ℕ → Stock) (flow : List Flow) (at n : ℕ) (old new : List Step) → old ≡ steps_in stock (jobs_at flow works at n) (plans_at flow plans at n)
+      → new ≡ old ++ steps_in stock (job_at works (slice_get flow (at + n))) (plan_at plans (slice_get flow (at + n)))
+      → new ≡ steps_in stock (jobs_at flow works at (n + 1)) (plans_at flow plans at (n + 1))
+  place_more stock flow at n old new before more =
+      more
+      ∙ ap (λ (steps : List Step). steps ++ steps_in stock (job_at works (slice_get flow (at + n))) (plan_at plans (slice_get flow (at + n)))) before
+      ∙ sym (steps_on stock (jobs_at flow works at n) (job_at works (slice_get flow (at + n))) (plans_at flow plans at n) (plan_at plans (slice_get flow (at + n))) (even_places flow at n))
+      ∙ ap (λ (k : ℕ). steps_in stock (jobs_at flow works at k) (plans_at flow plans at k)) (sym (add-one n))
 
 -- ---- blocks
 

@@ -1,62 +1,60 @@
--- The image of a program whose jobs are covered.
+-- The image of a program whose jobs have their plans.
 use Rattle.std.proofs.Common.{◌≡◌, ℕ, ◌≤◌, List, length, sym, ap, subst, ◌∙◌, arith}
 use Rattle.std.proofs.lemmas.List.{length-map}
+use Rattle.net_model.specs.ModeRules.{base_at}
 use Rattle.net_model.specs.Nets.{memory_size, word_width}
-use Rattle.net_model.specs.Patterns.{ArePatterns, Pattern}
 use Rattle.src_model.specs.Rules.{temp_count}
 use Rattle.code_model.specs.declared.image.Image.{Image}
 use Rattle.code_model.specs.declared.image.Word.{Word}
 use Rattle.code_model.specs.Layout.{variables_of}
 use Rattle.code_model.specs.Places.{Apart, places_from, words_of}
-use Rattle.form_model.specs.Covers.{Choice}
+use Rattle.form_model.specs.Live.{regs_of}
 use Rattle.form_model.specs.Rules.{Rule}
-use Rattle.form_set.specs.Listing.{AreForms}
+use Rattle.form_set.specs.Listing.{greatest_reach}
+use Rattle.mode_set.specs.Costs.{Planned}
+use Rattle.mode_set.specs.Keeping.{IsModeRegister, Isas}
 use Rattle.src_trees.specs.Flows.{program_flow}
 use Rattle.branch_fix.specs.declared.laid.Laid.{Laid}
 use Rattle.branch_fix.specs.Bounds.{program_bound}
 use Rattle.branch_fix.specs.Laid.{IsLaid, Outline}
 use Rattle.branch_fix.specs.Marked.{AreMarked}
-use Rattle.right_code.specs.Covered.{AllChosen, job_costs, numbered}
+use Rattle.right_code.specs.Covered.{ArePlans, numbered, plan_costs}
 use Rattle.right_code.specs.Images.{IsMadeFor}
-use Rattle.right_code.specs.Tasks.{Task, task_stock, task_works}
+use Rattle.right_code.specs.Tasks.{Task, task_works}
 use Rattle.right_code.specs.Words.{ListItems, StandItems}
 use Rattle.compaction.specs.declared.packer.PackedBlock.{PackedBlock}
 use Rattle.net_code.specs.Inner.Coded.{AreItemWords, IsBlockCode, groups_at, words_at}
+use Rattle.net_code.specs.Inner.Views.{mode_bits}
 use Rattle.net_code.proofs.Making.{blocks_made, tests_made, words_long, words_list, sizes, words_stand}
 
 -- what is laid out for a task with these blocks
-abbrev pub task_outline : Task → List Rule → ℕ → List ℕ → List (ℕ × ℕ) → ℕ → ℕ → Outline
-task_outline task rules reach sizes branches words bound =
-    record { flow = program_flow task.listing; sizes = sizes; branches = branches; rules = rules; reach = reach; words = words; bound = bound }
+abbrev pub task_outline : Task → List Rule → List ℕ → List (ℕ × ℕ) → ℕ → ℕ → Outline
+task_outline task rules sizes branches words bound =
+    record { flow = program_flow task.listing; sizes = sizes; branches = branches; rules = rules; reach = greatest_reach rules; words = words; bound = bound }
 
-module _ (task : Task) (patterns : List Pattern) (are : ArePatterns task.netlist patterns) (rules : List Rule) (reach : ℕ) (forms : AreForms task.netlist patterns rules reach)
-    (choices : List Choice) (chosen : AllChosen (task_stock rules task) (task_works task) choices) where
+module _ (task : Task) (isas : Isas task.netlist) (register : IsModeRegister task.netlist.special (base_at task.netlist 0)) (plans : List Planned) (planned : ArePlans task isas plans) where
   module _ (blocks : List PackedBlock) (branches : List (ℕ × ℕ))
-      (code : IsBlockCode task.netlist patterns (task_stock rules task) (program_flow task.listing) (task_works task) choices (length (program_flow task.listing)) blocks branches)
-      (laid : Laid) (most bound : ℕ) (is : IsLaid (task_outline task rules reach (sizes blocks) branches most bound) laid)
-      (bound_is : bound ≡ program_bound task.listing (job_costs (task_works task) choices))
-      (image : Image) (items : AreItemWords task.netlist patterns blocks laid.items image.words) where
+      (code : IsBlockCode task isas (program_flow task.listing) (task_works task) plans (length (program_flow task.listing)) blocks branches)
+      (laid : Laid) (most bound : ℕ) (is : IsLaid (task_outline task (isas 0).rules (sizes blocks) branches most bound) laid)
+      (bound_is : bound ≡ program_bound task.listing (plan_costs (task_works task) plans))
+      (image : Image) (items : AreItemWords (base_at task.netlist 0) (isas 0).patterns (regs_of (mode_bits task.netlist.special)) blocks laid.items image.words) where
     long : length (words_of image) ≡ length laid.items
-    long = length-map image.words (λ (w : Word). w.word) ∙ words_long task.netlist patterns blocks laid.items image.words items
+    long = length-map image.words (λ (w : Word). w.word) ∙ words_long (base_at task.netlist 0) (isas 0).patterns (regs_of (mode_bits task.netlist.special)) blocks laid.items image.words items
 
-    pub image_made : image.marks ≡ laid.marks → image.costs ≡ numbered 0 (job_costs (task_works task) choices) → image.bits ≡ word_width task.netlist
+    pub image_made : image.marks ≡ laid.marks → image.costs ≡ numbered 0 (plan_costs (task_works task) plans) → image.bits ≡ word_width task.netlist
         → image.temps ≡ temp_count task.width task.listing → image.places ≡ places_from (temp_count task.width task.listing) (variables_of task.listing.vars)
-        → Apart image.temps image.places (memory_size task.netlist.storages) → (made : IsMadeFor task image) × (length (words_of image) ≤ made.reach)
+        → Apart image.temps image.places (memory_size task.netlist.storages) → (made : IsMadeFor task image) × (length (words_of image) ≤ greatest_reach (made.isas 0).rules)
     image_made marks costs bits temps places apart =
         let whole = is.long in
         let most_words = is.most in
         let reaches = is.reached in
-        let le : length (words_of image) ≤ reach = omega (arith, long, whole, most_words, reaches) in (
+        let le : length (words_of image) ≤ greatest_reach (isas 0).rules = omega (arith, long, whole, most_words, reaches) in (
           record {
-            patterns = patterns;
-            are = are;
-            rules = rules;
-            reach = reach;
-            forms = forms;
+            isas = isas;
             bits = bits;
             layout = record { temps = temps; places = places ∙ ap (λ n. places_from n (variables_of task.listing.vars)) (sym temps); apart = apart };
-            choices = choices;
-            chosen = chosen;
+            plans = plans;
+            planned = planned;
             costs = costs;
             sizes = sizes blocks;
             settings = branches;
@@ -64,14 +62,15 @@ module _ (task : Task) (patterns : List Pattern) (are : ArePatterns task.netlist
             settled = is.settled;
             groups = groups_at blocks;
             words = words_at blocks;
-            blocks = blocks_made task.netlist patterns (task_stock rules task) (program_flow task.listing) (task_works task) choices blocks branches code is.parts is.settled;
-            tests = tests_made task.netlist patterns (task_stock rules task) (program_flow task.listing) (task_works task) choices blocks branches code is.parts is.settled;
-            stand = subst (StandItems task.netlist patterns (words_at blocks) (words_of image) 0) is.items (words_stand task.netlist patterns blocks laid.items image.words items);
+            blocks = blocks_made task isas (program_flow task.listing) (task_works task) plans blocks branches code is.parts is.settled;
+            tests = tests_made task isas (program_flow task.listing) (task_works task) plans blocks branches code is.parts is.settled;
+            stand = subst (StandItems (base_at task.netlist 0) task.netlist.special (isas 0).patterns (words_at blocks) (words_of image) 0) is.items
+                (words_stand (base_at task.netlist 0) (isas 0).patterns task.netlist.special register blocks laid.items image.words items);
             long = long ∙ is.long;
             marks = marks ∙ is.marks;
             marked = subst (λ ms. AreMarked (program_flow task.listing) (length (words_of image)) ms) (sym marks) (subst (λ n. AreMarked (program_flow task.listing) n laid.marks) (sym long) is.marked);
             most = omega (arith, long, is.most, bound_is);
-            lists = subst (λ xs. ListItems (groups_at blocks) xs image.words) is.items (words_list task.netlist patterns blocks laid.items image.words items);
+            lists = subst (λ xs. ListItems (groups_at blocks) xs image.words) is.items (words_list (base_at task.netlist 0) (isas 0).patterns (regs_of (mode_bits task.netlist.special)) blocks laid.items image.words items);
           },
           le,
         )

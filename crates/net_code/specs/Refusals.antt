@@ -1,15 +1,14 @@
 -- Why a task has no code. Everything here is of a task.
+use Rattle.form_model.specs.Rules.{kind_of}
+use Rattle.mode_set.specs.Keeping.{Isa}
 use Rattle.std.specs.Prelude.{ℕ, ◌≡◌, ◌≤◌, ◌<◌, length, List, true, false}
 use Rattle.std.specs.List.{list_all}
 use Rattle.form_model.specs.declared.forms.Form.{Form}
-use Rattle.form_model.specs.Rules.{kind_of}
-use Rattle.form_set.specs.Promises.{is_control_goal, is_no_jump}
+use Rattle.form_set.specs.Promises.{is_control_goal, is_no_jump, no_jumps, only_control}
 use Rattle.net_model.specs.CheckedRules.{code_size}
 use Rattle.net_model.specs.declared.hardware.Netlist.{Netlist}
-use Rattle.net_model.specs.Patterns.{IsPattern, Pattern}
 use Rattle.code_model.specs.declared.image.Image.{Image}
 use Rattle.code_model.specs.Places.{words_of}
-use Rattle.form_set.specs.Listing.{IsJump, IsPlain}
 use Rattle.right_code.specs.Bounded.{HasBound}
 use Rattle.right_code.specs.Covered.{HasBareTree, HasCovers}
 use Rattle.right_code.specs.Images.{IsMadeFor}
@@ -19,14 +18,15 @@ use Rattle.net_code.specs.declared.fault.CodeFault.TheVariants.{NoStep, NoJump, 
 
 -- ---- what a netlist or a program lacks
 
--- no pattern of the netlist gives a form that is no jump and no branch; so there is none in the
--- list of its forms
-abbrev pub IsStepless : Netlist → Type 0
-IsStepless netlist = (pattern : Pattern) → IsPattern netlist pattern → IsPlain netlist pattern → ⊥
+-- each form of mode 0 that keeps the mode is a jump or a branch
+pub record IsStepless (netlist : Netlist) : Type 0 where
+  pub isa : Isa netlist 0
+  pub control : only_control isa.rules ≡ true
 
--- no pattern of the netlist gives a jump
-abbrev pub IsJumpless : Netlist → Type 0
-IsJumpless netlist = (pattern : Pattern) → IsPattern netlist pattern → IsJump netlist pattern → ⊥
+-- none of them is a jump
+pub record IsJumpless (netlist : Netlist) : Type 0 where
+  pub isa : Isa netlist 0
+  pub jumpless : no_jumps isa.rules ≡ true
 
 -- the code may be longer than the jumps reach, and these are the numbers
 pub record IsBeyondReach (bound reach : ℕ) (task : Task) : Type 0 where

@@ -1,20 +1,22 @@
 //! The covers of a program's jobs, and their costs.
 
-ghost use Rattle.std.specs.Prelude.{◌≡◌, ◌<◌, ◌^◌, IfOk, IfErr, IfSome, length, map, option_map};
+ghost use Rattle.std.specs.Prelude.{◌≡◌, ◌+◌, ◌<◌, ◌^◌, IfOk, IfErr, IfSome, length, map, option_map};
 ghost use Rattle.std.specs.List.{AllByRecursion};
 ghost use Rattle.code_model.specs.ImageFits.{CostFits};
 ghost use Rattle.cover.specs.Best.{choice_of};
-ghost use Rattle.form_model.specs.Covers.{stock_with};
-ghost use Rattle.cover.specs.declared.covers.JobCover.{JobCover as TheCover};
-ghost use Rattle.form_model.specs.Covers.{IsChosen, job_cost};
+ghost use Rattle.form_model.specs.Covers.{stock_with, job_cost};
 ghost use Rattle.src_trees.specs.Jobs.{work_of, works_of};
-ghost use Rattle.right_code.specs.Covered.{AllChosen, job_costs, numbered};
+ghost use Rattle.mode_set.specs.Costs.{IsPlanned, mode_words};
+ghost use Rattle.mode_set.specs.Plans.{UsableAt, planned_of, stock_at};
+ghost use Rattle.right_code.specs.Covered.{AllPlanned, numbered, plan_costs};
+ghost use Rattle.net_code.specs.Inner.Planning.{told_costs};
 ghost use Rattle.net_code.specs.Inner.Uncovered.{IsOneBare, IsUncovered};
 ghost use Rattle.net_code.specs.Trials.{IsTried};
 
 use crate::fault::CodeFault;
 use cover::{CoverFault, JobCover, cover};
 use form_model::{Forms, Job};
+use mode_set::{Plan, plan_job};
 use rec_bits::{Items, NoMemory};
 use std::alloc::Global;
 
@@ -38,47 +40,52 @@ pub fn chosen_cover(
     }
 }
 
-// The chosen cover of the job of this number.
-fn cover_one(
+// The mode and the cover of the job of this number.
+fn plan_one(
     alloc: Global,
-    forms: &Forms,
+    forms: &[Forms],
+    usable: &[bool],
     job: &Job,
     temps: u32,
     number: u32,
-) -> Result<JobCover, CodeFault>
-    ensures chosen { IfOk result (λ c. IsChosen (stock_with forms.now.list.items temps forms.now.file)
-        (work_of job.now).destination (work_of job.now).trees (choice_of c)) }
-    ensures cost { IfOk result (λ c. c.cost ≡ job_cost (work_of job.now).destination (choice_of c).plan) }
-    ensures refused { IfErr result (IsOneBare (stock_with forms.now.list.items temps forms.now.file) (work_of job.now) number) }
+) -> Result<Plan, CodeFault>
+    requires { length usable.now ≡ length forms.now }
+    ensures planned { IfOk result (λ plan. IsPlanned (stock_at forms.now temps) (UsableAt usable.now)
+        (work_of job.now).destination (work_of job.now).trees (planned_of plan)) }
+    ensures cost { IfOk result (λ plan. plan.cover.cost ≡ job_cost (work_of job.now).destination (planned_of plan).choice.plan) }
+    ensures refused { IfErr result (IsOneBare (stock_at forms.now temps) (UsableAt usable.now) (work_of job.now) number) }
 {
-    match chosen_cover(alloc, forms, job, temps)? {
-        Some(chosen) => Ok(chosen),
-        None => Err(CodeFault::NoCover(number)),
+    match plan_job(alloc, forms, usable, job, temps) {
+        Ok(plan) => Ok(plan),
+        Err(CoverFault::NoCover) => Err(CodeFault::NoCover(number)),
+        Err(CoverFault::Memory) => Err(CodeFault::Memory),
     }
 }
 
-/// The chosen cover of each job, in their order, where so many temporary cells are used. `NoCover`
-/// comes exactly where a job has no orderly cover, with the number of the first; `Memory` is want
-/// of memory.
-pub(crate) fn covers_of(
+/// The mode of each job and its chosen cover there, in their order, where so many temporary cells
+/// are used. `NoCover` comes exactly where a job has no orderly cover in a mode in which it may run,
+/// with the number of the first; `Memory` is want of memory.
+pub(crate) fn plans_of(
     alloc: Global,
-    forms: &Forms,
+    forms: &[Forms],
+    usable: &[bool],
     jobs: &[Job],
     temps: u32,
-) -> Result<Vec<JobCover>, CodeFault>
-    requires { length jobs.now < 2 ^ 32 }
-    ensures chosen { IfOk result (λ covers.
-        AllChosen (stock_with forms.now.list.items temps forms.now.file) (works_of jobs.now) (map choice_of covers.items)) }
-    ensures costs { IfOk result (λ covers.
-        map (λ (c : TheCover). c.cost) covers.items ≡ job_costs (works_of jobs.now) (map choice_of covers.items)) }
-    ensures refused { IfErr result (IsUncovered (stock_with forms.now.list.items temps forms.now.file) (works_of jobs.now)) }
+) -> Result<Vec<Plan>, CodeFault>
+    requires usable { length usable.now ≡ length forms.now }
+    requires jobs { length jobs.now < 2 ^ 32 }
+    ensures planned { IfOk result (λ plans. AllPlanned (stock_at forms.now temps) (UsableAt usable.now)
+        (works_of jobs.now) (map planned_of plans.items)) }
+    ensures costs { IfOk result (λ plans.
+        told_costs plans.items ≡ plan_costs (works_of jobs.now) (map planned_of plans.items)) }
+    ensures refused { IfErr result (IsUncovered (stock_at forms.now temps) (UsableAt usable.now) (works_of jobs.now)) }
 {
-    let mut covers = Vec::new(alloc);
+    let mut plans = Vec::new(alloc);
     for job in jobs {
-        let chosen = cover_one(alloc, forms, job, temps, covers.len() as u32)?;
-        covers.push(chosen)?;
+        let plan = plan_one(alloc, forms, usable, job, temps, plans.len() as u32)?;
+        plans.push(plan)?;
     }
-    Ok(covers)
+    Ok(plans)
 }
 
 // A number of 32 bits, or want of memory.
@@ -91,14 +98,26 @@ fn narrow(number: u64) -> Result<u32, NoMemory>
     }
 }
 
-/// The costs of covers. Want of memory stands for a cost past 32 bits, too.
-pub(crate) fn costs_of(alloc: Global, covers: &[JobCover]) -> Result<Items<u32>, NoMemory>
-    ensures { IfOk result (λ costs. costs ≡ map (λ (c : TheCover). c.cost) covers.now) }
+// The cost of a job in its mode: 2 more than its cover's in a mode other than 0.
+fn plan_cost(plan: &Plan) -> Result<u32, NoMemory>
+    ensures { IfOk result (λ cost. cost ≡ plan.now.cover.cost + mode_words plan.now.mode) }
+{
+    if plan.mode == 0 {
+        return narrow(plan.cover.cost);
+    }
+    match plan.cover.cost.checked_add(2) {
+        Some(cost) => narrow(cost),
+        None => Err(NoMemory),
+    }
+}
+
+/// The costs of jobs in their modes. Want of memory stands for a cost past 32 bits, too.
+pub(crate) fn costs_of(alloc: Global, plans: &[Plan]) -> Result<Items<u32>, NoMemory>
+    ensures { IfOk result (λ costs. costs ≡ told_costs plans.now) }
 {
     let mut costs = Items::new(alloc);
-    for chosen in covers {
-        let cost = narrow(chosen.cost)?;
-        costs.push(cost)?;
+    for plan in plans {
+        costs.push(plan_cost(plan)?)?;
     }
     Ok(costs)
 }

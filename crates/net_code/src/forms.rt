@@ -1,6 +1,6 @@
 //! The forms of a netlist that code can be made of.
 
-ghost use Rattle.std.specs.Prelude.{◌≡◌, false, IfOk, IfErr};
+ghost use Rattle.std.specs.Prelude.{◌≡◌, false, IfOk, IfErr, None};
 ghost use Rattle.std.specs.List.{list_all};
 ghost use Rattle.bit_bdd.specs.Diagrams.{Extends};
 ghost use Rattle.net_model.specs.Patterns.{ArePatterns};
@@ -48,8 +48,8 @@ fn no_jumps(list: &[Form]) -> bool
     list.iter().all(|form| is_no_jump(form))
 }
 
-// Whether there is a form that is no jump and no branch, and a jump.
-fn check_kinds(list: &[Form]) -> Result<(), CodeFault>
+/// Whether there is a form that is no jump and no branch, and a jump.
+pub(crate) fn check_kinds(list: &[Form]) -> Result<(), CodeFault>
     ensures steps { IfOk result (λ _.
         list_all (λ (form : TheForm). is_control_goal (kind_of form.goal)) list.now ≡ false) }
     ensures jumps { IfOk result (λ _. list_all (λ (form : TheForm). is_no_jump (kind_of form.goal)) list.now ≡ false) }
@@ -64,8 +64,8 @@ fn check_kinds(list: &[Form]) -> Result<(), CodeFault>
     Ok(())
 }
 
-/// The forms of the netlist, of which one steps and one jumps, and the size of its register file;
-/// `NoStep` or `NoJump` comes exactly where none does, and `Memory` is want of memory.
+/// The forms of a netlist without modes, of which one steps and one jumps, and the size of its
+/// register file; `NoStep` or `NoJump` comes exactly where none does, and `Memory` is want of memory.
 pub fn usable_forms(
     alloc: Global,
     checked: &Checked,
@@ -73,6 +73,7 @@ pub fn usable_forms(
     pool: &Pool,
     patterns: &Patterns,
 ) -> Result<Forms, CodeFault>
+    requires plain { checked.now.netlist.special ≡ None }
     requires ready { IsReady checked.now.netlist book.old pool.now patterns.now }
     requires patterns { ArePatterns checked.now.netlist (row_patterns pool.now patterns.now.rows) }
     ensures grows { Extends book.old book.new }

@@ -1,43 +1,41 @@
 //! The image of a program for a netlist.
 
-ghost use Rattle.std.specs.Prelude.{◌≡◌, ◌+◌, ◌≤◌, ◌<◌, ◌^◌, IfOk, IfErr, length, map};
+ghost use Rattle.std.specs.Prelude.{◌≡◌, ◌+◌, ◌≤◌, ◌<◌, ◌^◌, [], ◌∷◌, ◌++◌, IfOk, IfErr, OnOk, length, map};
 ghost use Rattle.std.specs.List.{AllByRecursion};
 ghost use Rattle.net_model.specs.Nets.{memory_size};
-ghost use Rattle.net_model.specs.Patterns.{ArePatterns};
 ghost use Rattle.src_model.specs.Written.{listing_of};
 ghost use Rattle.code_model.specs.ImageFits.{CostFits, IsFitting, PlaceFits, limits_of};
 ghost use Rattle.code_model.specs.Layout.{layout_of};
 ghost use Rattle.code_model.specs.Places.{Apart};
-ghost use Rattle.transfer_set.specs.Ready.{IsReady};
-ghost use Rattle.transfer_set.specs.Rows.{row_patterns};
 ghost use Rattle.branch_fix.specs.Bounds.{bound_of, control_words, sum_of};
 ghost use Rattle.branch_fix.specs.Laid.{IsLaid, outline};
-ghost use Rattle.cover.specs.declared.covers.JobCover.{JobCover as TheCover};
-ghost use Rattle.compaction.specs.Tables.{KnowsReads};
 ghost use Rattle.compaction.specs.declared.packer.PackedBlock.{PackedBlock as TheBlock};
 ghost use Rattle.right_code.specs.Images.{IsRightImage};
-ghost use Rattle.right_code.specs.Tasks.{IsChecked, read_task};
-ghost use Rattle.net_code.specs.Machines.{machine_netlist};
+ghost use Rattle.right_code.specs.Tasks.{IsChecked, read_task, Task};
+ghost use Rattle.net_extract.specs.Extraction.{AreIsas};
+ghost use Rattle.net_extract.specs.declared.netlists.Isa.{Isa as TheIsa};
+ghost use Rattle.net_code.specs.Inner.Planning.{AddsOperations, AreMachinesOf, AreOperations, AreReady, AreReadyAll, AreViews, HasModes, IsView, costs_in, reach_at};
 ghost use Rattle.net_code.specs.Inner.Imaged.{HasTask, IsImageMade, IsLengthFault, IsTaskImage, OfTask};
-ghost use Rattle.net_code.specs.Refusals.{IsCodeFault, IsReached};
+ghost use Rattle.net_code.specs.Refusals.{IsCodeFault, IsJumpless, IsReached, IsStepless};
 
 use crate::blocks::block_code;
-use crate::covers::{cost_lines, costs_of, covers_of};
+use crate::covers::{cost_lines, costs_of, plans_of};
+use crate::cuts::mode_set;
 use crate::fault::CodeFault;
-use crate::forms::usable_forms;
 use crate::jobs::blocks_of;
-use crate::views::CoveredProgram;
+use crate::modes::{forms_by_mode, passages, usable_modes};
+use crate::views::{Modes, Operations, PlannedProgram};
 use crate::words::words_of_items;
 use bit_bdd::Book;
 use branch_fix::{Laid, LayFault, bound, lay_out};
 use code_model::{Image, Places};
 use compaction::{Machine, PackedBlock, tables_of};
-use net_model::Checked;
+use form_model::Forms;
+use net_extract::Isa as Extracted;
+use net_model::{Checked, Modes as NetModes};
 use rec_bits::{Items, NoMemory};
 use src_model::Typed;
 use std::alloc::Global;
-use sym_expr::Pool;
-use transfer_set::Patterns;
 
 // How many words each block has.
 fn sizes_of(alloc: Global, blocks: &[PackedBlock]) -> Result<Items<u32>, NoMemory>
@@ -57,26 +55,19 @@ fn sizes_of(alloc: Global, blocks: &[PackedBlock]) -> Result<Items<u32>, NoMemor
 // reach as far as the bound.
 fn laid(
     alloc: Global,
-    program: &CoveredProgram<'_>,
+    forms: &Forms,
+    program: &PlannedProgram<'_>,
     sizes: &[u32],
     branches: &[(u64, u64)],
     bound: u64,
 ) -> Result<Laid, NoMemory>
     requires within { sum_of sizes.now + control_words program.now.flow.now ≤ bound }
-    requires reach { bound ≤ program.now.forms.now.reach }
+    requires reach { bound ≤ forms.now.reach }
     ensures { IfOk result (IsLaid (outline program.now.flow.now sizes.now branches.now
-        program.now.forms.now 18446744073709551615 bound)) }
+        forms.now 18446744073709551615 bound)) }
 {
     // How long the code may be is asked of the image, so there is room here for every length.
-    match lay_out(
-        alloc,
-        program.flow,
-        sizes,
-        branches,
-        program.forms,
-        u64::MAX,
-        bound,
-    ) {
+    match lay_out(alloc, program.flow, sizes, branches, forms, u64::MAX, bound) {
         Ok(laid) => Ok(laid),
         Err(LayFault::Memory) => Err(NoMemory),
         Err(_) => unreachable!(),
@@ -86,27 +77,41 @@ fn laid(
 // The image of a program whose jumps reach as far as its bound.
 fn laid_image(
     alloc: Global,
-    machine: &Machine<'_>,
-    book: &mut Book,
-    program: &CoveredProgram<'_>,
+    modes: &Modes<'_>,
+    books: &mut [Book],
+    program: &PlannedProgram<'_>,
     places: Places,
     costs: &[u32],
     bound: u64,
 ) -> Result<Image, NoMemory>
-    requires ready { IsReady (machine_netlist machine.now) book.old machine.now.pool.now machine.now.patterns.now }
-    requires tables { KnowsReads machine.now }
-    requires task { HasTask machine.now program.now places }
-    requires costs { costs.now ≡ map (λ (c : TheCover). c.cost) program.now.covers.now }
+    requires ready { AreReady modes.now books.old }
+    requires task { HasTask modes.now program.now places }
+    requires costs { costs.now ≡ costs_in program.now }
     requires few { length costs.now < 2 ^ 32 }
     requires bound { bound ≡ bound_of program.now.flow.now costs.now }
-    requires reach { bound ≤ program.now.forms.now.reach }
-    ensures made { IfOk result (λ image. OfTask machine.now program.now places (IsImageMade program.now image)) }
+    requires reach { bound ≤ reach_at modes.now 0 }
+    ensures made { IfOk result (λ image. OfTask modes.now program.now places (IsImageMade image)) }
     ensures costs { IfOk result (λ image. AllByRecursion CostFits image.costs) }
 {
-    let code = block_code(alloc, machine, book, program)?;
+    let code = block_code(alloc, modes, books, program)?;
     let sizes = sizes_of(alloc, &code.blocks)?;
-    let laid = laid(alloc, program, sizes.as_slice(), &code.branches, bound)?;
-    let words = words_of_items(alloc, machine, book, &code.blocks, laid.items.as_slice())?;
+    let laid = laid(
+        alloc,
+        &modes.forms[0],
+        program,
+        sizes.as_slice(),
+        &code.branches,
+        bound,
+    )?;
+    let machine = &modes.machines[0];
+    let words = words_of_items(
+        alloc,
+        machine,
+        &mut books[0],
+        &code.blocks,
+        mode_set(modes),
+        laid.items.as_slice(),
+    )?;
     let costs = cost_lines(alloc, costs)?;
     Ok(Image {
         bits: machine.checked.netlist().word_width(),
@@ -122,38 +127,38 @@ fn laid_image(
 // for it.
 fn covered_image(
     alloc: Global,
-    machine: &Machine<'_>,
-    book: &mut Book,
-    program: &CoveredProgram<'_>,
+    modes: &Modes<'_>,
+    books: &mut [Book],
+    program: &PlannedProgram<'_>,
     places: Places,
 ) -> Result<Image, CodeFault>
-    requires ready { IsReady (machine_netlist machine.now) book.old machine.now.pool.now machine.now.patterns.now }
-    requires tables { KnowsReads machine.now }
-    requires task { HasTask machine.now program.now places }
-    requires few { length program.now.covers.now < 2 ^ 31 }
+    requires ready { AreReady modes.now books.old }
+    requires task { HasTask modes.now program.now places }
+    requires few { length program.now.plans.now < 2 ^ 31 }
     requires places { length program.now.flow.now ≤ 2 ^ 32 }
     requires named { AllByRecursion PlaceFits places.list }
-    ensures right { IfOk result (λ image. OfTask machine.now program.now places (IsTaskImage image)) }
-    ensures fits { IfOk result (IsFitting (limits_of (machine_netlist machine.now))) }
-    ensures refused { IfErr result (λ fault. OfTask machine.now program.now places (IsLengthFault fault)) }
+    ensures right { IfOk result (λ image. OfTask modes.now program.now places (IsTaskImage image)) }
+    ensures fits { IfOk result (λ image. OfTask modes.now program.now places
+        (λ (task : Task). IsFitting (limits_of task.netlist) image)) }
+    ensures refused { IfErr result (λ fault. OfTask modes.now program.now places (IsLengthFault fault)) }
 {
-    let costs = costs_of(alloc, program.covers)?;
+    let costs = costs_of(alloc, program.plans)?;
     let bound = bound(program.flow, costs.as_slice());
-    let reach = program.forms.reach;
+    let reach = modes.forms[0].reach;
     if bound > reach {
         return Err(CodeFault::NoReach { bound, reach });
     }
     let image = laid_image(
         alloc,
-        machine,
-        book,
+        modes,
+        books,
         program,
         places,
         costs.as_slice(),
         bound,
     )?;
     let len = image.words.len() as u64;
-    let size = u64::from(machine.checked.netlist().code_size());
+    let size = u64::from(modes.machines[0].checked.netlist().code_size());
     if len > size {
         // as one step, where its parts would be let go one by one
         drop(image);
@@ -162,45 +167,161 @@ fn covered_image(
     Ok(image)
 }
 
-/// The image of a program that was checked for the words of the netlist's data memory, whose
-/// variables stand at the places of its layout.
-pub fn image_of(
+// Adds the book of a mode to those of the modes before, and apart from it its patterns with what
+// they read.
+fn push_apart(
     alloc: Global,
-    checked: &Checked,
-    book: &mut Book,
-    pool: &Pool,
-    patterns: &Patterns,
+    isa: Extracted,
+    books: &mut Vec<Book>,
+    rest: &mut Vec<Operations>,
+) -> Result<(), NoMemory>
+    ensures book { OnOk result (books.new.items ≡ books.old.items ++ isa.book ∷ []) }
+    ensures rest { OnOk result (AddsOperations isa rest.old.items rest.new.items) }
+{
+    let tables = tables_of(alloc, &isa.pool)?;
+    books.push(isa.book)?;
+    rest.push(Operations {
+        pool: isa.pool,
+        patterns: isa.patterns,
+        tables,
+    })?;
+    Ok(())
+}
+
+// The parts of what is extracted in each mode: the books apart from the rest.
+fn apart(
+    alloc: Global,
+    extracted: Items<Extracted>,
+) -> Result<(Vec<Book>, Vec<Operations>), NoMemory>
+    ensures books { IfOk result (λ both. both.0.items ≡ map (λ (isa : TheIsa). isa.book) extracted) }
+    ensures rest { IfOk result (λ both. AreOperations extracted both.1.items) }
+{
+    let mut books = Vec::new(alloc);
+    let mut rest = Vec::new(alloc);
+    for isa in extracted.into_vec() {
+        push_apart(alloc, isa, &mut books, &mut rest)?;
+    }
+    Ok((books, rest))
+}
+
+// What a netlist is in a mode, as code is made for it.
+fn machine_of<'a>(checked: &'a Checked, operations: &'a Operations) -> Machine<'a>
+    ensures { IsView checked.now operations.now result }
+{
+    Machine {
+        checked,
+        pool: &operations.pool,
+        patterns: &operations.patterns,
+        registers: operations.tables.registers.as_slice(),
+        memory: operations.tables.memory.as_slice(),
+    }
+}
+
+// What a netlist is in its modes.
+fn machines_of<'a>(
+    alloc: Global,
+    bases: &'a [Checked],
+    rest: &'a [Operations],
+) -> Result<Vec<Machine<'a>>, NoMemory>
+    requires { length bases.now ≡ length rest.now }
+    ensures { IfOk result (λ machines. AreViews bases.now rest.now machines.items) }
+{
+    let mut machines = Vec::new(alloc);
+    for (checked, operations) in bases.iter().zip(rest) {
+        machines.push(machine_of(checked, operations))?;
+    }
+    Ok(machines)
+}
+
+// The image of a program, where it is told what the netlist is in its modes and which of them can
+// be used.
+fn planned_image(
+    alloc: Global,
+    modes: &NetModes,
+    view: &Modes<'_>,
+    usable: &[bool],
+    books: &mut [Book],
     typed: &Typed,
     places: Places,
 ) -> Result<Image, CodeFault>
-    requires ready { IsReady checked.now.netlist book.old pool.now patterns.now }
-    requires patterns { ArePatterns checked.now.netlist (row_patterns pool.now patterns.now.rows) }
-    requires checked { IsChecked checked.now.order (read_task checked.now typed.now) }
+    requires told { HasModes view.now usable.now (read_task modes.now typed.now) }
+    requires steps { ¬ IsStepless modes.now.netlist }
+    requires jumps { ¬ IsJumpless modes.now.netlist }
+    requires ready { AreReady view.now books.old }
+    requires checked { IsChecked (read_task modes.now typed.now) }
     requires places { places ≡ layout_of typed.now.width (listing_of typed.now.program) }
-    requires apart { Apart places.temps places.list (memory_size checked.now.netlist.storages) }
+    requires apart { Apart places.temps places.list (memory_size modes.now.netlist.storages) }
     requires named { AllByRecursion PlaceFits places.list }
-    ensures right { IfOk result (IsRightImage (read_task checked.now typed.now)) }
-    ensures fits { IfOk result (IsFitting (limits_of checked.now.netlist)) }
-    ensures reached { IfOk result (λ _. IsReached (read_task checked.now typed.now)) }
-    ensures refused { IfErr result (IsCodeFault (read_task checked.now typed.now)) }
+    ensures right { IfOk result (IsRightImage (read_task modes.now typed.now)) }
+    ensures fits { IfOk result (IsFitting (limits_of modes.now.netlist)) }
+    ensures reached { IfOk result (λ _. IsReached (read_task modes.now typed.now)) }
+    ensures refused { IfErr result (IsCodeFault (read_task modes.now typed.now)) }
 {
-    let forms = usable_forms(alloc, checked, book, pool, patterns)?;
-    let blocks = blocks_of(alloc, checked, typed, &places)?;
-    let covers = covers_of(alloc, &forms, &blocks.jobs, places.temps)?;
-    let program = CoveredProgram {
-        forms: &forms,
+    let blocks = blocks_of(alloc, modes, typed, &places)?;
+    let plans = plans_of(alloc, view.forms, usable, &blocks.jobs, places.temps)?;
+    let program = PlannedProgram {
         temps: places.temps,
         flow: blocks.flow.as_slice(),
         jobs: &blocks.jobs,
-        covers: &covers,
+        plans: &plans,
     };
-    let tables = tables_of(alloc, pool)?;
-    let machine = Machine {
-        checked,
-        pool,
-        patterns,
-        registers: tables.registers.as_slice(),
-        memory: tables.memory.as_slice(),
+    covered_image(alloc, view, books, &program, places)
+}
+
+// The image of a program for what a netlist is in its modes.
+fn image_for(
+    alloc: Global,
+    modes: &NetModes,
+    machines: &[Machine<'_>],
+    books: &mut [Book],
+    typed: &Typed,
+    places: Places,
+) -> Result<Image, CodeFault>
+    requires machines { AreMachinesOf machines.now modes.now.netlist }
+    requires ready { AreReadyAll machines.now books.old }
+    requires checked { IsChecked (read_task modes.now typed.now) }
+    requires places { places ≡ layout_of typed.now.width (listing_of typed.now.program) }
+    requires apart { Apart places.temps places.list (memory_size modes.now.netlist.storages) }
+    requires named { AllByRecursion PlaceFits places.list }
+    ensures right { IfOk result (IsRightImage (read_task modes.now typed.now)) }
+    ensures fits { IfOk result (IsFitting (limits_of modes.now.netlist)) }
+    ensures reached { IfOk result (λ _. IsReached (read_task modes.now typed.now)) }
+    ensures refused { IfErr result (IsCodeFault (read_task modes.now typed.now)) }
+{
+    let netlist = modes.netlist();
+    let forms = forms_by_mode(alloc, machines, books, netlist)?;
+    let usable = usable_modes(alloc, &forms, netlist)?;
+    let passages = passages(alloc, machines, books, &forms, netlist)?;
+    let view = Modes {
+        machines,
+        forms: &forms.kept,
+        special: netlist.special,
+        passages: &passages,
     };
-    covered_image(alloc, &machine, book, &program, places)
+    planned_image(alloc, modes, &view, &usable, books, typed, places)
+}
+
+/// The image of a program that was checked for the words of the netlist's data memory, whose
+/// variables stand at the places of its layout. `extracted` has the instruction set of each mode of
+/// the netlist, in their order.
+pub fn image_of(
+    alloc: Global,
+    modes: &NetModes,
+    extracted: Items<Extracted>,
+    typed: &Typed,
+    places: Places,
+) -> Result<Image, CodeFault>
+    requires isas { AreIsas modes.now.bases extracted }
+    requires checked { IsChecked (read_task modes.now typed.now) }
+    requires places { places ≡ layout_of typed.now.width (listing_of typed.now.program) }
+    requires apart { Apart places.temps places.list (memory_size modes.now.netlist.storages) }
+    requires named { AllByRecursion PlaceFits places.list }
+    ensures right { IfOk result (IsRightImage (read_task modes.now typed.now)) }
+    ensures fits { IfOk result (IsFitting (limits_of modes.now.netlist)) }
+    ensures reached { IfOk result (λ _. IsReached (read_task modes.now typed.now)) }
+    ensures refused { IfErr result (IsCodeFault (read_task modes.now typed.now)) }
+{
+    let (mut books, rest) = apart(alloc, extracted)?;
+    let machines = machines_of(alloc, modes.bases(), &rest)?;
+    image_for(alloc, modes, &machines, &mut books, typed, places)
 }

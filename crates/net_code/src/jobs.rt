@@ -12,7 +12,7 @@ ghost use Rattle.net_code.specs.Inner.Memories.{storage_addr_bits};
 
 use code_model::Places;
 use form_model::Blocks;
-use net_model::{Checked, Storage};
+use net_model::{Checked, Modes, Storage};
 use rec_bits::NoMemory;
 use src_model::Typed;
 use src_trees::lower;
@@ -41,17 +41,17 @@ fn addr_width(checked: &Checked) -> u8
 /// netlist's data memory. The only error is want of memory.
 pub fn blocks_of(
     alloc: Global,
-    checked: &Checked,
+    modes: &Modes,
     typed: &Typed,
     places: &Places,
 ) -> Result<Blocks, NoMemory>
-    requires width { typed.now.width ≡ memory_width checked.now.netlist.storages }
+    requires width { typed.now.width ≡ memory_width modes.now.netlist.storages }
     requires places { places.now ≡ layout_of typed.now.width (listing_of typed.now.program) }
-    requires room { need_of typed.now.width (listing_of typed.now.program) ≤ memory_size checked.now.netlist.storages }
+    requires room { need_of typed.now.width (listing_of typed.now.program) ≤ memory_size modes.now.netlist.storages }
     ensures flow { IfOk result (λ blocks. blocks.flow ≡ program_flow (listing_of typed.now.program)) }
-    ensures jobs { IfOk result (λ blocks. works_of blocks.jobs.items ≡ task_works (read_task checked.now typed.now)) }
+    ensures jobs { IfOk result (λ blocks. works_of blocks.jobs.items ≡ task_works (read_task modes.now typed.now)) }
 {
-    let width = addr_width(checked);
+    let width = addr_width(modes.first());
     let blocks = lower(alloc, typed, places, width)?;
     Ok(blocks)
 }

@@ -1,14 +1,13 @@
 //! The steps of blocks and of tests.
 
-ghost use Rattle.std.specs.Prelude.{◌≡◌, ◌<◌, ◌≤◌, ◌+◌, ◌++◌, IfOk, OnOk, IfSome, Some, length, slice_get, true, false};
+ghost use Rattle.std.specs.Prelude.{◌≡◌, ◌<◌, ◌≤◌, ◌+◌, ◌++◌, IfOk, OnOk, Some, length, slice_get, true, false};
 ghost use Rattle.branch_fix.specs.Entered.{entered_places};
 ghost use Rattle.src_trees.specs.Blocks.{IsAssignBlock, continues, is_assign, job_at, job_list, jobs_at};
-ghost use Rattle.right_code.specs.Covered.{AllChosen};
-ghost use Rattle.right_code.specs.Images.{choice_at, choices_of, choices_at};
-ghost use Rattle.right_code.specs.Jobs.{jobs_steps};
-ghost use Rattle.net_code.specs.Inner.Views.{choices_in, stock_of, works_in};
+ghost use Rattle.right_code.specs.Cuts.{plan_at, plans_at, plans_of};
+ghost use Rattle.net_code.specs.Inner.Planning.{ArePlannedIn, planned_steps, plans_in, works_in};
+ghost use Rattle.net_code.specs.Inner.Views.{place_mode};
 
-use crate::views::CoveredProgram;
+use crate::views::{Modes, PlannedProgram};
 use branch_fix::continues;
 use emit_seq::emit;
 use form_model::{Flow, Step};
@@ -18,27 +17,28 @@ use std::alloc::Global;
 // Adds the steps of the job of this number, which are none where there is none.
 fn push_job(
     alloc: Global,
-    program: &CoveredProgram<'_>,
+    modes: &Modes<'_>,
+    program: &PlannedProgram<'_>,
     tree: u32,
     steps: &mut Vec<Step>,
 ) -> Result<(), NoMemory>
-    requires { AllChosen (stock_of program.now) (works_in program.now) (choices_in program.now) }
+    requires { ArePlannedIn modes.now program.now }
     ensures { OnOk result (steps.new.items ≡ steps.old.items
-        ++ jobs_steps (stock_of program.now) (job_list (slice_get (works_in program.now) tree))
-        (choices_of (slice_get (choices_in program.now) tree))) }
+        ++ planned_steps modes.now program.now.temps (job_list (slice_get (works_in program.now) tree))
+        (plans_of (slice_get (plans_in program.now) tree))) }
 {
     let Some(job) = program.jobs.get(tree as usize) else {
         return Ok(());
     };
-    let Some(chosen) = program.covers.get(tree as usize) else {
+    let Some(plan) = program.plans.get(tree as usize) else {
         return Ok(());
     };
     let emitted = emit(
         alloc,
-        program.forms,
+        &modes.forms[plan.mode as usize],
         job,
-        chosen.which,
-        &chosen.cover,
+        plan.cover.which,
+        &plan.cover.cover,
         program.temps,
     )?;
     steps.extend_from_slice(emitted.steps.as_slice())?;
@@ -49,21 +49,22 @@ fn push_job(
 // there.
 fn push_place(
     alloc: Global,
-    program: &CoveredProgram<'_>,
+    modes: &Modes<'_>,
+    program: &PlannedProgram<'_>,
     at: usize,
     steps: &mut Vec<Step>,
 ) -> Result<(), NoMemory>
-    requires { AllChosen (stock_of program.now) (works_in program.now) (choices_in program.now) }
+    requires { ArePlannedIn modes.now program.now }
     ensures { OnOk result (steps.new.items ≡ steps.old.items
-        ++ jobs_steps (stock_of program.now)
+        ++ planned_steps modes.now program.now.temps
         (job_at (works_in program.now) (slice_get program.now.flow.now at))
-        (choice_at (choices_in program.now) (slice_get program.now.flow.now at))) }
+        (plan_at (plans_in program.now) (slice_get program.now.flow.now at))) }
 {
     let Some(place) = program.flow.get(at) else {
         return Ok(());
     };
     match place {
-        Flow::Assign(tree) => push_job(alloc, program, *tree, steps),
+        Flow::Assign(tree) => push_job(alloc, modes, program, *tree, steps),
         _ => Ok(()),
     }
 }
@@ -71,23 +72,36 @@ fn push_place(
 /// The steps of the jobs at so many places from one on.
 pub(crate) fn block_steps(
     alloc: Global,
-    program: &CoveredProgram<'_>,
+    modes: &Modes<'_>,
+    program: &PlannedProgram<'_>,
     at: usize,
     count: usize,
 ) -> Result<Items<Step>, NoMemory>
     requires within { at + count ≤ length program.now.flow.now }
-    requires even { length (choices_in program.now) ≡ length (works_in program.now) }
-    requires chosen { AllChosen (stock_of program.now) (works_in program.now) (choices_in program.now) }
+    requires planned { ArePlannedIn modes.now program.now }
     ensures { IfOk result (λ steps. steps
-        ≡ jobs_steps (stock_of program.now)
+        ≡ planned_steps modes.now program.now.temps
         (jobs_at program.now.flow.now (works_in program.now) at count)
-        (choices_at program.now.flow.now (choices_in program.now) at count)) }
+        (plans_at program.now.flow.now (plans_in program.now) at count)) }
 {
     let mut steps = Vec::new(alloc);
     for k in 0..count {
-        push_place(alloc, program, at + k, &mut steps)?;
+        push_place(alloc, modes, program, at + k, &mut steps)?;
     }
     Ok(Items::from_vec(steps))
+}
+
+/// The mode of the job at a place of the flow, and 0 where no assignment stands there.
+pub(crate) fn mode_at(program: &PlannedProgram<'_>, at: usize) -> usize
+    ensures { result ≡ place_mode program.now at }
+{
+    match program.flow.get(at) {
+        Some(Flow::Assign(tree)) => match program.plans.get(*tree as usize) {
+            Some(plan) => plan.mode as usize,
+            None => 0,
+        },
+        _ => 0,
+    }
 }
 
 /// How many places the block has that begins at this place.

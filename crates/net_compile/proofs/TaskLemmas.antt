@@ -1,15 +1,19 @@
 -- Two texts say one task, and it is that of what was read.
 use Rattle.std.proofs.Common.{◌≡◌, ℕ, List, ap, refl, sym, ◌∙◌, subst, arith}
 use Rattle.net_model.specs.declared.hardware.Netlist.{Netlist}
-use Rattle.net_model.specs.CheckedRules.{Ordered}
+use Rattle.net_model.specs.ModeRules.{Moded}
 use Rattle.net_model.specs.Elaborated.{netlist_of}
-use Rattle.net_model.specs.Nets.{memory_width}
-use Rattle.net_extract.specs.Extracts.{IsRoutedNet}
+use Rattle.net_model.specs.Nets.{memory_size, memory_width}
+use Rattle.net_extract.specs.Extracts.{IsRoutedModes}
 use Rattle.src_model.specs.declared.fault.SrcFault.{SrcFault}
 use Rattle.src_model.specs.declared.typed.Typed.{Typed}
 use Rattle.src_model.specs.Written.{Listing, listing_of}
 use Rattle.src_front.specs.Fronts.{IsSrcFile, BreaksSrcRule}
 use Rattle.src_front.proofs.FrontLaws.{no_broken_rule, one_broken_rule}
+use Rattle.code_model.specs.Layout.{need_of}
+use Rattle.binding.specs.Refusals.{IsBindFault}
+use Rattle.binding.specs.declared.fault.BindFault.{BindFault}
+use Rattle.binding.specs.declared.fault.BindFault.TheVariants.{DataFull as NoRoom, Memory as BindMemory}
 use Rattle.right_code.specs.Covered.{HasBareTree}
 use Rattle.right_code.specs.Tasks.{Task, Property, read_task}
 use Rattle.right_code.proofs.Bare.{no_bare, one_bare}
@@ -20,7 +24,7 @@ use Rattle.net_code.specs.declared.fault.CodeFault.TheVariants.{NoStep as Steple
 use Rattle.net_compile.specs.Code.{IsDataFull, IsCode, IsPlaceFault, IsTaskFault, IsWithin, HasRoom, FailsWith}
 use Rattle.net_compile.specs.Compiled.{HasNet, IsCompiled, BreaksSrc, IsCompileFault, IsSrcFault}
 use Rattle.net_compile.specs.Tasks.{IsTask, TaskHolds, data_width}
-use Rattle.net_compile.specs.Inner.Faults.{code_fault}
+use Rattle.net_compile.specs.Inner.Faults.{bind_fault, code_fault}
 use Rattle.net_compile.specs.declared.fault.CompileFault.{CompileFault}
 use Rattle.net_compile.specs.declared.fault.CompileFault.TheVariants.{NetText, Net, SrcText, Src, DataFull, NoStep, NoJump, NoCover, NoReach, ImageFull, Memory}
 
@@ -32,6 +36,11 @@ fault_of_image task room (Uncovered number) h = (room, h)
 fault_of_image task room (Beyond bound reach) h = (room, h)
 fault_of_image task room (Overlong len size bound) h = (room, h)
 fault_of_image task room CodeMemory h = tt
+
+-- why its program has no places in as many cells as its memory has
+pub place_fault : (task : Task) (words : ℕ) → words ≡ memory_size task.netlist.storages → (fault : BindFault) → IsBindFault (need_of task.width task.listing) words fault → IsPlaceFault task (bind_fault fault)
+place_fault task words same (NoRoom need have) h = record { needs = h.0; has = h.1 ∙ same; more = omega (arith, h.0, h.1, h.2) }
+place_fault task words same BindMemory h = tt
 
 -- why it has no places
 pub fault_of_places : (task : Task) (fault : CompileFault) → IsPlaceFault task fault → IsTaskFault task fault
@@ -48,23 +57,23 @@ fault_of_places task (ImageFull len size bound) h = absurd h
 fault_of_places task Memory h = tt
 
 -- why the program's bytes were not taken for a netlist that was read
-pub fault_of_program : (net src : List ℕ) (checked : Ordered) (width : ℕ) → IsRoutedNet net checked → width ≡ memory_width checked.netlist.storages → (fault : CompileFault) →
+pub fault_of_program : (net src : List ℕ) (modes : Moded) (width : ℕ) → IsRoutedModes net modes → width ≡ memory_width modes.netlist.storages → (fault : CompileFault) →
     IsSrcFault src width fault → IsCompileFault net src fault
-fault_of_program net src checked width read wide (NetText at) h = absurd h
-fault_of_program net src checked width read wide (Net fault) h = absurd h
-fault_of_program net src checked width read wide (SrcText at) h = (record { entries = read.entries; file = read.file }, h)
-fault_of_program net src checked width read wide (Src fault) h = record {
+fault_of_program net src modes width read wide (NetText at) h = absurd h
+fault_of_program net src modes width read wide (Net fault) h = absurd h
+fault_of_program net src modes width read wide (SrcText at) h = (record { entries = read.entries; file = read.file }, h)
+fault_of_program net src modes width read wide (Src fault) h = record {
   entries = read.entries;
   net_file = read.file;
   breaks = subst (λ (n : ℕ). BreaksSrcRule src n fault) (wide ∙ ap (λ (n : Netlist). memory_width n.storages) read.netlist.netlist) h;
 }
-fault_of_program net src checked width read wide (DataFull need have) h = absurd h
-fault_of_program net src checked width read wide NoStep h = absurd h
-fault_of_program net src checked width read wide NoJump h = absurd h
-fault_of_program net src checked width read wide (NoCover number) h = absurd h
-fault_of_program net src checked width read wide (NoReach bound reach) h = absurd h
-fault_of_program net src checked width read wide (ImageFull len size bound) h = absurd h
-fault_of_program net src checked width read wide Memory h = tt
+fault_of_program net src modes width read wide (DataFull need have) h = absurd h
+fault_of_program net src modes width read wide NoStep h = absurd h
+fault_of_program net src modes width read wide NoJump h = absurd h
+fault_of_program net src modes width read wide (NoCover number) h = absurd h
+fault_of_program net src modes width read wide (NoReach bound reach) h = absurd h
+fault_of_program net src modes width read wide (ImageFull len size bound) h = absurd h
+fault_of_program net src modes width read wide Memory h = tt
 
 -- ---- two texts say one task
 
@@ -153,10 +162,10 @@ module _ (net src : List ℕ) where
 
 -- ---- from what was read to the texts
 
-module _ (net src : List ℕ) (checked : Ordered) (typed : Typed) (read : IsRoutedNet net checked) (wide : typed.width ≡ memory_width checked.netlist.storages)
+module _ (net src : List ℕ) (modes : Moded) (typed : Typed) (read : IsRoutedModes net modes) (wide : typed.width ≡ memory_width modes.netlist.storages)
     (file : IsSrcFile src typed.width (listing_of typed.program)) where
   -- the task of what was read is that of the two texts
-  is_task : IsTask net src (read_task checked typed)
+  is_task : IsTask net src (read_task modes typed)
   is_task = record {
     entries = read.entries;
     net_file = read.file;
@@ -166,11 +175,11 @@ module _ (net src : List ℕ) (checked : Ordered) (typed : Typed) (read : IsRout
   }
 
   -- what holds of it holds of them
-  pub holds_of_read : (P : Property) → P (read_task checked typed) → TaskHolds net src P
-  holds_of_read P holds = record { task = read_task checked typed; is = is_task; holds = holds }
+  pub holds_of_read : (P : Property) → P (read_task modes typed) → TaskHolds net src P
+  holds_of_read P holds = record { task = read_task modes typed; is = is_task; holds = holds }
 
   -- why there is no code, once both were read
-  pub fault_of_code : (fault : CompileFault) → IsTaskFault (read_task checked typed) fault → IsCompileFault net src fault
+  pub fault_of_code : (fault : CompileFault) → IsTaskFault (read_task modes typed) fault → IsCompileFault net src fault
   fault_of_code (NetText at) h = absurd h
   fault_of_code (Net fault) h = absurd h
   fault_of_code (SrcText at) h = absurd h

@@ -2,13 +2,10 @@
 
 ghost use Rattle.std.specs.Prelude.{◌≡◌, ◌<◌, ◌≤◌, ◌^◌, IfOk, IfErr, None, length};
 ghost use Rattle.std.specs.List.{AllByRecursion};
-ghost use Rattle.net_model.specs.CheckedRules.{KeepsRules};
+ghost use Rattle.net_model.specs.ModeRules.{KeepsModes};
 ghost use Rattle.net_model.specs.Nets.{memory_size, memory_width};
-ghost use Rattle.net_model.specs.Patterns.{ArePatterns};
-ghost use Rattle.net_extract.specs.Extraction.{IsExtractedFrom};
-ghost use Rattle.net_extract.specs.Extracts.{IsRoutedNet};
-ghost use Rattle.transfer_set.specs.Ready.{IsReady};
-ghost use Rattle.transfer_set.specs.Rows.{row_patterns};
+ghost use Rattle.net_extract.specs.Extraction.{AreIsas};
+ghost use Rattle.net_extract.specs.Extracts.{IsRoutedModes};
 ghost use Rattle.src_model.specs.Rules.{first_fault};
 ghost use Rattle.src_model.specs.Written.{listing_of};
 ghost use Rattle.src_front.specs.Fronts.{AreNamed, IsSrcFile};
@@ -16,9 +13,7 @@ ghost use Rattle.code_model.specs.ImageFits.{IsFitting, PlaceFits, limits_of};
 ghost use Rattle.code_model.specs.ImageLines.{IsImageText};
 ghost use Rattle.code_model.specs.Layout.{layout_of};
 ghost use Rattle.code_model.specs.Places.{Apart};
-ghost use Rattle.right_code.specs.Images.{IsRightImage};
-ghost use Rattle.right_code.specs.Tasks.{IsChecked, read_task};
-ghost use Rattle.net_code.specs.Refusals.{IsReached};
+ghost use Rattle.right_code.specs.Tasks.{read_task};
 ghost use Rattle.net_compile.specs.Code.{HasRoom, IsPlaceFault, IsRightFor, IsTaskFault};
 ghost use Rattle.net_compile.specs.Read.{IsCompiledTo};
 ghost use Rattle.net_compile.specs.Compiled.{IsCompiled, IsCompileFault, IsNetFault, IsSrcFault};
@@ -28,21 +23,19 @@ use crate::fault::CompileFault;
 use binding::bind;
 use code_model::{Image, Places};
 use net_code::image_of;
-use net_extract::{Extracted, read_extracted};
-use net_model::Checked;
-use rec_bits::NoMemory;
+use net_extract::{Isa, read_extracted};
+use net_model::Modes;
+use rec_bits::{Items, NoMemory};
 use src_front::read_src;
 use src_model::Typed;
 use std::alloc::Global;
 
-/// The netlist that `net` is, which keeps all rules, and what is extracted from it. The refusals are
-/// the first two, and want of memory.
-pub fn netlist(alloc: Global, net: &[u8]) -> Result<(Checked, Extracted), CompileFault>
+/// The netlist that `net` is, which keeps all rules, in its modes, and what is extracted from each.
+/// The refusals are the first two, and want of memory.
+pub fn netlist(alloc: Global, net: &[u8]) -> Result<(Modes, Items<Isa>), CompileFault>
     requires { length net.now < 2 ^ 32 }
-    ensures found { IfOk result (λ both. IsRoutedNet net.now both.0) }
-    ensures extracted { IfOk result (λ both. IsExtractedFrom both.0.netlist both.1) }
-    ensures patterns { IfOk result (λ both.
-        ArePatterns both.0.netlist (row_patterns both.1.pool both.1.patterns.rows)) }
+    ensures found { IfOk result (λ both. IsRoutedModes net.now both.0) }
+    ensures isas { IfOk result (λ both. AreIsas both.0.bases both.1) }
     ensures refused { IfErr result (IsNetFault net.now) }
 {
     let both = read_extracted(alloc, net)?;
@@ -65,65 +58,32 @@ pub fn program(alloc: Global, src: &[u8], width: u8) -> Result<Typed, CompileFau
 
 /// The places of the program's variables in the netlist's data memory. The refusals are `DataFull`
 /// and want of memory.
-pub fn places(alloc: Global, checked: &Checked, typed: &Typed) -> Result<Places, CompileFault>
-    requires rules { KeepsRules checked.now.netlist checked.now.order }
+pub fn places(alloc: Global, modes: &Modes, typed: &Typed) -> Result<Places, CompileFault>
     requires few { length typed.now.program.vars < 2 ^ 32 }
     requires named { AreNamed typed.now.program.vars }
     ensures places { IfOk result (λ places. places ≡ layout_of typed.now.width (listing_of typed.now.program)) }
-    ensures room { IfOk result (λ _. HasRoom (read_task checked.now typed.now)) }
-    ensures apart { IfOk result (λ places. Apart places.temps places.list (memory_size checked.now.netlist.storages)) }
+    ensures room { IfOk result (λ _. HasRoom (read_task modes.now typed.now)) }
+    ensures apart { IfOk result (λ places. Apart places.temps places.list (memory_size modes.now.netlist.storages)) }
     ensures named { IfOk result (λ places. AllByRecursion PlaceFits places.list) }
-    ensures refused { IfErr result (IsPlaceFault (read_task checked.now typed.now)) }
+    ensures refused { IfErr result (IsPlaceFault (read_task modes.now typed.now)) }
 {
-    let places = bind(alloc, typed, checked.memory_size())?;
+    let places = bind(alloc, typed, modes.first().memory_size())?;
     Ok(places)
 }
 
 /// A program and its image for a netlist.
 #[derive(Drop)]
 pub struct Compiled {
-    pub checked: Checked,
+    pub modes: Modes,
     pub typed: Typed,
     pub image: Image,
 }
 
-// The image of the program, whose variables stand at these places.
-fn image(
-    alloc: Global,
-    checked: &Checked,
-    extracted: &mut Extracted,
-    typed: &Typed,
-    places: Places,
-) -> Result<Image, CompileFault>
-    requires ready { IsReady checked.now.netlist extracted.old.book extracted.old.pool extracted.old.patterns }
-    requires patterns { ArePatterns checked.now.netlist (row_patterns extracted.old.pool extracted.old.patterns.rows) }
-    requires checked { IsChecked checked.now.order (read_task checked.now typed.now) }
-    requires places { places ≡ layout_of typed.now.width (listing_of typed.now.program) }
-    requires room { HasRoom (read_task checked.now typed.now) }
-    requires apart { Apart places.temps places.list (memory_size checked.now.netlist.storages) }
-    requires named { AllByRecursion PlaceFits places.list }
-    ensures right { IfOk result (IsRightImage (read_task checked.now typed.now)) }
-    ensures fits { IfOk result (IsFitting (limits_of checked.now.netlist)) }
-    ensures reached { IfOk result (λ _. IsReached (read_task checked.now typed.now)) }
-    ensures refused { IfErr result (IsTaskFault (read_task checked.now typed.now)) }
-{
-    let image = image_of(
-        alloc,
-        checked,
-        &mut extracted.book,
-        &extracted.pool,
-        &extracted.patterns,
-        typed,
-        places,
-    )?;
-    Ok(image)
-}
-
 // The text of an image that fits the netlist.
-fn text(alloc: Global, checked: &Checked, image: &Image) -> Result<Vec<u8>, NoMemory>
-    requires rules { KeepsRules checked.now.netlist checked.now.order }
-    requires fits { IsFitting (limits_of checked.now.netlist) image.now }
-    ensures { IfOk result (λ text. IsImageText (limits_of checked.now.netlist) text.items image.now) }
+fn text(alloc: Global, modes: &Modes, image: &Image) -> Result<Vec<u8>, NoMemory>
+    requires rules { KeepsModes modes.now.netlist }
+    requires fits { IsFitting (limits_of modes.now.netlist) image.now }
+    ensures { IfOk result (λ text. IsImageText (limits_of modes.now.netlist) text.items image.now) }
 {
     image_text::write(alloc, image)
 }
@@ -131,22 +91,21 @@ fn text(alloc: Global, checked: &Checked, image: &Image) -> Result<Vec<u8>, NoMe
 /// The image of the program for the netlist: right code. The refusals are those from `DataFull` on.
 pub fn image_for(
     alloc: Global,
-    checked: &Checked,
-    extracted: &mut Extracted,
+    modes: &Modes,
+    isas: Items<Isa>,
     typed: &Typed,
 ) -> Result<Image, CompileFault>
-    requires rules { KeepsRules checked.now.netlist checked.now.order }
-    requires ready { IsReady checked.now.netlist extracted.old.book extracted.old.pool extracted.old.patterns }
-    requires patterns { ArePatterns checked.now.netlist (row_patterns extracted.old.pool extracted.old.patterns.rows) }
-    requires width { typed.now.width ≡ memory_width checked.now.netlist.storages }
+    requires rules { KeepsModes modes.now.netlist }
+    requires isas { AreIsas modes.now.bases isas }
+    requires width { typed.now.width ≡ memory_width modes.now.netlist.storages }
     requires program { first_fault typed.now.width (listing_of typed.now.program) ≡ None }
     requires few { length typed.now.program.vars < 2 ^ 32 }
     requires named { AreNamed typed.now.program.vars }
-    ensures image { IfOk result (λ image. IsRightFor image (read_task checked.now typed.now)) }
-    ensures refused { IfErr result (IsTaskFault (read_task checked.now typed.now)) }
+    ensures image { IfOk result (λ image. IsRightFor image (read_task modes.now typed.now)) }
+    ensures refused { IfErr result (IsTaskFault (read_task modes.now typed.now)) }
 {
-    let places = places(alloc, checked, typed)?;
-    let image = image(alloc, checked, extracted, typed, places)?;
+    let places = places(alloc, modes, typed)?;
+    let image = image_of(alloc, modes, isas, typed, places)?;
     Ok(image)
 }
 
@@ -157,11 +116,11 @@ pub fn read_compiled(alloc: Global, net: &[u8], src: &[u8]) -> Result<Compiled, 
     ensures compiled { IfOk result (IsCompiledTo net.now src.now) }
     ensures refused { IfErr result (IsCompileFault net.now src.now) }
 {
-    let (checked, mut extracted) = netlist(alloc, net)?;
-    let typed = program(alloc, src, checked.memory_width())?;
-    let image = image_for(alloc, &checked, &mut extracted, &typed)?;
+    let (modes, isas) = netlist(alloc, net)?;
+    let typed = program(alloc, src, modes.first().memory_width())?;
+    let image = image_for(alloc, &modes, isas, &typed)?;
     Ok(Compiled {
-        checked,
+        modes,
         typed,
         image,
     })
@@ -176,6 +135,6 @@ pub fn compile(alloc: Global, net: &[u8], src: &[u8]) -> Result<Vec<u8>, Compile
     ensures refused { IfErr result (IsCompileFault net.now src.now) }
 {
     let compiled = read_compiled(alloc, net, src)?;
-    let text = text(alloc, &compiled.checked, &compiled.image)?;
+    let text = text(alloc, &compiled.modes, &compiled.image)?;
     Ok(text)
 }

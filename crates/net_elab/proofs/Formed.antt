@@ -30,6 +30,7 @@ use Rattle.net_model.specs.Numbering.{NetSite, of_text, scope_at, bound, count, 
 use Rattle.net_model.specs.Elaborated.{bound_out, codes_from, count_codes, elaborated_drivers, driver_pairs, equation_nets, equations_nets, input_nets, inputs_nets, inside, item_codes, item_nets, item_storages, nets_from, nets_if, elaborated, netlist_in, out_if, out_of, output_wire, output_wires, plain_net, storage_in, storages_from}
 use Rattle.net_elab.proofs.Standing.{Stands, stands_left, stands_right, length_equation, length_input, length_items, length_nets}
 use Rattle.net_elab.proofs.ItemNames.{names_differ}
+use Rattle.net_elab.proofs.LoneMode.{mode_is}
 use Rattle.rec_bits.proofs.Booleans.{and_left, and_right}
 use Rattle.rec_bits.proofs.Lists.{all_append}
 use Rattle.net_elab.proofs.Kept.{SiteSound, keeps, out_has, width_range}
@@ -166,8 +167,8 @@ module _ (edition : ℕ) (text : List Entry) (keep : IsElaborable text) where
     pub codes_keep : AllByRecursion (CodeKeeps (netlist_in edition text)) (item_codes text e)
 
   counter_is : (name : List ℕ) (o : Option Entry) → item_named text name ≡ o → IsRegisterItem o → IsRegister (slice_get (netlist_in edition text).storages (storage_named text name))
-  counter_is name (Some (register own width input when)) e h =
-      let f = found edition text keep name (register own width input when) e in
+  counter_is name (Some (register kind own width input when)) e h =
+      let f = found edition text keep name (register kind own width input when) e in
       rw (f.storage_is, f.there.storages_there.0) tt
   counter_is name None e h = absurd h
   counter_is name (Some (code own bits size counter)) e h = absurd h
@@ -185,7 +186,7 @@ module _ (edition : ℕ) (text : List Entry) (keep : IsElaborable text) where
         storages_keep = tt;
         codes_keep = ((width_range bits k.0, counter_is counter.name (item_named text counter.name) refl k.2), tt);
       }
-  item_formed (register name width input when) start storage number k d l =
+  item_formed (register kind name width input when) start storage number k d l =
       let ns = (netlist_in edition text).nets in
       let xs = elaborated (of_text text) name.at start input in
       let ys = nets_if (of_text text) name.at (start + count input) when in
@@ -307,7 +308,7 @@ module _ (edition : ℕ) (text : List Entry) (keep : IsElaborable text) where
 
   cells_few : (e : Entry) (start : ℕ) → ItemKeeps text e → AllByRecursion HasFewCells (item_storages text start e)
   cells_few (code name bits size counter) start k = tt
-  cells_few (register name width input when) start k = (tt, tt)
+  cells_few (register kind name width input when) start k = (tt, tt)
   cells_few (memory InMemory name width size addr_width value addr when) start k = (below_size size k.2, tt)
   cells_few (memory InFile name width size addr_width value addr when) start k = (below_32 size k.2, tt)
   cells_few (net name width value) start k = tt
@@ -324,7 +325,7 @@ module _ (edition : ℕ) (text : List Entry) (keep : IsElaborable text) where
 
   words_few : (e : Entry) → ItemKeeps text e → AllByRecursion HasFewWords (item_codes text e)
   words_few (code name bits size counter) k = (below_size size k.1, tt)
-  words_few (register name width input when) k = tt
+  words_few (register kind name width input when) k = tt
   words_few (memory space name width size addr_width value addr when) k = tt
   words_few (net name width value) k = tt
   words_few (bus name width drivers) k = tt
@@ -343,7 +344,7 @@ module _ (edition : ℕ) (text : List Entry) (keep : IsElaborable text) where
 
   item_registers : (e : Entry) (start : ℕ) → register_count (item_storages text start e) ≡ count_register e
   item_registers (code name bits size counter) start = refl
-  item_registers (register name width input when) start = refl
+  item_registers (register kind name width input when) start = refl
   item_registers (memory InMemory name width size addr_width value addr when) start = refl
   item_registers (memory InFile name width size addr_width value addr when) start = refl
   item_registers (net name width value) start = refl
@@ -373,6 +374,7 @@ module _ (edition : ℕ) (text : List Entry) (keep : IsElaborable text) where
         nets = net_at (nets_from text 0 0 0 text) a.nets_keep;
         storages = a.storages_keep;
         codes = a.codes_keep;
+        mode = mode_is text edition;
         limits = within_limits;
       }
 

@@ -76,7 +76,7 @@ module _ (text : List Entry) where
   fresh_names : (name : List ℕ) (start : ℕ) (entries : List Entry) → Fresh name (item_names entries) → Fresh name (stored start entries) × Fresh name (coded entries)
   fresh_names name start [] h = (tt, tt)
   fresh_names name start (code own bits size counter ∷ entries) h = let r = fresh_names name (start + count_item text (code own bits size counter)) entries h.1 in (r.0, (h.0, r.1))
-  fresh_names name start (register own width input when ∷ entries) h = let r = fresh_names name (start + count_item text (register own width input when)) entries h.1 in ((h.0, r.0), r.1)
+  fresh_names name start (register kind own width input when ∷ entries) h = let r = fresh_names name (start + count_item text (register kind own width input when)) entries h.1 in ((h.0, r.0), r.1)
   fresh_names name start (memory InMemory own width size addr_width value addr when ∷ entries) h =
       let r = fresh_names name (start + count_item text (memory InMemory own width size addr_width value addr when)) entries h.1 in ((h.0, r.0), r.1)
   fresh_names name start (memory InFile own width size addr_width value addr when ∷ entries) h =
@@ -100,8 +100,8 @@ module _ (text : List Entry) where
           → IsDistinct same_name (stored start (e ∷ entries) ++ coded (e ∷ entries))
       more (code own bits size counter) start entries f d =
           distinct_insert own.name (stored (start + 1) entries) (coded entries) d (fresh_both own.name (start + 1) entries f)
-      more (register own width input when) start entries f d =
-          distinct_first own.name _ d (fresh_both own.name (start + count_item text (register own width input when)) entries f)
+      more (register kind own width input when) start entries f d =
+          distinct_first own.name _ d (fresh_both own.name (start + count_item text (register kind own width input when)) entries f)
       more (memory InMemory own width size addr_width value addr when) start entries f d =
           distinct_first own.name _ d (fresh_both own.name (start + count_item text (memory InMemory own width size addr_width value addr when)) entries f)
       more (memory InFile own width size addr_width value addr when) start entries f d =

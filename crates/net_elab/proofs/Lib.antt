@@ -4,6 +4,7 @@ pub mod Emits
 pub mod Formed
 pub mod ItemNames
 pub mod Kept
+pub mod LoneMode
 pub mod Parts
 pub mod Places
 pub mod Ports

@@ -43,7 +43,7 @@ value_item (Some e) w h = record { entry = e; is = refl; width_is = h }
 
 value_range : (text : List Entry) (e : Entry) (w : ℕ) → value_width (Some e) ≡ Some w → ItemKeeps text e → IsWidth w
 value_range text (code name bits size counter) w h k = subst IsWidth (let s : bits ≡ w = cc in s) (width_range bits k.0)
-value_range text (register name width input when) w h k = subst IsWidth (let s : width ≡ w = cc in s) (width_range width k.0)
+value_range text (register kind name width input when) w h k = subst IsWidth (let s : width ≡ w = cc in s) (width_range width k.0)
 value_range text (memory space name width size addr_width value addr when) w h k = absurd (cc h)
 value_range text (net name width value) w h k = subst IsWidth (let s : width ≡ w = cc in s) (width_range width k.0)
 value_range text (bus name width drivers) w h k = subst IsWidth (let s : width ≡ w = cc in s) (width_range width k.0)
@@ -64,7 +64,7 @@ module_parts text (Some (module_item name ports equations)) f g =
     let d = g (module_item name ports equations) refl in
     record { ports_keep = k.0; outputs_fed = k.1; equations_cover = and_right (drives_once true ports equations) (list_all (covers_binding (in_module ports)) equations) d }
 module_parts text (Some (code name bits size counter)) f g = record { ports_keep = tt; outputs_fed = tt; equations_cover = refl }
-module_parts text (Some (register name width input when)) f g = record { ports_keep = tt; outputs_fed = tt; equations_cover = refl }
+module_parts text (Some (register kind name width input when)) f g = record { ports_keep = tt; outputs_fed = tt; equations_cover = refl }
 module_parts text (Some (memory space name width size addr_width value addr when)) f g = record { ports_keep = tt; outputs_fed = tt; equations_cover = refl }
 module_parts text (Some (net name width value)) f g = record { ports_keep = tt; outputs_fed = tt; equations_cover = refl }
 module_parts text (Some (bus name width drivers)) f g = record { ports_keep = tt; outputs_fed = tt; equations_cover = refl }
@@ -119,10 +119,10 @@ item_out : (netlist : Netlist) (text : List Entry) (e : Entry) (w start storage 
 item_out netlist text (code name bits size counter) w start storage number h l =
     subst (λ (n : ℕ). HasWidth netlist (start + 1 - 1) n) (let s : bits ≡ w = cc in s)
     (plain_at netlist start (start + 1 - 1) [] name.at bits (gate.Word number) (omega arith) l.nets_there)
-item_out netlist text (register name width input when) w start storage number h l =
+item_out netlist text (register kind name width input when) w start storage number h l =
     let xs = elaborated (of_text text) name.at start input in
     let ys = nets_if (of_text text) name.at (start + count input) when in
-    subst (λ (n : ℕ). HasWidth netlist (start + count_item text (register name width input when) - 1) n) (let s : width ≡ w = cc in s)
+    subst (λ (n : ℕ). HasWidth netlist (start + count_item text (register kind name width input when) - 1) n) (let s : width ≡ w = cc in s)
     (plain_at netlist start _ (xs ++ ys) name.at width (gate.Reg storage)
     (omega (arith, length-append xs ys, length_nets (of_text text) name.at start input, length_if (of_text text) name.at (start + count input) when)) l.nets_there)
 item_out netlist text (memory space name width size addr_width value addr when) w start storage number h l = absurd (cc h)
@@ -214,7 +214,7 @@ module _ (edition : ℕ) (text : List Entry) (keep : IsElaborable text) where
       links (equations_of (item_named text of.name)) (ports_of (item_named text of.name)) field.name p.port p.is s.outputs_there))
   field_has name field w None e h = absurd (cc h)
   field_has name field w (Some (code own bits size counter)) e h = absurd (cc h)
-  field_has name field w (Some (register own width input when)) e h = absurd (cc h)
+  field_has name field w (Some (register kind own width input when)) e h = absurd (cc h)
   field_has name field w (Some (memory space own width size addr_width value addr when)) e h = absurd (cc h)
   field_has name field w (Some (net own width value)) e h = absurd (cc h)
   field_has name field w (Some (bus own width drivers)) e h = absurd (cc h)
@@ -226,7 +226,7 @@ module _ (edition : ℕ) (text : List Entry) (keep : IsElaborable text) where
       subst IsWidth p.width_is (width_range p.port.width (port_keeps true (ports_of (item_named text of.name)) field.name p.port (module_of of.name).ports_keep p.is))
   field_range field w None h = absurd (cc h)
   field_range field w (Some (code own bits size counter)) h = absurd (cc h)
-  field_range field w (Some (register own width input when)) h = absurd (cc h)
+  field_range field w (Some (register kind own width input when)) h = absurd (cc h)
   field_range field w (Some (memory space own width size addr_width value addr when)) h = absurd (cc h)
   field_range field w (Some (net own width value)) h = absurd (cc h)
   field_range field w (Some (bus own width drivers)) h = absurd (cc h)
@@ -250,7 +250,7 @@ module _ (edition : ℕ) (text : List Entry) (keep : IsElaborable text) where
       rw (f.storage_is, s, array_stored space _) (c, subst (HasWidth (netlist_in edition text) addr) a k)
   memory_reads name m None e h addr k = absurd (cc h)
   memory_reads name m (Some (code own bits size counter)) e h addr k = absurd (cc h)
-  memory_reads name m (Some (register own width input when)) e h addr k = absurd (cc h)
+  memory_reads name m (Some (register kind own width input when)) e h addr k = absurd (cc h)
   memory_reads name m (Some (net own width value)) e h addr k = absurd (cc h)
   memory_reads name m (Some (bus own width drivers)) e h addr k = absurd (cc h)
   memory_reads name m (Some (module_item own ports equations)) e h addr k = absurd (cc h)
@@ -262,7 +262,7 @@ module _ (edition : ℕ) (text : List Entry) (keep : IsElaborable text) where
       subst IsWidth c (width_range width (item_kept name (memory space own width size addr_width value at when) e).0)
   memory_range name m None e h = absurd (cc h)
   memory_range name m (Some (code own bits size counter)) e h = absurd (cc h)
-  memory_range name m (Some (register own width input when)) e h = absurd (cc h)
+  memory_range name m (Some (register kind own width input when)) e h = absurd (cc h)
   memory_range name m (Some (net own width value)) e h = absurd (cc h)
   memory_range name m (Some (bus own width drivers)) e h = absurd (cc h)
   memory_range name m (Some (module_item own ports equations)) e h = absurd (cc h)

@@ -118,7 +118,7 @@ module _ (text : List Entry) where
 
   pub length_item : (start storage number : ℕ) (e : Entry) → length (item_nets text start storage number e) ≡ count_item text e
   length_item start storage number (code name bits size counter) = refl
-  length_item start storage number (register name width input when) =
+  length_item start storage number (register kind name width input when) =
       len1 _ _ (len0 _ _ (length_nets (of_text text) name.at start input) (length_if (of_text text) name.at (start + count input) when))
   length_item start storage number (memory space name width size addr_width value addr when) =
       len0 _ _ (len0 _ _ (length_nets (of_text text) name.at start value) (length_nets (of_text text) name.at (start + count value) addr))
@@ -137,7 +137,7 @@ module _ (text : List Entry) where
 
   pub length_stored : (start : ℕ) (e : Entry) → length (item_storages text start e) ≡ count_storages e
   length_stored start (code name bits size counter) = refl
-  length_stored start (register name width input when) = refl
+  length_stored start (register kind name width input when) = refl
   length_stored start (memory space name width size addr_width value addr when) = refl
   length_stored start (net name width value) = refl
   length_stored start (bus name width drivers) = refl
@@ -146,7 +146,7 @@ module _ (text : List Entry) where
 
   pub length_coded : (e : Entry) → length (item_codes text e) ≡ count_codes e
   length_coded (code name bits size counter) = refl
-  length_coded (register name width input when) = refl
+  length_coded (register kind name width input when) = refl
   length_coded (memory space name width size addr_width value addr when) = refl
   length_coded (net name width value) = refl
   length_coded (bus name width drivers) = refl

@@ -11,7 +11,9 @@ ghost use Rattle.net_elab.specs.Inner.Sites.{site_of};
 use crate::expression::{emit, emit_if, push_net};
 use crate::part::emit_part;
 use crate::site::{Site, Text};
-use net_model::{Cells, Code, Gate, Ident, Net, NetExpr, Netlist, Space, Storage, Unit};
+use net_model::{
+    Cells, Code, Gate, Ident, Net, NetExpr, Netlist, RegisterKind, Space, Storage, Unit,
+};
 use rec_bits::{Items, Name, NoMemory};
 use std::alloc::Global;
 
@@ -47,31 +49,38 @@ fn emit_code(
     })
 }
 
-/// A register with its nets.
+/// Which register it is, and how wide.
+#[derive(Clone, Copy)]
+struct Latch {
+    kind: RegisterKind,
+    width: u64,
+}
+
+/// A register, or the mode, with its nets.
 fn emit_register(
     alloc: Global,
     text: &Text,
     netlist: &mut Netlist,
     name: &Ident,
-    width: u64,
+    latch: Latch,
     input: &NetExpr,
     when: &Option<NetExpr>,
 ) -> Result<(), NoMemory>
     requires keeps { ItemKeeps (map entry_of text.now)
-        (register name.now width (phrase_of input.now) (when_of when.now)) }
+        (register latch.kind name.now latch.width (phrase_of input.now) (when_of when.now)) }
     requires room { HasRoom (map entry_of text.now)
-        (register name.now width (phrase_of input.now) (when_of when.now)) netlist.old }
+        (register latch.kind name.now latch.width (phrase_of input.now) (when_of when.now)) netlist.old }
     ensures { OnOk result (ItemDone (map entry_of text.now)
-        (register name.now width (phrase_of input.now) (when_of when.now)) netlist.old netlist.new) }
+        (register latch.kind name.now latch.width (phrase_of input.now) (when_of when.now)) netlist.old netlist.new) }
 {
     let site = Site::Top(text);
     let input = emit(alloc, &site, &mut netlist.nets, name.at, input)?;
     let when = emit_if(alloc, &site, &mut netlist.nets, name.at, when.as_ref())?;
     let gate = Gate::Reg(netlist.storages.len() as u32);
-    push_net(&mut netlist.nets, name.at, width as u8, gate)?;
+    push_net(&mut netlist.nets, name.at, latch.width as u8, gate)?;
     netlist.storages.push(Storage::Register {
         name: copy_of(alloc, name)?,
-        width: width as u8,
+        width: latch.width as u8,
         input: input.net,
         when,
     })
@@ -241,11 +250,18 @@ pub fn emit_item(
             counter,
         } => emit_code(alloc, text, netlist, name, *bits, *size, counter),
         Unit::Register {
+            kind,
             name,
             width,
             input,
             when,
-        } => emit_register(alloc, text, netlist, name, *width, input, when),
+        } => {
+            let latch = Latch {
+                kind: *kind,
+                width: *width,
+            };
+            emit_register(alloc, text, netlist, name, latch, input, when)
+        }
         Unit::Memory {
             space,
             name,

@@ -15,6 +15,7 @@
 //! - `count`: how many nets an expression and a part give.
 //! - `numbers`: the last net of each item, its storage, and the wires of its ports, for the whole
 //!   text.
+//! - `modes`: the register that is the mode of a text.
 //! - `site`: what names stand for where an expression stands: among the items, or in a part.
 //! - `expression`, `part`, `item`: the nets of expressions, of the parts of modules, and of items.
 //! - `whole`: `elaborate`, item by item.
@@ -22,14 +23,15 @@
 //!   Public contracts cite no file here, since the netlist of a text is defined in
 //!   `net_model/specs/Elaborated`.
 //! - `proofs/`: `Emits`, `Parts` and `Drivers` for what the parts of an expression, a part and a
-//!   bus give together, `Scans` and `Standing` for numbers, `Formed`, `Kept` and `Sounds` for the
-//!   rules.
+//!   bus give together, `Scans` and `Standing` for numbers, `Formed`, `Kept`, `Sounds` and
+//!   `LoneMode` for the rules.
 #![tactic(auto)]
 
 mod count;
 mod declared;
 mod expression;
 mod item;
+mod modes;
 mod numbers;
 mod part;
 mod site;

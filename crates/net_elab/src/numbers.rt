@@ -82,7 +82,7 @@ fn item_wires(
 }
 
 /// How many storages an item gives.
-fn count_storages(unit: &Unit) -> u32
+pub fn count_storages(unit: &Unit) -> u32
     ensures { result ≡ count_storages (entry_of unit.now) }
 {
     match unit {

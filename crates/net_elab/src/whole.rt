@@ -8,6 +8,7 @@ ghost use Rattle.net_model.specs.Written.{entry_of, text_of};
 
 use crate::declared::Declared;
 use crate::item::emit_item;
+use crate::modes::special_in;
 use crate::site::Text;
 use net_model::{Netlist, Units};
 use net_names::Names;
@@ -19,12 +20,13 @@ fn emit_items(alloc: Global, edition: u8, text: &Text) -> Result<Netlist, NoMemo
     requires { IsElaborable (map entry_of text.now) }
     ensures { IfOk result (λ netlist. netlist ≡ netlist_in edition (map entry_of text.now)) }
 {
+    let special = special_in(alloc, edition, text.declared().units())?;
     let mut netlist = Netlist {
         nets: Items::new(alloc),
         storages: Items::new(alloc),
         codes: Items::new(alloc),
         edition,
-        special: None,
+        special,
     };
     for unit in text.declared().units() {
         emit_item(alloc, text, &mut netlist, unit)?;
@@ -34,7 +36,7 @@ fn emit_items(alloc: Global, edition: u8, text: &Text) -> Result<Netlist, NoMemo
         storages: netlist.storages,
         codes: netlist.codes,
         edition,
-        special: None,
+        special,
     })
 }
 

@@ -1,25 +1,29 @@
 -- Refusals: those before any job is told of, and none behind that but those of the end.
-use Rattle.std.proofs.Common.{◌≢◌, ℕ, List, arith, refl}
+use Rattle.std.proofs.Common.{◌≡◌, ◌≢◌, ℕ, List, arith, refl, subst}
+use Rattle.net_model.specs.declared.hardware.Netlist.{Netlist}
 use Rattle.net_code.specs.Refusals.{HasJumps, IsFormless}
 use Rattle.net_code.specs.declared.fault.CodeFault.{CodeFault}
 use Rattle.net_code.specs.declared.fault.CodeFault.TheVariants.{NoStep as Stepless, NoJump as Jumpless, NoCover as Uncovered, NoReach as Beyond, ImageFull as Overlong, Memory as CodeMemory}
 use Rattle.net_compile.specs.Code.{HasRoom, IsDataFull, IsPlaceFault, IsTaskFault}
-use Rattle.net_compile.specs.Compiled.{IsCompileFault, IsNetFault, IsSrcFault}
+use Rattle.net_compile.specs.Compiled.{IsCompileFault, IsSrcFault}
 use Rattle.net_compile.specs.Inner.Faults.{code_fault}
 use Rattle.net_compile.specs.declared.fault.CompileFault.{CompileFault}
 use Rattle.net_compile.specs.declared.fault.CompileFault.TheVariants.{NetText, Net, SrcText, Src, DataFull, NoStep, NoJump, NoCover, NoReach, ImageFull, Memory}
 use Rattle.right_code.specs.Tasks.{Task}
-use Rattle.net_explain.specs.Explained.{IsExplainFault, IsLateFault}
+use Rattle.net_explain.specs.Explained.{HasTakenNet, IsExplainFault, IsLateFault, IsUntaken}
 use Rattle.net_explain.specs.Inner.Telling.{IsEarlyFault}
 
 -- why a netlist has no forms to make code of
-pub early_of_forms : (task : Task) → HasRoom task → (fault : CodeFault) → IsFormless task.netlist fault → IsEarlyFault task (code_fault fault)
-early_of_forms task room Stepless h = (room, h)
-early_of_forms task room Jumpless h = (room, (record { steps = h.0 }, h.1))
-early_of_forms task room (Uncovered number) h = absurd h
-early_of_forms task room (Beyond bound reach) h = absurd h
-early_of_forms task room (Overlong len size bound) h = absurd h
-early_of_forms task room CodeMemory h = tt
+early_of_own : (task : Task) → HasRoom task → (fault : CodeFault) → IsFormless task.netlist fault → IsEarlyFault task (code_fault fault)
+early_of_own task room Stepless h = (room, h)
+early_of_own task room Jumpless h = (room, (record { steps = h.0 }, h.1))
+early_of_own task room (Uncovered number) h = absurd h
+early_of_own task room (Beyond bound reach) h = absurd h
+early_of_own task room (Overlong len size bound) h = absurd h
+early_of_own task room CodeMemory h = tt
+
+pub early_of_forms : (task : Task) (netlist : Netlist) → netlist ≡ task.netlist → HasRoom task → (fault : CodeFault) → IsFormless netlist fault → IsEarlyFault task (code_fault fault)
+early_of_forms task netlist same room fault h = early_of_own task room fault (subst (λ (n : Netlist). IsFormless n fault) same h)
 
 -- why its program has no places
 pub early_of_places : (task : Task) (fault : CompileFault) → IsPlaceFault task fault → IsEarlyFault task fault
@@ -57,7 +61,7 @@ late task room jumps Memory some h = absurd (some refl)
 -- ---- from the parts to the two texts
 
 module _ (net src : List ℕ) where
-  pub of_netlist : (fault : CompileFault) → IsNetFault net fault → IsExplainFault net src fault
+  pub of_netlist : (fault : CompileFault) → IsUntaken net fault → IsExplainFault net src fault
   of_netlist (NetText at) h = h
   of_netlist (Net fault) h = h
   of_netlist (SrcText at) h = absurd h
@@ -70,28 +74,29 @@ module _ (net src : List ℕ) where
   of_netlist (ImageFull len size bound) h = absurd h
   of_netlist Memory h = tt
 
-  pub of_program : (width : ℕ) (fault : CompileFault) → IsSrcFault src width fault → IsCompileFault net src fault → IsExplainFault net src fault
-  of_program width (NetText at) h k = k
-  of_program width (Net fault) h k = k
-  of_program width (SrcText at) h k = k
-  of_program width (Src fault) h k = k
-  of_program width (DataFull need have) h k = k
-  of_program width NoStep h k = k
-  of_program width NoJump h k = k
-  of_program width (NoCover number) h k = absurd h
-  of_program width (NoReach bound reach) h k = absurd h
-  of_program width (ImageFull len size bound) h k = absurd h
-  of_program width Memory h k = k
+  module _ (has : HasTakenNet net) where
+    pub of_program : (width : ℕ) (fault : CompileFault) → IsSrcFault src width fault → IsCompileFault net src fault → IsExplainFault net src fault
+    of_program width (NetText at) h k = absurd h
+    of_program width (Net fault) h k = absurd h
+    of_program width (SrcText at) h k = (has, k)
+    of_program width (Src fault) h k = (has, k)
+    of_program width (DataFull need have) h k = absurd h
+    of_program width NoStep h k = absurd h
+    of_program width NoJump h k = absurd h
+    of_program width (NoCover number) h k = absurd h
+    of_program width (NoReach bound reach) h k = absurd h
+    of_program width (ImageFull len size bound) h k = absurd h
+    of_program width Memory h k = tt
 
-  pub of_task : (task : Task) (fault : CompileFault) → (IsTaskFault task fault → IsCompileFault net src fault) → IsEarlyFault task fault → IsExplainFault net src fault
-  of_task task (NetText at) f h = f h
-  of_task task (Net fault) f h = f h
-  of_task task (SrcText at) f h = f h
-  of_task task (Src fault) f h = f h
-  of_task task (DataFull need have) f h = f h
-  of_task task NoStep f h = f h
-  of_task task NoJump f h = f h
-  of_task task (NoCover number) f h = absurd h
-  of_task task (NoReach bound reach) f h = absurd h
-  of_task task (ImageFull len size bound) f h = absurd h
-  of_task task Memory f h = tt
+    pub of_task : (task : Task) (fault : CompileFault) → (IsTaskFault task fault → IsCompileFault net src fault) → IsEarlyFault task fault → IsExplainFault net src fault
+    of_task task (NetText at) f h = absurd h
+    of_task task (Net fault) f h = absurd h
+    of_task task (SrcText at) f h = absurd h
+    of_task task (Src fault) f h = absurd h
+    of_task task (DataFull need have) f h = (has, f h)
+    of_task task NoStep f h = (has, f h)
+    of_task task NoJump f h = (has, f h)
+    of_task task (NoCover number) f h = absurd h
+    of_task task (NoReach bound reach) f h = absurd h
+    of_task task (ImageFull len size bound) f h = absurd h
+    of_task task Memory f h = tt

@@ -1,9 +1,13 @@
 -- What is explained of two texts: each job with its cover or with what lacks one, and what
 -- `compile` answers.
-use Rattle.std.specs.Prelude.{ℕ, ◌+◌, ◌≡◌, ◌≢◌, ◌⊎◌, List, [], ◌∷◌, ◌++◌, map}
+use Rattle.std.specs.Prelude.{ℕ, ◌+◌, ◌≤◌, ◌≡◌, ◌≢◌, ◌⊎◌, List, [], ◌∷◌, ◌++◌, map}
 use Rattle.std.specs.List.{AllByRecursion, concat}
 use Rattle.net_model.specs.declared.hardware.Netlist.{Netlist}
 use Rattle.net_model.specs.Terms.{Term}
+use Rattle.net_model.specs.Written.{Text}
+use Rattle.net_parser.specs.Texts.{IsNoNetText}
+use Rattle.net_extract.specs.Extracts.{IsRoutedFile}
+use Rattle.net_extract.specs.Taken.{BreaksAnyTaken}
 use Rattle.form_model.specs.Covers.{Choice, HasNoCover, IsChosen, Stock, job_cost}
 use Rattle.form_model.specs.Rules.{Rule}
 use Rattle.src_trees.specs.Lowered.{Work}
@@ -16,7 +20,7 @@ use Rattle.net_compile.specs.Code.{HasRightCode, HasRoom, IsTaskFault}
 use Rattle.net_compile.specs.Compiled.{IsCompileFault}
 use Rattle.net_compile.specs.Tasks.{TaskHolds}
 use Rattle.net_compile.specs.declared.fault.CompileFault.{CompileFault}
-use Rattle.net_compile.specs.declared.fault.CompileFault.TheVariants.{NoCover, NoReach, ImageFull}
+use Rattle.net_compile.specs.declared.fault.CompileFault.TheVariants.{NetText, Net, NoCover, NoReach, ImageFull, Memory}
 use Rattle.net_explain.specs.Lines.{bare_line, cost_line, done_line, end_line, job_head, lack_line, near_line}
 
 -- ---- what is open: the wording of near forms
@@ -106,14 +110,35 @@ pub record IsExplainedTask (src text : List ℕ) (task : Task) : Type 0 where
   pub ends : IsEnding task ending
   pub lines : text ≡ jobs ++ ending
 
+-- the newest edition of the netlist texts of which programs are explained: what is told of a job is
+-- told of one netlist, and a text of a later edition has one for each mode
+abbrev pub explained_edition : ℕ
+explained_edition = 2
+
+-- the bytes are a netlist text of such an edition that keeps all rules
+pub record HasTakenNet (net : List ℕ) : Type 0 where
+  pub entries : Text
+  pub file : IsRoutedFile net entries
+  pub taken : entries.edition ≤ explained_edition
+
 -- the third bytes explain the program of the second on the netlist of the first
 abbrev pub IsExplained : List ℕ → List ℕ → List ℕ → Type 0
-IsExplained net src text = TaskHolds net src (IsExplainedTask src text)
+IsExplained net src text = HasTakenNet net × TaskHolds net src (IsExplainedTask src text)
 
--- when each refusal comes: as of `compile`, up to NoJump; a tree without a cover, and code that is
--- too long, refuse nothing
+-- why the netlist's bytes were not taken; nothing is said where memory ran out
+abbrev pub IsUntaken : List ℕ → CompileFault → Type 0
+IsUntaken net (NetText at) = IsNoNetText net at
+IsUntaken net (Net fault) = BreaksAnyTaken explained_edition net fault
+IsUntaken net Memory = Unit {0}
+IsUntaken net _ = ⊥
+
+-- when each refusal comes: the netlist's bytes are not taken, or `compile` refuses them so, up to
+-- NoJump; a tree without a cover, and code that is too long, refuse nothing
 abbrev pub IsExplainFault : List ℕ → List ℕ → CompileFault → Type 0
+IsExplainFault net src (NetText at) = IsUntaken net (NetText at)
+IsExplainFault net src (Net fault) = IsUntaken net (Net fault)
+IsExplainFault net src Memory = Unit {0}
 IsExplainFault net src (NoCover number) = ⊥
 IsExplainFault net src (NoReach bound reach) = ⊥
 IsExplainFault net src (ImageFull len size bound) = ⊥
-IsExplainFault net src fault = IsCompileFault net src fault
+IsExplainFault net src fault = HasTakenNet net × IsCompileFault net src fault

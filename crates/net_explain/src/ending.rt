@@ -4,24 +4,21 @@ ghost use Rattle.std.specs.Prelude.{◌≡◌, ◌≢◌, ◌++◌, ◌<◌, ◌
 ghost use Rattle.net_compile.specs.Code.{HasRightCode, HasRoom, IsTaskFault};
 ghost use Rattle.net_compile.specs.declared.fault.CompileFault.TheVariants.{NoCover, NoReach, ImageFull, Memory};
 ghost use Rattle.net_code.specs.Refusals.{HasJumps};
-ghost use Rattle.net_model.specs.CheckedRules.{KeepsRules};
 ghost use Rattle.net_model.specs.Nets.{memory_width};
-ghost use Rattle.net_model.specs.Patterns.{ArePatterns};
+ghost use Rattle.net_extract.specs.Extraction.{IsIsaOf};
 ghost use Rattle.right_code.specs.Tasks.{read_task};
 ghost use Rattle.src_front.specs.Fronts.{AreNamed};
 ghost use Rattle.src_model.specs.Rules.{first_fault};
 ghost use Rattle.src_model.specs.Written.{listing_of};
-ghost use Rattle.transfer_set.specs.Ready.{IsReady};
-ghost use Rattle.transfer_set.specs.Rows.{row_patterns};
 ghost use Rattle.net_explain.specs.Explained.{IsEnding};
-ghost use Rattle.net_explain.specs.Inner.Telling.{Adds};
+ghost use Rattle.net_explain.specs.Inner.Telling.{Adds, IsAlone};
 ghost use Rattle.net_explain.specs.Lines.{end_line};
 
 use crate::text::{add_bytes, add_number};
 use net_compile::{CompileFault, image_for};
-use net_extract::Extracted;
-use net_model::Checked;
-use rec_bits::NoMemory;
+use net_extract::Isa;
+use net_model::Modes;
+use rec_bits::{Items, NoMemory};
 use src_model::Typed;
 use std::alloc::Global;
 
@@ -75,23 +72,19 @@ fn add_refusal(text: &mut Vec<u8>, fault: CompileFault) -> Result<(), NoMemory>
 }
 
 // Whether there is an image, or why there is none.
-fn verdict(
-    alloc: Global,
-    checked: &Checked,
-    extracted: &mut Extracted,
-    typed: &Typed,
-) -> Result<(), CompileFault>
-    requires rules { KeepsRules checked.now.netlist checked.now.order }
-    requires ready { IsReady checked.now.netlist extracted.old.book extracted.old.pool extracted.old.patterns }
-    requires patterns { ArePatterns checked.now.netlist (row_patterns extracted.old.pool extracted.old.patterns.rows) }
-    requires width { typed.now.width ≡ memory_width checked.now.netlist.storages }
+fn verdict(alloc: Global, modes: &Modes, isa: Isa, typed: &Typed) -> Result<(), CompileFault>
+    requires alone { IsAlone modes.now }
+    requires isa { IsIsaOf modes.now.netlist isa }
+    requires width { typed.now.width ≡ memory_width modes.now.netlist.storages }
     requires program { first_fault typed.now.width (listing_of typed.now.program) ≡ None }
     requires few { length typed.now.program.vars < 2 ^ 32 }
     requires named { AreNamed typed.now.program.vars }
-    ensures right { OnOk result (HasRightCode (read_task checked.now typed.now)) }
-    ensures refused { IfErr result (IsTaskFault (read_task checked.now typed.now)) }
+    ensures right { OnOk result (HasRightCode (read_task modes.now typed.now)) }
+    ensures refused { IfErr result (IsTaskFault (read_task modes.now typed.now)) }
 {
-    let image = image_for(alloc, checked, extracted, typed)?;
+    let mut isas = Items::new(alloc);
+    isas.push(isa)?;
+    let image = image_for(alloc, modes, isas, typed)?;
     drop(image);
     Ok(())
 }
@@ -101,22 +94,21 @@ fn verdict(
 pub(crate) fn add_ending(
     alloc: Global,
     text: &mut Vec<u8>,
-    checked: &Checked,
-    extracted: &mut Extracted,
+    modes: &Modes,
+    isa: Isa,
     typed: &Typed,
 ) -> Result<(), NoMemory>
-    requires rules { KeepsRules checked.now.netlist checked.now.order }
-    requires ready { IsReady checked.now.netlist extracted.old.book extracted.old.pool extracted.old.patterns }
-    requires patterns { ArePatterns checked.now.netlist (row_patterns extracted.old.pool extracted.old.patterns.rows) }
-    requires width { typed.now.width ≡ memory_width checked.now.netlist.storages }
+    requires alone { IsAlone modes.now }
+    requires isa { IsIsaOf modes.now.netlist isa }
+    requires width { typed.now.width ≡ memory_width modes.now.netlist.storages }
     requires program { first_fault typed.now.width (listing_of typed.now.program) ≡ None }
     requires few { length typed.now.program.vars < 2 ^ 32 }
     requires named { AreNamed typed.now.program.vars }
-    requires room { HasRoom (read_task checked.now typed.now) }
-    requires jumps { HasJumps (read_task checked.now typed.now) }
-    ensures { OnOk result (Adds (IsEnding (read_task checked.now typed.now)) text.old.items text.new.items) }
+    requires room { HasRoom (read_task modes.now typed.now) }
+    requires jumps { HasJumps (read_task modes.now typed.now) }
+    ensures { OnOk result (Adds (IsEnding (read_task modes.now typed.now)) text.old.items text.new.items) }
 {
-    match verdict(alloc, checked, extracted, typed) {
+    match verdict(alloc, modes, isa, typed) {
         Ok(()) => add_bytes(text, b"done\n"),
         Err(fault) => add_refusal(text, fault),
     }

@@ -5,28 +5,25 @@ ghost use Rattle.code_model.specs.Layout.{layout_of};
 ghost use Rattle.form_model.specs.Rules.{rules_of};
 ghost use Rattle.form_model.specs.Covers.{stock_with};
 ghost use Rattle.job_places.specs.Places.{program_spots};
-ghost use Rattle.net_extract.specs.Extracts.{IsRoutedNet};
-ghost use Rattle.net_model.specs.CheckedRules.{KeepsRules};
+ghost use Rattle.net_extract.specs.Extraction.{IsIsaOf};
 ghost use Rattle.net_model.specs.Nets.{memory_width};
-ghost use Rattle.net_model.specs.Patterns.{ArePatterns};
 ghost use Rattle.right_code.specs.Tasks.{IsChecked, read_task, task_works};
 ghost use Rattle.src_front.specs.Fronts.{AreNamed};
 ghost use Rattle.src_model.specs.Rules.{first_fault};
 ghost use Rattle.src_model.specs.Written.{listing_of};
-ghost use Rattle.transfer_set.specs.Ready.{IsReady};
-ghost use Rattle.transfer_set.specs.Rows.{row_patterns};
 ghost use Rattle.net_explain.specs.Explained.{AreJobTexts, IsExplained, IsExplainFault, IsExplainedTask};
-ghost use Rattle.net_explain.specs.Inner.Telling.{IsEarlyFault, IsTold};
+ghost use Rattle.net_explain.specs.Inner.Telling.{IsAlone, IsEarlyFault, IsPlainNet, IsTold};
 
 use crate::ending::add_ending;
+use crate::netlists::netlist;
 use crate::subject::Subject;
 use crate::telling::job_texts;
 use code_model::Places;
 use form_model::Forms;
 use net_code::{blocks_of, usable_forms};
 use net_compile::CompileFault;
-use net_extract::Extracted;
-use net_model::Checked;
+use net_extract::Isa;
+use net_model::Modes;
 use rec_bits::NoMemory;
 use src_model::Typed;
 use std::alloc::Global;
@@ -35,22 +32,23 @@ use std::alloc::Global;
 fn told_jobs(
     alloc: Global,
     src: &[u8],
-    checked: &Checked,
+    modes: &Modes,
     forms: &Forms,
     typed: &Typed,
     places: &Places,
 ) -> Result<Vec<u8>, NoMemory>
-    requires checked { IsChecked checked.now.order (read_task checked.now typed.now) }
+    requires checked { IsChecked (read_task modes.now typed.now) }
+    requires alone { IsAlone modes.now }
     requires places { places.now ≡ layout_of typed.now.width (listing_of typed.now.program) }
-    ensures { IfOk result (λ text. AreJobTexts checked.now.netlist
+    ensures { IfOk result (λ text. AreJobTexts modes.now.netlist
         (stock_with forms.now.list.items places.now.temps forms.now.file) src.now 0
-        (program_spots (listing_of typed.now.program)) (task_works (read_task checked.now typed.now)) text.items) }
+        (program_spots (listing_of typed.now.program)) (task_works (read_task modes.now typed.now)) text.items) }
 {
-    let blocks = blocks_of(alloc, checked, typed, places)?;
+    let blocks = blocks_of(alloc, modes, typed, places)?;
     let subject = Subject {
         src,
         places: places.list.as_slice(),
-        checked,
+        checked: modes.first(),
         forms,
         temps: places.temps,
     };
@@ -64,92 +62,81 @@ fn told_jobs(
 fn jobs_text(
     alloc: Global,
     src: &[u8],
-    checked: &Checked,
-    extracted: &mut Extracted,
+    modes: &Modes,
+    extracted: &mut Isa,
     typed: &Typed,
 ) -> Result<Vec<u8>, CompileFault>
-    requires rules { KeepsRules checked.now.netlist checked.now.order }
-    requires ready { IsReady checked.now.netlist extracted.old.book extracted.old.pool extracted.old.patterns }
-    requires patterns { ArePatterns checked.now.netlist (row_patterns extracted.old.pool extracted.old.patterns.rows) }
-    requires width { typed.now.width ≡ memory_width checked.now.netlist.storages }
+    requires alone { IsAlone modes.now }
+    requires isa { IsIsaOf modes.now.netlist extracted.old }
+    requires width { typed.now.width ≡ memory_width modes.now.netlist.storages }
     requires program { first_fault typed.now.width (listing_of typed.now.program) ≡ None }
     requires few { length typed.now.program.vars < 2 ^ 32 }
     requires named { AreNamed typed.now.program.vars }
-    ensures told { IfOk result (λ text. IsTold src.now text.items (read_task checked.now typed.now)) }
-    ensures ready { IfOk result (λ _.
-        IsReady checked.now.netlist extracted.new.book extracted.new.pool extracted.new.patterns) }
-    ensures patterns { IfOk result (λ _.
-        ArePatterns checked.now.netlist (row_patterns extracted.new.pool extracted.new.patterns.rows)) }
-    ensures refused { IfErr result (IsEarlyFault (read_task checked.now typed.now)) }
+    ensures told { IfOk result (λ text. IsTold src.now text.items (read_task modes.now typed.now)) }
+    ensures isa { IfOk result (λ _. IsIsaOf modes.now.netlist extracted.new) }
+    ensures refused { IfErr result (IsEarlyFault (read_task modes.now typed.now)) }
 {
-    let places = net_compile::places(alloc, checked, typed)?;
+    let places = net_compile::places(alloc, modes, typed)?;
     let forms = usable_forms(
         alloc,
-        checked,
+        modes.first(),
         &mut extracted.book,
         &extracted.pool,
         &extracted.patterns,
     )?;
-    let text = told_jobs(alloc, src, checked, &forms, typed, &places)?;
+    let text = told_jobs(alloc, src, modes, &forms, typed, &places)?;
     Ok(text)
 }
 
-// The explanation of a program on a netlist.
+// The explanation of a program on a netlist without modes.
 fn task_text(
     alloc: Global,
     src: &[u8],
-    checked: &Checked,
-    extracted: &mut Extracted,
+    modes: &Modes,
+    mut isa: Isa,
     typed: &Typed,
 ) -> Result<Vec<u8>, CompileFault>
-    requires rules { KeepsRules checked.now.netlist checked.now.order }
-    requires ready { IsReady checked.now.netlist extracted.old.book extracted.old.pool extracted.old.patterns }
-    requires patterns { ArePatterns checked.now.netlist (row_patterns extracted.old.pool extracted.old.patterns.rows) }
-    requires width { typed.now.width ≡ memory_width checked.now.netlist.storages }
+    requires alone { IsAlone modes.now }
+    requires isa { IsIsaOf modes.now.netlist isa }
+    requires width { typed.now.width ≡ memory_width modes.now.netlist.storages }
     requires program { first_fault typed.now.width (listing_of typed.now.program) ≡ None }
     requires few { length typed.now.program.vars < 2 ^ 32 }
     requires named { AreNamed typed.now.program.vars }
-    ensures explained { IfOk result (λ text. IsExplainedTask src.now text.items (read_task checked.now typed.now)) }
-    ensures refused { IfErr result (IsEarlyFault (read_task checked.now typed.now)) }
+    ensures explained { IfOk result (λ text. IsExplainedTask src.now text.items (read_task modes.now typed.now)) }
+    ensures refused { IfErr result (IsEarlyFault (read_task modes.now typed.now)) }
 {
-    let mut text = jobs_text(alloc, src, checked, extracted, typed)?;
-    add_ending(alloc, &mut text, checked, extracted, typed)?;
+    let mut text = jobs_text(alloc, src, modes, &mut isa, typed)?;
+    add_ending(alloc, &mut text, modes, isa, typed)?;
     Ok(text)
 }
 
-// The explanation of the program that `src` is on a netlist, whatever its text is.
-fn explain_on(
-    alloc: Global,
-    checked: &Checked,
-    extracted: &mut Extracted,
-    src: &[u8],
-) -> Result<Vec<u8>, CompileFault>
-    requires rules { KeepsRules checked.now.netlist checked.now.order }
-    requires ready { IsReady checked.now.netlist extracted.old.book extracted.old.pool extracted.old.patterns }
-    requires patterns { ArePatterns checked.now.netlist (row_patterns extracted.old.pool extracted.old.patterns.rows) }
+// The explanation of the program that `src` is on a netlist without modes, whatever its text is.
+fn explain_on(alloc: Global, modes: &Modes, isa: Isa, src: &[u8]) -> Result<Vec<u8>, CompileFault>
+    requires alone { IsAlone modes.now }
+    requires isa { IsIsaOf modes.now.netlist isa }
     requires src { length src.now < 2 ^ 32 }
-    ensures explained { (net : List ℕ) → IsRoutedNet net checked.now →
+    ensures explained { (net : List ℕ) → IsPlainNet net modes.now →
         IfOk result (λ text. IsExplained net src.now text.items) }
-    ensures refused { (net : List ℕ) → IsRoutedNet net checked.now → IfErr result (IsExplainFault net src.now) }
+    ensures refused { (net : List ℕ) → IsPlainNet net modes.now → IfErr result (IsExplainFault net src.now) }
 {
-    let typed = net_compile::program(alloc, src, checked.memory_width())?;
-    let text = task_text(alloc, src, checked, extracted, &typed);
+    let typed = net_compile::program(alloc, src, modes.first().memory_width())?;
+    let text = task_text(alloc, src, modes, isa, &typed);
     drop(typed);
     text
 }
 
 /// The explanation of the program that `src` is on the netlist that `net` is: each of its jobs with
 /// the cost of its cover, or with what lacks one, and then what `compile` answers. The refusals are
-/// those of `compile` up to `NoJump`, each exactly where it is the first that applies; a job without
-/// a cover is none.
+/// those of `compile` up to `NoJump`, each exactly where it is the first that applies, but that a
+/// text with modes is refused as one that breaks N6; a job without a cover is none.
 pub fn explain(alloc: Global, net: &[u8], src: &[u8]) -> Result<Vec<u8>, CompileFault>
     requires net { length net.now < 2 ^ 32 }
     requires src { length src.now < 2 ^ 32 }
     ensures explained { IfOk result (λ text. IsExplained net.now src.now text.items) }
     ensures refused { IfErr result (IsExplainFault net.now src.now) }
 {
-    let (checked, mut extracted) = net_compile::netlist(alloc, net)?;
-    let text = explain_on(alloc, &checked, &mut extracted, src);
-    drop((checked, extracted));
+    let (modes, isa) = netlist(alloc, net)?;
+    let text = explain_on(alloc, &modes, isa, src);
+    drop(modes);
     text
 }

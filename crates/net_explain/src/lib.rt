@@ -5,8 +5,8 @@
 //! exactly where it has no orderly cover, the smallest subtrees that nothing makes (`explained`:
 //! `IsExplained`). Behind each of these come lines on the forms that are nearest, of which nothing
 //! is promised but that they are lines which begin with `near `. The text ends with the line of an
-//! answer of `compile`. Refusals are those of `compile` up to NoJump, in its order (`refused`:
-//! `IsExplainFault`).
+//! answer of `compile`. Refusals are those of `compile` up to NoJump, in its order, but that netlists
+//! with modes are refused as ones that break N6 (`refused`: `IsExplainFault`).
 //!
 //! Invariant: the places of jobs and the jobs have the same numbers (`law_of_places`).
 //!
@@ -19,16 +19,19 @@
 //! - `subject`: what is told of.
 //! - `telling`: all jobs, one behind the other.
 //! - `ending`: what `compile` answers.
+//! - `netlists`: the netlist, and what is extracted from it.
 //! - `explaining`: the parts in their order: `explain`.
 //! - `specs/`: `Lines` and `Explained`, cited by the public contract. `specs/Inner/`: `Telling`,
 //!   what the functions tell one another.
-//! - `proofs/`: `Growing`: texts that grow line by line.
+//! - `proofs/`: `Growing`: texts that grow line by line; `Alone`: netlists without modes; `Early`:
+//!   refusals.
 #![tactic(auto)]
 
 mod covering;
 mod ending;
 mod explaining;
 mod heading;
+mod netlists;
 mod subject;
 mod telling;
 mod text;

@@ -3,3 +3,4 @@ pub mod Extracting
 pub mod PlainNames
 pub mod RoutedLaws
 pub mod RoutedTaken
+pub mod OverModes

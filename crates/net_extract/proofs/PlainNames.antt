@@ -16,7 +16,7 @@ use Rattle.net_model.specs.Grammar.{IsItem, IsSized, IsItems, IsText, ItemBehind
 use Rattle.grammar.specs.declared.words.Word.TheVariants.{Name as Named, Symbol as Shows, Key as Keyed, Other}
 use Rattle.net_model.specs.declared.words.Key.TheVariants.{Item, Operator as Operates}
 use Rattle.net_model.specs.declared.words.ItemWord.{ItemWord}
-use Rattle.net_model.specs.declared.words.ItemWord.TheVariants.{Code, Register, Memory, File, Net, Bus, Module, Part}
+use Rattle.net_model.specs.declared.words.ItemWord.TheVariants.{Code, Register, Mode, Memory, File, Net, Bus, Module, Part}
 use Rattle.net_model.specs.declared.hardware.Space.TheVariants.{Memory as InMemory, File as InFile}
 use Rattle.net_model.specs.declared.words.Operator.TheVariants.{Unary, Binary}
 use Rattle.net_model.specs.declared.hardware.Netlist.{Netlist}
@@ -161,6 +161,8 @@ spelled_behind Code ts entry spelled is =
     subst SpelledEntry (sym is.second.second.second.same) (spelled_sized is.front is.value (spelled_front is spelled) is.first)
 spelled_behind Register ts entry spelled is =
     subst SpelledEntry (sym is.second.second.same) (spelled_sized is.front is.value (spelled_front is spelled) is.first)
+spelled_behind Mode ts entry spelled is =
+    subst SpelledEntry (sym is.second.second.same) (spelled_sized is.front is.value (spelled_front is spelled) is.first)
 spelled_behind Memory ts entry spelled is =
     subst SpelledEntry (sym is.second.second.second.second.same) (spelled_sized is.front is.value (spelled_front is spelled) is.first)
 spelled_behind File ts entry spelled is =
@@ -208,9 +210,9 @@ none_passes = λ k d h. absurd (omega arith)
 
 spelled_storages : (text : List Entry) (start : ℕ) (entries : List Entry) → AllByRecursion SpelledEntry entries → (id : ℕ) → AllPass is_name_byte (name_in (slice_get (storages_from text start entries) id))
 spelled_storages text start [] spelled id = none_passes
-spelled_storages text start (register name width input when ∷ entries) spelled zero = spelled.0
-spelled_storages text start (register name width input when ∷ entries) spelled (suc id) =
-    spelled_storages text (start + count_item text (register name width input when)) entries spelled.1 id
+spelled_storages text start (register kind name width input when ∷ entries) spelled zero = spelled.0
+spelled_storages text start (register kind name width input when ∷ entries) spelled (suc id) =
+    spelled_storages text (start + count_item text (register kind name width input when)) entries spelled.1 id
 spelled_storages text start (memory InMemory name width size addr_width value addr when ∷ entries) spelled zero = spelled.0
 spelled_storages text start (memory InMemory name width size addr_width value addr when ∷ entries) spelled (suc id) =
     spelled_storages text (start + count_item text (memory InMemory name width size addr_width value addr when)) entries spelled.1 id

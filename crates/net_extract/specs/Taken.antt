@@ -9,7 +9,7 @@ use Rattle.net_front.specs.declared.front.NetRefusal.{NetRefusal}
 use Rattle.net_front.specs.declared.front.NetRefusal.TheVariants.{Text, Fault, Memory}
 use Rattle.net_extract.specs.Extracts.{BreaksRouteRule, IsRoutedNet}
 
--- this netlist, which was checked, is that of the bytes, whose edition is taken
+-- this netlist, which was checked, is that of the bytes, whose edition is taken and has no modes
 pub record IsTakenNet (newest : ℕ) (bytes : List ℕ) (checked : Ordered) : Type 0 where
   pub routed : IsRoutedNet bytes checked
   pub taken : routed.entries.edition ≤ newest

@@ -1,26 +1,28 @@
 //! What the instruction words of a netlist do: its patterns, and their text.
 //!
-//! Promise: `extract` gives the text of exactly the patterns of the one netlist that the bytes say
-//! (`text`: `IsExtracted`); the netlist is taken exactly where it keeps all rules, and otherwise
-//! refused with the first that it breaks, N10 and then N12 or N13 last (`refused`:
-//! `IsRoutedRefusal`). `extract_netlist` gives the patterns with all their words, and the words
-//! without a clash (`extracted`: `IsExtractedFrom`), of a netlist, and `read_extracted` of bytes;
-//! `read_extracted_taken` refuses the editions that a command doesn't take
-//! (`IsRoutedTakenRefusal`).
+//! Promise: `extract` gives the text of exactly the patterns of the one netlist that the bytes say,
+//! mode by mode where it has modes (`text`: `IsExtracted`); the netlist is taken exactly where it
+//! keeps all rules, and otherwise refused with the first that it breaks, N10 and then N12 or N13
+//! last (`refused`: `IsRoutedRefusal`). `extract_netlist` gives the instruction set of a netlist: its
+//! patterns with all their words, and the words without a clash (`extracted`: `IsExtractedFrom`);
+//! `extract_modes` gives that of each mode (`AreExtractedFrom`, `IsModesRefusal`), and
+//! `read_extracted` so of bytes. `read_extracted_taken` is for commands that take no netlists with
+//! modes (`IsRoutedTakenRefusal`).
 //!
-//! Invariant: an `Extracted` holds its book and its pool, since the ids of its patterns mean
-//! nothing without them.
+//! Invariant: an `Isa` holds its book and its pool, since the ids of its patterns mean nothing
+//! without them. The list of a netlist's instruction sets goes with `Modes::bases`, place by place.
 //!
 //! Files:
 //!
 //! - `routed`: control, routes and patterns, over a book and a pool that are lent.
-//! - `netlists`: `Extracted`, of a netlist and of bytes.
+//! - `netlists`: `Isa`, of a netlist, of its modes and of bytes.
 //! - `taken`: of bytes, for commands that don't take all editions.
 //! - `texts`: from bytes to the text of the patterns.
 //! - `specs/`: `Extracts`, `Extraction`, `Sets` and `Taken` are all cited by public contracts.
-//! - `proofs/`: `Cleans` and `Extracting` for what is extracted, `PlainNames`: names of a text have
-//!   bytes of names alone, so no marks, and the order of patterns leaves no choice; `RoutedLaws`
-//!   and `RoutedTaken`: the answers exclude each other.
+//!   `specs/Inner/`: `Modes`, control bits before routes are traced.
+//! - `proofs/`: `Cleans` and `Extracting` for what is extracted, `OverModes`: from the modes to the
+//!   netlist; `PlainNames`: names of a text have bytes of names alone, so no marks, and the order of
+//!   patterns leaves no choice; `RoutedLaws` and `RoutedTaken`: the answers exclude each other.
 #![tactic(auto)]
 
 mod netlists;
@@ -28,6 +30,6 @@ mod routed;
 mod taken;
 mod texts;
 
-pub use netlists::{Extracted, extract_netlist, read_extracted};
+pub use netlists::{Isa, extract_modes, extract_netlist, read_extracted};
 pub use taken::read_extracted_taken;
 pub use texts::{extract, read_routed};

@@ -8,10 +8,10 @@ ghost use Rattle.sym_expr.specs.Pools.{Grows};
 ghost use Rattle.ctl_bdd.specs.Controls.{IsControl};
 ghost use Rattle.transfer_set.specs.Routes.{AreRoutes};
 ghost use Rattle.transfer_set.specs.Ready.{IsReady};
-ghost use Rattle.net_extract.specs.Extracts.{IsRouteRefusal, IsRouted};
-ghost use Rattle.net_extract.specs.Sets.{IsCleanSet};
+ghost use Rattle.net_extract.specs.Extracts.{IsRouted};
+ghost use Rattle.net_extract.specs.Inner.Modes.{IsClashRefusal, IsLimitRefusal};
 
-use bit_bdd::{Book, SetId};
+use bit_bdd::Book;
 use ctl_bdd::{ControlBits, CtlFault, controls};
 use net_model::{CheckFault, Checked, NetFault};
 use route_trace::{RouteFault, trace};
@@ -19,12 +19,17 @@ use std::alloc::Global;
 use sym_expr::Pool;
 use transfer_set::{Patterns, Routes, collect_patterns};
 
-// The control bits of the netlist, which has a word without clash.
-fn controls_of(alloc: Global, checked: &Checked, book: &mut Book) -> Result<ControlBits, CheckFault>
+/// The control bits of the netlist, which has a word without clash; the rule that it may break is
+/// N10.
+pub(crate) fn controls_of(
+    alloc: Global,
+    checked: &Checked,
+    book: &mut Book,
+) -> Result<ControlBits, CheckFault>
     requires { book.old.bits ≡ word_width checked.now.netlist }
     ensures grows { Extends book.old book.new }
     ensures found { IfOk result (IsControl checked.now.netlist book.new) }
-    ensures refused { IfErr result (IsRouteRefusal checked.now.netlist) }
+    ensures refused { IfErr result (IsClashRefusal checked.now.netlist) }
 {
     match controls(alloc, checked, book) {
         Ok(controls) => Ok(controls),
@@ -48,7 +53,7 @@ fn routes_of(
     ensures routes { IfOk result (λ routes.
         AreRoutes checked.now.netlist book.new pool.new controls.now.legal routes.of) }
     ensures kept { IfOk result (λ _. IsRouted checked.now.netlist) }
-    ensures refused { IfErr result (IsRouteRefusal checked.now.netlist) }
+    ensures refused { IfErr result (IsLimitRefusal checked.now.netlist) }
 {
     match trace(alloc, checked, controls, book, pool) {
         Ok(routes) => Ok(routes),
@@ -64,8 +69,8 @@ fn routes_of(
     }
 }
 
-// The patterns of the netlist, from its control bits.
-fn patterns_of(
+/// The patterns of the netlist, from its control bits; the rules that it may break are N12 and N13.
+pub(crate) fn patterns_of(
     alloc: Global,
     checked: &Checked,
     controls: &ControlBits,
@@ -77,27 +82,9 @@ fn patterns_of(
     ensures grows { Extends book.old book.new }
     ensures ready { IfOk result (IsReady checked.now.netlist book.new pool.new) }
     ensures kept { IfOk result (λ _. IsRouted checked.now.netlist) }
-    ensures refused { IfErr result (IsRouteRefusal checked.now.netlist) }
+    ensures refused { IfErr result (IsLimitRefusal checked.now.netlist) }
 {
     let routes = routes_of(alloc, checked, controls, book, pool)?;
     let patterns = collect_patterns(alloc, checked, controls, &routes, book, pool)?;
     Ok(patterns)
-}
-
-/// The patterns of the netlist, and its words without clash.
-pub(crate) fn patterns_and_legal(
-    alloc: Global,
-    checked: &Checked,
-    book: &mut Book,
-    pool: &mut Pool,
-) -> Result<(Patterns, SetId), CheckFault>
-    requires { book.old.bits ≡ word_width checked.now.netlist }
-    ensures ready { IfOk result (λ both. IsReady checked.now.netlist book.new pool.new both.0) }
-    ensures legal { IfOk result (λ both. IsCleanSet checked.now.netlist book.new both.1) }
-    ensures kept { IfOk result (λ _. IsRouted checked.now.netlist) }
-    ensures refused { IfErr result (IsRouteRefusal checked.now.netlist) }
-{
-    let controls = controls_of(alloc, checked, book)?;
-    let patterns = patterns_of(alloc, checked, &controls, book, pool)?;
-    Ok((patterns, controls.legal))
 }

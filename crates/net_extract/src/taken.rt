@@ -6,19 +6,21 @@ ghost use Rattle.transfer_set.specs.Rows.{row_patterns};
 ghost use Rattle.net_extract.specs.Extraction.{IsExtractedFrom};
 ghost use Rattle.net_extract.specs.Taken.{IsRoutedTakenRefusal, IsTakenNet};
 
-use crate::netlists::{Extracted, extract_netlist};
+use crate::netlists::{Isa, extract_netlist};
 use net_front::{NetRefusal, read_taken};
 use net_model::Checked;
 use std::alloc::Global;
 
-/// The same as `read_extracted` of a text whose edition is `newest` at most, 1 where it tells none.
-/// Any other is refused by the faults of `read_taken`.
+/// The netlist of a text whose edition is `newest` at most, 1 where it tells none, and which keeps
+/// all rules, with its instruction set: for a command that takes no netlists with modes. Any other
+/// text is refused by the faults of `read_taken`, or as by `read_extracted`.
 pub fn read_extracted_taken(
     alloc: Global,
     bytes: &[u8],
     newest: u8,
-) -> Result<(Checked, Extracted), NetRefusal>
-    requires { length bytes.now < 2 ^ 32 }
+) -> Result<(Checked, Isa), NetRefusal>
+    requires bytes { length bytes.now < 2 ^ 32 }
+    requires alone { newest < 3 }
     ensures netlist { IfOk result (λ both. IsTakenNet newest bytes.now both.0) }
     ensures extracted { IfOk result (λ both. IsExtractedFrom both.0.netlist both.1) }
     ensures patterns { IfOk result (λ both.

@@ -4,14 +4,14 @@ use Rattle.std.specs.declared.result.Result.{Result}
 use Rattle.std.specs.declared.result.Result.TheVariants.{Ok, Err}
 use Rattle.net_model.specs.declared.fault.NetFault.{NetFault}
 use Rattle.net_model.specs.declared.fault.NetFault.TheVariants.{Role as LacksRole}
-use Rattle.net_model.specs.declared.fault.Role.TheVariants.{File}
-use Rattle.net_model.specs.CheckedRules.{Ordered}
+use Rattle.net_model.specs.declared.fault.Role.{Role}
+use Rattle.net_model.specs.ModeRules.{Moded}
 use Rattle.net_model.specs.Written.{Text as NetText}
 use Rattle.net_parser.specs.Texts.{IsNoNetText}
 use Rattle.net_front.specs.declared.front.NetRefusal.{NetRefusal}
 use Rattle.net_front.specs.declared.front.NetRefusal.TheVariants.{Text, Fault, Memory}
-use Rattle.net_front.specs.Fronts.{SaysNet, IsNetFile, IsCheckedOf, IsItemsRefusal, IsRuleRefusal, BreaksFirst, IsNetRefusal}
-use Rattle.net_front.specs.Taken.{BreaksTaken, IsNewer, IsTakenRefusal, KeepsRoles, is_behind_roles, newer_of}
+use Rattle.net_front.specs.Fronts.{SaysNet, IsNetFile, IsModedOf, IsItemsRefusal, IsRuleRefusal, BreaksFirst, IsNetRefusal}
+use Rattle.net_front.specs.Taken.{BreaksTaken, IsNewer, IsTakenRefusal, KeepsRoles, added_role, is_behind_roles, newer_of}
 use Rattle.net_front.proofs.FrontLaws.{file_of, kept_breaks_none, no_broken_rule, no_text_fault, one_breaks, one_broken_rule}
 
 -- a text of an edition that is taken is of no later one
@@ -33,7 +33,8 @@ pub one_broken_taken : (newest : ℕ) (bytes : List ℕ) (fault later : NetFault
 one_broken_taken newest bytes fault later (inl (a, older)) (inl (b, also)) = one_broken_rule bytes fault later a b
 one_broken_taken newest bytes fault later (inl (a, older)) (inr (newer, same)) = absurd (older newer)
 one_broken_taken newest bytes fault later (inr (newer, same)) (inl (b, older)) = absurd (older newer)
-one_broken_taken newest bytes fault later (inr (newer, same)) (inr (other, also)) = same ∙ sym also
+one_broken_taken newest bytes fault later (inr (newer, same)) (inr (other, also)) =
+    same ∙ ap (λ (e : NetText). LacksRole (added_role e.edition)) (newer.says.only other.entries other.says.text) ∙ sym also
 
 -- ---- what is read
 
@@ -53,12 +54,15 @@ taken_refusal newest bytes entries says taken Memory is = tt
 -- ---- why a text of a later edition is refused
 
 module _ (newest : ℕ) (bytes : List ℕ) (entries : NetText) (says : SaysNet bytes entries) (newer : newest < entries.edition) where
-  is_newer : KeepsRoles entries → IsTakenRefusal newest bytes (Fault (LacksRole File))
+  abbrev role : Role
+  role = added_role entries.edition
+
+  is_newer : KeepsRoles entries → IsTakenRefusal newest bytes (Fault (LacksRole role))
   is_newer keeps = inr (record { entries = entries; says = says; newer = newer; keeps = keeps }, refl)
 
   -- items that keep all rules keep those up to N6
-  of_kept : (checked : Ordered) → IsCheckedOf entries checked → KeepsRoles entries
-  of_kept checked is fault broken = absurd (kept_breaks_none entries fault (file_of bytes entries checked says is).keeps broken)
+  of_kept : (modes : Moded) → IsModedOf entries modes → KeepsRoles entries
+  of_kept modes are fault broken = absurd (kept_breaks_none entries fault (file_of bytes entries modes says are).keeps broken)
 
   -- and so do those of which the first broken rule is a later one
   of_later : (fault : NetFault) → BreaksFirst entries fault → IsTrue (is_behind_roles fault) → KeepsRoles entries
@@ -71,16 +75,16 @@ module _ (newest : ℕ) (bytes : List ℕ) (entries : NetText) (says : SaysNet b
   )
 
   of_fault : (fault : NetFault) → BreaksFirst entries fault → (b : Bool) → is_behind_roles fault ≡ b →
-      IsTakenRefusal newest bytes (if b then Fault (LacksRole File) else Fault fault)
+      IsTakenRefusal newest bytes (if b then Fault (LacksRole role) else Fault fault)
   of_fault fault broken true later = is_newer (of_later fault broken later)
   of_fault fault broken false early = of_earlier fault broken early
 
-  of_refusal : (refusal : NetRefusal) → IsRuleRefusal entries refusal → IsTakenRefusal newest bytes (newer_of refusal)
+  of_refusal : (refusal : NetRefusal) → IsRuleRefusal entries refusal → IsTakenRefusal newest bytes (newer_of role refusal)
   of_refusal (Text at) is = absurd is
   of_refusal (Fault fault) is = of_fault fault is (is_behind_roles fault) refl
   of_refusal Memory is = tt
 
-  pub newer_taken : (checked : Result Ordered NetRefusal) (told : NetRefusal) → IfOk checked (IsCheckedOf entries) → IfErr checked (IsRuleRefusal entries) →
-      IfOk checked (λ _. told ≡ Fault (LacksRole File)) → IfErr checked (λ refusal. told ≡ newer_of refusal) → IsTakenRefusal newest bytes told
+  pub newer_taken : (modes : Result Moded NetRefusal) (told : NetRefusal) → IfOk modes (IsModedOf entries) → IfErr modes (IsRuleRefusal entries) →
+      IfOk modes (λ _. told ≡ Fault (LacksRole role)) → IfErr modes (λ refusal. told ≡ newer_of role refusal) → IsTakenRefusal newest bytes told
   newer_taken (Ok c) told is none same other = rw same (is_newer (of_kept c is))
   newer_taken (Err refusal) told none is other same = rw same (of_refusal refusal is)

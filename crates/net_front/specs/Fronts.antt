@@ -5,8 +5,8 @@ use Rattle.net_model.specs.declared.fault.CheckFault.{CheckFault}
 use Rattle.net_model.specs.declared.fault.CheckFault.TheVariants.{Fault as Broken, Memory as CheckMemory}
 use Rattle.net_model.specs.declared.hardware.Netlist.{Netlist}
 use Rattle.net_model.specs.CheckedRules.{IsWellFormed, KeepsRules, Ordered}
+use Rattle.net_model.specs.ModeRules.{AreModesOf, KeepsModes, ModeFaultOf, Moded}
 use Rattle.net_model.specs.Elaborated.{netlist_of}
-use Rattle.net_model.specs.NetFaults.{FaultOf}
 use Rattle.net_model.specs.TextRules.{first_fault}
 use Rattle.net_model.specs.Written.{Text as NetText}
 use Rattle.rec_bits.specs.declared.fault.ParseFault.{ParseFault}
@@ -20,11 +20,10 @@ pub record SaysNet (bytes : List ℕ) (entries : NetText) : Type 0 where
   pub text : IsNetText bytes entries
   pub only : (e : NetText) → IsNetText bytes e → entries ≡ e
 
--- the items keep N1 to N4 and N11, and their netlist all rules
+-- the items keep N1 to N4 and N11, and their netlist all rules in each of its modes
 pub record KeepsAll (entries : NetText) : Type 0 where
   pub kept : first_fault entries.items ≡ None
-  pub order : List ℕ
-  pub rules : KeepsRules (netlist_of entries) order
+  pub modes : KeepsModes (netlist_of entries)
 
 -- the bytes are a netlist text, and its items keep the rules
 pub record IsNetFile (bytes : List ℕ) (entries : NetText) : Type 0 where
@@ -32,11 +31,11 @@ pub record IsNetFile (bytes : List ℕ) (entries : NetText) : Type 0 where
   pub keeps : KeepsAll entries
 
 -- the first rule that the items break: of N1 to N4 and N11, or, where they keep these, of N5 to N9
--- and N14
+-- and N14, each of which is tried in all modes
 abbrev pub BreaksFirst : NetText → NetFault → Type 0
 BreaksFirst entries fault =
     (first_fault entries.items ≡ Some fault)
-    ⊎ ((first_fault entries.items ≡ None) × FaultOf (netlist_of entries) fault)
+    ⊎ ((first_fault entries.items ≡ None) × ModeFaultOf (netlist_of entries) fault)
 
 -- the bytes are a netlist text, and this is the first rule that its items break
 pub record BreaksRule (bytes : List ℕ) (fault : NetFault) : Type 0 where
@@ -44,7 +43,13 @@ pub record BreaksRule (bytes : List ℕ) (fault : NetFault) : Type 0 where
   pub says : SaysNet bytes entries
   pub broken : BreaksFirst entries fault
 
--- this netlist is the items', and it was checked
+-- this netlist is the items', and what it is in its modes was checked
+pub record IsModedOf (entries : NetText) (moded : Moded) : Type 0 where
+  pub kept : first_fault entries.items ≡ None
+  pub netlist : moded.netlist ≡ netlist_of entries
+  pub rules : AreModesOf moded.netlist moded.bases
+
+-- this netlist is the items', which have no mode, and it was checked
 pub record IsCheckedOf (entries : NetText) (checked : Ordered) : Type 0 where
   pub kept : first_fault entries.items ≡ None
   pub netlist : checked.netlist ≡ netlist_of entries

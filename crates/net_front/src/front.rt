@@ -2,11 +2,11 @@
 
 ghost use Rattle.std.specs.Prelude.{◌≡◌, ◌^◌, ◌<◌, length, IfOk, IfErr};
 ghost use Rattle.net_model.specs.Written.{text_of};
-ghost use Rattle.net_front.specs.Fronts.{SaysNet, IsCheckedOf, IsItemsRefusal, IsNetFile, IsNetRefusal, IsRuleRefusal};
+ghost use Rattle.net_front.specs.Fronts.{IsModedOf, SaysNet, IsItemsRefusal, IsNetFile, IsNetRefusal, IsRuleRefusal};
 
 use crate::flat::flatten;
-use net_check::check;
-use net_model::{CheckFault, Checked, NetFault, Units};
+use net_check::check_modes;
+use net_model::{CheckFault, Modes, NetFault, Units};
 use rec_bits::{NoMemory, ParseFault};
 use std::alloc::Global;
 
@@ -70,29 +70,29 @@ pub(crate) fn items(alloc: Global, bytes: &[u8]) -> Result<Units, NetRefusal>
     Ok(units)
 }
 
-// The netlist of the items, where it keeps the rules.
-pub(crate) fn checked(alloc: Global, units: &Units) -> Result<Checked, NetRefusal>
+// What the netlist of the items is in its modes, where it keeps the rules in each.
+pub(crate) fn modes(alloc: Global, units: &Units) -> Result<Modes, NetRefusal>
     requires { length units.now.items < 2 ^ 32 }
-    ensures found { IfOk result (IsCheckedOf (text_of units.now)) }
+    ensures found { IfOk result (IsModedOf (text_of units.now)) }
     ensures refused { IfErr result (IsRuleRefusal (text_of units.now)) }
 {
     let netlist = flatten(alloc, units)?;
-    let checked = check(alloc, netlist)?;
-    Ok(checked)
+    let modes = check_modes(alloc, netlist)?;
+    Ok(modes)
 }
 
-/// The items of a netlist's text, which keep the rules, and their netlist. `Text` comes exactly
-/// where the bytes are no netlist text, with the offset of the first token such that those before
-/// it begin some text and with it they don't, or the length of the bytes where all of them begin
-/// one. `Fault` comes exactly where they are one that breaks a rule, with the first. `Memory` is
-/// want of memory.
-pub fn read_net(alloc: Global, bytes: &[u8]) -> Result<(Units, Checked), NetRefusal>
+/// The items of a netlist's text, which keep the rules, and their netlist with what it is in its
+/// modes. `Text` comes exactly where the bytes are no netlist text, with the offset of the first
+/// token such that those before it begin some text and with it they don't, or the length of the
+/// bytes where all of them begin one. `Fault` comes exactly where they are one that breaks a rule,
+/// with the first; each is tried in all modes before the next. `Memory` is want of memory.
+pub fn read_net(alloc: Global, bytes: &[u8]) -> Result<(Units, Modes), NetRefusal>
     requires { length bytes.now < 2 ^ 32 }
     ensures found { IfOk result (λ read. IsNetFile bytes.now (text_of read.0)) }
-    ensures netlist { IfOk result (λ read. IsCheckedOf (text_of read.0) read.1) }
+    ensures modes { IfOk result (λ read. IsModedOf (text_of read.0) read.1) }
     ensures refused { IfErr result (IsNetRefusal bytes.now) }
 {
     let units = items(alloc, bytes)?;
-    let checked = checked(alloc, &units)?;
-    Ok((units, checked))
+    let modes = modes(alloc, &units)?;
+    Ok((units, modes))
 }

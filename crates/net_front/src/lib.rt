@@ -3,11 +3,13 @@
 //!
 //! Promise: `read_net` takes bytes exactly where they are a netlist's text that keeps N1 to N9, N11
 //! and N14, with the one edition and list of items that they say (`found`: `IsNetFile`) and its
-//! checked netlist (`netlist`: `IsCheckedOf`). Otherwise it tells the first token that shows a
-//! fault of the text, or the first rule that is broken, in the order N1, N2, N3, N4, N11, N5 to N9,
-//! N14 (`refused`: `IsNetRefusal`). `flatten` promises this of items and of the rules up to N11
+//! netlist, checked in each of its modes (`modes`: `IsModedOf`); one without modes has one.
+//! Otherwise it tells the first token that shows a fault of the text, or the first rule that is
+//! broken, in the order N1, N2, N3, N4, N11, N5 to N9, N14, each in all modes before the next
+//! (`refused`: `IsNetRefusal`). `flatten` promises this of items and of the rules up to N11
 //! (`IsElaboratedOf`, `IsTextRefusal`). `read_taken` is for commands that don't take all editions
-//! (`taken`): it refuses the others as breaking N6 (`refused`: `IsTakenRefusal`).
+//! (`taken`), and none with modes, so that there is one checked netlist (`netlist`: `IsCheckedOf`):
+//! it refuses the others as breaking N6 (`refused`: `IsTakenRefusal`).
 //!
 //! Files:
 //!

@@ -2,14 +2,15 @@
 
 ghost use Rattle.std.specs.Prelude.{◌≡◌, ◌^◌, ◌<◌, ◌≤◌, length, IfOk, IfErr};
 ghost use Rattle.net_model.specs.declared.fault.NetFault.TheVariants.{Role as LacksRole};
-ghost use Rattle.net_model.specs.declared.fault.Role.TheVariants.{File};
 ghost use Rattle.net_model.specs.Written.{text_of};
-ghost use Rattle.net_front.specs.Fronts.{IsCheckedOf, IsNetFile};
-ghost use Rattle.net_front.specs.Taken.{IsTakenRefusal, is_behind_roles as behind_roles, newer_of};
+ghost use Rattle.net_front.specs.Fronts.{IsCheckedOf, IsNetFile, IsRuleRefusal};
+ghost use Rattle.net_front.specs.Taken.{IsTakenRefusal, added_role, is_behind_roles as behind_roles, newer_of};
 ghost use Rattle.net_front.specs.declared.front.NetRefusal.TheVariants.{Fault};
 
-use crate::front::{NetRefusal, checked, items};
-use net_model::{Checked, NetFault, Role, Units};
+use crate::flat::flatten;
+use crate::front::{NetRefusal, items, modes};
+use net_check::check;
+use net_model::{Checked, Modes, NetFault, Role, Units};
 use std::alloc::Global;
 
 // Whether the rule is tried behind N6.
@@ -34,44 +35,70 @@ fn is_behind_roles(fault: NetFault) -> bool
     }
 }
 
-// What a refusal of the items is told as, where their edition isn't taken.
-fn newer(refusal: NetRefusal) -> NetRefusal
-    ensures { result ≡ newer_of refusal }
+// The part that an edition adds, as N6 names it.
+fn added_role(edition: u8) -> Role
+    ensures { result ≡ added_role edition }
+{
+    match edition {
+        3 => Role::Mode,
+        _ => Role::File,
+    }
+}
+
+// What a refusal of the items is told as, where their edition isn't taken and adds this part.
+fn newer(role: Role, refusal: NetRefusal) -> NetRefusal
+    ensures { result ≡ newer_of role refusal }
 {
     match refusal {
         NetRefusal::Fault(fault) if is_behind_roles(fault) => {
-            NetRefusal::Fault(NetFault::Role(Role::File))
+            NetRefusal::Fault(NetFault::Role(role))
         }
         _ => refusal,
     }
 }
 
-// Why the items of an edition that isn't taken are refused, by what the rules say of them.
-fn newer_refusal(checked: Result<Checked, NetRefusal>) -> NetRefusal
-    ensures kept { IfOk checked (λ _. result ≡ Fault (LacksRole File)) }
-    ensures refused { IfErr checked (λ refusal. result ≡ newer_of refusal) }
+// Why items are refused whose edition isn't taken and adds this part, by what the rules say of
+// them.
+fn newer_refusal(role: Role, modes: Result<Modes, NetRefusal>) -> NetRefusal
+    ensures kept { IfOk modes (λ _. result ≡ Fault (LacksRole role)) }
+    ensures refused { IfErr modes (λ refusal. result ≡ newer_of role refusal) }
 {
-    match checked {
-        Ok(_) => NetRefusal::Fault(NetFault::Role(Role::File)),
-        Err(refusal) => newer(refusal),
+    match modes {
+        Ok(_) => NetRefusal::Fault(NetFault::Role(role)),
+        Err(refusal) => newer(role, refusal),
     }
 }
 
-/// The same as `read_net` of a text whose edition is `newest` at most, 1 where it tells none. A
-/// text of a later edition is refused: by the first rule that it breaks, where that is N6 or tried
-/// before it, and else as one that breaks N6, with the part that the edition adds.
+// The netlist of the items of an edition without modes, where it keeps the rules.
+fn checked(alloc: Global, units: &Units) -> Result<Checked, NetRefusal>
+    requires few { length units.now.items < 2 ^ 32 }
+    requires alone { units.now.edition < 3 }
+    ensures found { IfOk result (IsCheckedOf (text_of units.now)) }
+    ensures refused { IfErr result (IsRuleRefusal (text_of units.now)) }
+{
+    let netlist = flatten(alloc, units)?;
+    let checked = check(alloc, netlist)?;
+    Ok(checked)
+}
+
+/// The items of a text whose edition is `newest` at most, 1 where it tells none, and their netlist,
+/// for a command that takes no netlists with modes: these are of edition 3. The refusals of such a
+/// text are those of `read_net`. A text of a later edition is refused: by the first rule that it
+/// breaks, where that is N6 or tried before it, and else as one that breaks N6, with the part that
+/// its edition adds.
 pub fn read_taken(alloc: Global, bytes: &[u8], newest: u8) -> Result<(Units, Checked), NetRefusal>
-    requires { length bytes.now < 2 ^ 32 }
+    requires bytes { length bytes.now < 2 ^ 32 }
+    requires alone { newest < 3 }
     ensures found { IfOk result (λ read. IsNetFile bytes.now (text_of read.0)) }
     ensures taken { IfOk result (λ read. read.0.edition ≤ newest) }
     ensures netlist { IfOk result (λ read. IsCheckedOf (text_of read.0) read.1) }
     ensures refused { IfErr result (IsTakenRefusal newest bytes.now) }
 {
     let units = items(alloc, bytes)?;
-    let checked = checked(alloc, &units);
     if units.edition > newest {
-        return Err(newer_refusal(checked));
+        let role = added_role(units.edition);
+        return Err(newer_refusal(role, modes(alloc, &units)));
     }
-    let checked = checked?;
+    let checked = checked(alloc, &units)?;
     Ok((units, checked))
 }

@@ -8,7 +8,7 @@ use Rattle.src_trees.specs.Flows.{flow_in}
 use Rattle.branch_fix.specs.Marked.{Ascend, labels}
 use Rattle.code_model.specs.declared.image.Image.{Image}
 use Rattle.code_model.specs.declared.image.Mark.{Mark}
-use Rattle.code_model.specs.Machine.{IsAt}
+use Rattle.code_model.specs.Machine.{IsCalm}
 use Rattle.code_model.specs.Places.{words_of}
 use Rattle.code_model.specs.Right.{ShowsSource}
 use Rattle.right_code.specs.Images.{IsMadeFor, IsRightImage}
@@ -40,7 +40,7 @@ some_words task image made = some_word (flow_in (acts_of task.listing.body) 0 0)
 enough : (n words : ℕ) → 1 ≤ words → n * words ≡ n + (n * words - n)
 enough n words some = grind arith
 
-pub right_runs : (task : Task) (image : Image) → IsRightImage task image → (s : State) → IsAt task.netlist 0 s → (n : ℕ) → RunsOn task.netlist (words_of image) (IsAtEnd task.netlist image) n s
+pub right_runs : (task : Task) (image : Image) → IsRightImage task image → (s : State) → IsCalm task.netlist 0 s → (n : ℕ) → RunsOn task.netlist (words_of image) (IsAtEnd task.netlist image) n s
 right_runs task image right s here n =
     let h : ShowsSource task.netlist image (strace task.width task.listing) s n = right.traces.shows s here n in
     shown_runs task.netlist image n (n * length (words_of image) - n) (n * length (words_of image)) s 0 h.entries (enough n (length (words_of image)) (some_words task image right.made)) h.traced

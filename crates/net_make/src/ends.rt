@@ -5,21 +5,21 @@ ghost use Rattle.std.specs.List.{AllByRecursion};
 ghost use Rattle.net_model.specs.MemoryText.{blank};
 ghost use Rattle.net_model.specs.Widths.{IsState, WordFits};
 ghost use Rattle.code_model.specs.ImageFits.{AreMarksAfter};
-ghost use Rattle.code_model.specs.Machine.{IsAt};
+ghost use Rattle.code_model.specs.Machine.{IsCalm};
 ghost use Rattle.code_model.specs.Places.{words_of};
 ghost use Rattle.net_make.specs.Stops.{IsAtEnd, RunsOn, StandsAt, StopsAt};
 
 use crate::marks::end_address;
 use code_model::{Image, words_of};
-use cycle_sim::{Clocked, Sim};
-use net_model::{Checked, State};
+use cycle_sim::{Clocked, ModeSim};
+use net_model::{Modes, State};
 use rec_bits::{NoMemory, ParseFault};
 use state_text::read_state;
 use std::alloc::Global;
 
 // Clocks until the program counter stands at an address, or `most` times where it doesn't, and
 // tells how many clocks that took.
-fn clock_to(sim: &mut Sim<'_>, address: Option<u64>, most: u32) -> u32
+fn clock_to(sim: &mut ModeSim<'_>, address: Option<u64>, most: u32) -> u32
     requires { RunsOn sim.old.netlist sim.old.words (StandsAt sim.old.netlist address) most sim.old.state }
     ensures netlist { sim.new.netlist ≡ sim.old.netlist }
     ensures stops { StopsAt sim.old.netlist sim.old.words (StandsAt sim.old.netlist address)
@@ -38,11 +38,11 @@ fn clock_to(sim: &mut Sim<'_>, address: Option<u64>, most: u32) -> u32
 }
 
 // The state that the empty memory text sets.
-pub(crate) fn blank(alloc: Global, checked: &Checked) -> Result<State, NoMemory>
-    ensures zeros { IfOk result (λ state. state ≡ blank checked.now.netlist.storages) }
-    ensures starts { IfOk result (IsAt checked.now.netlist 0) }
+pub(crate) fn blank(alloc: Global, modes: &Modes) -> Result<State, NoMemory>
+    ensures zeros { IfOk result (λ state. state ≡ blank modes.now.netlist.storages) }
+    ensures starts { IfOk result (IsCalm modes.now.netlist 0) }
 {
-    match read_state(alloc, b"", checked) {
+    match read_state(alloc, b"", modes.first(), None) {
         Ok(state) => Ok(state),
         Err(ParseFault::Memory) => Err(NoMemory),
         Err(ParseFault::Text(_)) => unreachable!(),
@@ -53,21 +53,21 @@ pub(crate) fn blank(alloc: Global, checked: &Checked) -> Result<State, NoMemory>
 // to it; how many clocks that took, and what they left.
 pub(crate) fn run_image<'a>(
     alloc: Global,
-    checked: &'a Checked,
+    modes: &'a Modes,
     image: &Image,
     start: State,
     most: u32,
-) -> Result<(u32, Sim<'a>), NoMemory>
-    requires words { AllByRecursion (WordFits checked.now.netlist) (words_of image.now) }
+) -> Result<(u32, ModeSim<'a>), NoMemory>
+    requires words { AllByRecursion (WordFits modes.now.netlist) (words_of image.now) }
     requires marks { AreMarksAfter None image.now.marks }
-    requires start { IsState checked.now.netlist start }
-    requires clean { RunsOn checked.now.netlist (words_of image.now)
-        (IsAtEnd checked.now.netlist image.now) most start }
-    ensures { IfOk result (λ ended. StopsAt checked.now.netlist (words_of image.now)
-        (IsAtEnd checked.now.netlist image.now) start most ended.0 ended.1.state) }
+    requires start { IsState modes.now.netlist start }
+    requires clean { RunsOn modes.now.netlist (words_of image.now)
+        (IsAtEnd modes.now.netlist image.now) most start }
+    ensures { IfOk result (λ ended. StopsAt modes.now.netlist (words_of image.now)
+        (IsAtEnd modes.now.netlist image.now) start most ended.0 ended.1.state) }
 {
     let words = words_of(alloc, image)?;
-    let mut sim = Sim::new(alloc, checked, words, start)?;
+    let mut sim = ModeSim::new(alloc, modes, words, start)?;
     let clocks = clock_to(&mut sim, end_address(image.marks.as_slice()), most);
     Ok((clocks, sim))
 }

@@ -21,6 +21,6 @@ pub fn make(alloc: Global, number: u32) -> Result<Vec<u8>, CompileFault>
     let net = job_gen::netlist(alloc, u64::from(number))?;
     let src = job_gen::program(alloc, u64::from(number))?;
     let made = read_compiled(alloc, &net, &src)?;
-    let text = summarize(alloc, number, &made.checked, &made.typed, &made.image)?;
+    let text = summarize(alloc, number, &made.modes, &made.typed, &made.image)?;
     Ok(text)
 }

@@ -5,7 +5,7 @@ ghost use Rattle.std.specs.List.{flat_map};
 ghost use Rattle.net_make.specs.Summary.{summary_head, summary_text, variable_line};
 
 use code_model::Place;
-use cycle_sim::Sim;
+use cycle_sim::ModeSim;
 use itoa::Buffer;
 use rec_bits::NoMemory;
 use std::alloc::Global;
@@ -26,7 +26,7 @@ pub(crate) fn head_lines(
 }
 
 // What the memory holds at a place.
-fn value_at(sim: &Sim<'_>, place: &Place) -> u64
+fn value_at(sim: &ModeSim<'_>, place: &Place) -> u64
     ensures { result ≡ slice_index sim.now.state.cells place.now.address }
 {
     sim.cell(place.address).unwrap_or(0)
@@ -34,7 +34,7 @@ fn value_at(sim: &Sim<'_>, place: &Place) -> u64
 
 // The line of a variable: its name, and what the memory holds at its place.
 #[tactic(auto, unfolding(crate::specs::Summary::variable_line))]
-fn put_variable(out: &mut Vec<u8>, place: &Place, sim: &Sim<'_>) -> Result<(), NoMemory>
+fn put_variable(out: &mut Vec<u8>, place: &Place, sim: &ModeSim<'_>) -> Result<(), NoMemory>
     ensures { OnOk result (out.new.items ≡ out.old.items ++ variable_line sim.now.state.cells place.now) }
 {
     let value = value_at(sim, place);
@@ -46,7 +46,7 @@ fn put_variable(out: &mut Vec<u8>, place: &Place, sim: &Sim<'_>) -> Result<(), N
     Ok(())
 }
 
-fn put_variables(out: &mut Vec<u8>, places: &[Place], sim: &Sim<'_>) -> Result<(), NoMemory>
+fn put_variables(out: &mut Vec<u8>, places: &[Place], sim: &ModeSim<'_>) -> Result<(), NoMemory>
     ensures { OnOk result (out.new.items ≡ out.old.items ++ flat_map (variable_line sim.now.state.cells) places.now) }
 {
     for place in places {
@@ -56,7 +56,11 @@ fn put_variables(out: &mut Vec<u8>, places: &[Place], sim: &Sim<'_>) -> Result<(
 }
 
 // The head of a summary, the variables at these places, and the end.
-pub(crate) fn summary(head: String, places: &[Place], sim: &Sim<'_>) -> Result<Vec<u8>, NoMemory>
+pub(crate) fn summary(
+    head: String,
+    places: &[Place],
+    sim: &ModeSim<'_>,
+) -> Result<Vec<u8>, NoMemory>
     ensures { IfOk result (λ text.
         text.items ≡ string_bytes head ++ (flat_map (variable_line sim.now.state.cells) places.now ++ codes "done\n")) }
 {

@@ -1,7 +1,7 @@
 //! From an image to what is told of it.
 
 ghost use Rattle.std.specs.Prelude.{IfOk};
-ghost use Rattle.net_model.specs.CheckedRules.{KeepsRules};
+ghost use Rattle.net_model.specs.ModeRules.{KeepsModes};
 ghost use Rattle.right_code.specs.Tasks.{read_task};
 ghost use Rattle.net_compile.specs.Code.{IsRightFor};
 ghost use Rattle.net_make.specs.Summing.{ShowsSummary};
@@ -10,7 +10,7 @@ use crate::counting::count_checkpoints;
 use crate::ends::{blank, run_image};
 use crate::summary::{head_lines, summary};
 use code_model::Image;
-use net_model::Checked;
+use net_model::Modes;
 use rec_bits::NoMemory;
 use src_model::Typed;
 use std::alloc::Global;
@@ -22,17 +22,17 @@ const MOST: u32 = 1_000_000;
 pub(crate) fn summarize(
     alloc: Global,
     number: u32,
-    checked: &Checked,
+    modes: &Modes,
     typed: &Typed,
     image: &Image,
 ) -> Result<Vec<u8>, NoMemory>
-    requires rules { KeepsRules checked.now.netlist checked.now.order }
-    requires image { IsRightFor image.now (read_task checked.now typed.now) }
-    ensures { IfOk result (λ text. ShowsSummary number (read_task checked.now typed.now) image.now text.items) }
+    requires rules { KeepsModes modes.now.netlist }
+    requires image { IsRightFor image.now (read_task modes.now typed.now) }
+    ensures { IfOk result (λ text. ShowsSummary number (read_task modes.now typed.now) image.now text.items) }
 {
     let checkpoints = count_checkpoints(alloc, typed, MOST)?;
-    let start = blank(alloc, checked)?;
-    let (cycles, sim) = run_image(alloc, checked, image, start, MOST)?;
+    let start = blank(alloc, modes)?;
+    let (cycles, sim) = run_image(alloc, modes, image, start, MOST)?;
     let head = head_lines(alloc, number, image.words.len(), cycles, checkpoints)?;
     let text = summary(head, image.places.as_slice(), &sim)?;
     Ok(text)

@@ -71,7 +71,7 @@ typed_width netlist n t h =
 
 -- ---- values of 0
 
-zeros_at : (n k : ℕ) → slice_index (replicate n 0) k ≡ 0
+pub zeros_at : (n k : ℕ) → slice_index (replicate n 0) k ≡ 0
 zeros_at zero k = refl
 zeros_at (suc n) zero = refl
 zeros_at (suc n) (suc k) = zeros_at n k

@@ -213,7 +213,7 @@ ports_fed output ports s bindings apart h once =
 -- ---- items
 
 register_item : (o : Option Entry) → IsTrue (is_register o) → IsRegisterItem o
-register_item (Some (register name width input when)) h = tt
+register_item (Some (register kind name width input when)) h = tt
 register_item _ h = absurd (cc h)
 
 item_ports_apart : (e : Entry) → repeated_ports e ≡ [] → repeated [] (map port_name (ports_of (Some e))) ≡ []
@@ -230,7 +230,7 @@ module _ (text : List Entry) (apart : AllByRecursion (λ e. repeated_ports e ≡
       → ((space : Space) → IsTrue (nat_le (cells_of space e) (most_cells space))) → IsTrue (nat_le (words_of e) 65536) → ItemKeeps text e
   item_keeps (code name bits size counter) own known fit driven cells words =
       (fit, words, register_item (item_named text counter.name) (kept (is_register (item_named text counter.name)) counter.at known))
-  item_keeps (register name width input when) own known fit driven cells words =
+  item_keeps (register kind name width input when) own known fit driven cells words =
       let a = and_left (is_width width && feeds (in_text text) width input) (enables (in_text text) when) fit in (
         and_left (is_width width) (feeds (in_text text) width input) a,
         feeds_is (in_text text) width input (and_right (is_width width) (feeds (in_text text) width input) a),

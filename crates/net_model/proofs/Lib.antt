@@ -24,4 +24,11 @@ pub mod TermLaws
 pub mod Counts
 pub mod Storages
 pub mod Spaces
+pub mod Blanks
 pub mod Far
+pub mod Fixing
+pub mod Clocking
+pub mod Bases
+pub mod Fixes
+pub mod ModeFaults
+pub mod BaseTexts

@@ -1,5 +1,6 @@
 -- The worked texts keep the rules, and others don't.
 use Rattle.std.proofs.Common.{lit<, lit≤, refl, [], ◌∷◌, None, codes}
+use Rattle.net_model.specs.declared.units.RegisterKind.TheVariants.{Plain}
 use Rattle.net_model.specs.Written.{register, const}
 use Rattle.net_model.specs.Elaborable.{IsElaborable}
 use Rattle.net_model.specs.WorkedElaborations.{s8_items, b2_items, part_items}
@@ -41,5 +42,5 @@ part_elaborable = record {
 }
 
 -- a register that is fed a wider net
-pub wider_breaks : IsElaborable (register (record { name = codes "R"; at = 9 }) 4 (const 0 5) None ∷ []) → ⊥
+pub wider_breaks : IsElaborable (register Plain (record { name = codes "R"; at = 9 }) 4 (const 0 5) None ∷ []) → ⊥
 wider_breaks k = cc (k.items.0.1)

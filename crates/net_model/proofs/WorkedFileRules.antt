@@ -21,6 +21,7 @@ f4_formed = record {
   nets = at_each (λ n net. NetKeeps f4 net) (λ n. tt) f4.nets (search rules);
   storages = search rules;
   codes = search rules;
+  mode = tt;
   limits = record { nets = lit≤ tt; registers = lit≤ tt; cells = (tt, (lit≤ tt, (lit≤ tt, tt))); words = (lit≤ tt, tt) };
 }
 
@@ -40,6 +41,7 @@ f4_roles = record {
   sizes = ((lit≤ tt, lit≤ tt), (lit≤ tt, lit≤ tt));
   address = lit≤ tt;
   file = (refl, (lit≤ tt, lit≤ tt));
+  mode = tt;
 }
 
 pub f4_keeps : KeepsRules f4 f4_order

@@ -57,6 +57,7 @@ s8_formed = record {
   nets = s8_nets;
   storages = search rules;
   codes = search rules;
+  mode = tt;
   limits = record { nets = lit≤ tt; registers = lit≤ tt; cells = (tt, (lit≤ tt, tt)); words = (lit≤ tt, tt) };
 }
 
@@ -76,6 +77,7 @@ s8_roles = record {
   sizes = ((lit≤ tt, lit≤ tt), (lit≤ tt, lit≤ tt));
   address = lit≤ tt;
   file = (refl, tt);
+  mode = tt;
 }
 
 pub s8_keeps : KeepsRules s8 s8_order
@@ -104,6 +106,7 @@ b2_formed = record {
   nets = at_each (λ n net. NetKeeps b2 net) (λ n. tt) b2.nets (search rules);
   storages = search rules;
   codes = search rules;
+  mode = tt;
   limits = record { nets = lit≤ tt; registers = lit≤ tt; cells = search rules; words = (lit≤ tt, tt) };
 }
 
@@ -126,6 +129,7 @@ b2_keeps = record {
     sizes = ((lit≤ tt, lit≤ tt), (lit≤ tt, lit≤ tt));
     address = lit≤ tt;
     file = (refl, tt);
+    mode = tt;
   };
   enables = search rules;
   control = search rules;
@@ -173,6 +177,7 @@ a16_formed = record {
   nets = at_each (λ n net. NetKeeps a16 net) (λ n. tt) a16.nets (search (rules, a16_branch_whole, a16_alu_apart, a16_branch_apart, a16_pc_apart, a16_one_apart, a16_when_apart));
   storages = search rules;
   codes = search rules;
+  mode = tt;
   limits = record { nets = lit≤ tt; registers = lit≤ tt; cells = search rules; words = (lit≤ tt, tt) };
 }
 
@@ -195,6 +200,7 @@ a16_keeps = record {
     sizes = ((lit≤ tt, lit≤ tt), (lit≤ tt, lit≤ tt));
     address = lit≤ tt;
     file = (refl, tt);
+    mode = tt;
   };
   enables = search rules;
   control = search rules;

@@ -15,7 +15,8 @@ use Rattle.net_model.specs.declared.hardware.Space.{Space}
 use Rattle.net_model.specs.declared.hardware.Space.TheVariants.{Memory as InMemory, File as InFile}
 use Rattle.net_model.specs.declared.hardware.Gate.{Gate}
 use Rattle.net_model.specs.declared.hardware.Gate.TheVariants.{Word, Reg, Read, Const, Wire, Un, Bin, Slice, Cat, Zext, Sext, Case}
-use Rattle.net_model.specs.Nets.{width_at, gate_nets, IsRegister, counter_of, counter_width, memory_size, memory_width, addr_width_in, array_in, is_in, space_at, storage_array, storage_name}
+use Rattle.net_model.specs.Editions.{is_moded}
+use Rattle.net_model.specs.Nets.{width_at, gate_nets, storage_bits, IsRegister, counter_of, counter_width, memory_size, memory_width, addr_width_in, array_in, is_in, space_at, storage_array, storage_name}
 use Rattle.net_model.specs.LimitRules.{most_cells}
 use Rattle.rec_bits.specs.Faults.{gather}
 use Rattle.net_model.specs.Widths.{GateFits, HasWidth, StorageFits}
@@ -88,6 +89,12 @@ StorageKeeps netlist (File cells) =
 abbrev pub CodeKeeps : Netlist → Code → Type 0
 CodeKeeps netlist code = IsWidth code.bits × IsRegister (slice_get netlist.storages code.counter)
 
+-- a mode is a register of 2 bits at most
+abbrev pub IsMode : Netlist → Option ℕ → Type 0
+IsMode netlist None = Unit {0}
+IsMode netlist (Some id) =
+    IsRegister (slice_get netlist.storages id) × (storage_bits (slice_get netlist.storages id) ≤ 2)
+
 -- ---- N11: limits
 
 abbrev pub register_count : List Storage → ℕ
@@ -123,6 +130,7 @@ pub record IsWellFormed (netlist : Netlist) : Type 0 where
   pub nets : (n : ℕ) → NetKeeps netlist (slice_get netlist.nets n)
   pub storages : AllByRecursion (StorageKeeps netlist) netlist.storages
   pub codes : AllByRecursion (CodeKeeps netlist) netlist.codes
+  pub mode : IsMode netlist netlist.special
   pub limits : IsWithinLimits netlist
 
 -- ---- N6: what a processor has one of
@@ -178,7 +186,17 @@ abbrev pub HasFile : Netlist → Type 0
 HasFile netlist =
     (count_in InFile netlist.storages ≡ files_of netlist.edition) × IsReached (array_in InFile netlist.storages)
 
--- a code, a memory, a program counter and the edition's file, of sizes that fit together
+-- there is a mode, where one is asked for
+abbrev pub HasModeIf : Bool → Option ℕ → Type 0
+HasModeIf true None = ⊥
+HasModeIf true (Some id) = Unit {0}
+HasModeIf false special = Unit {0}
+
+-- a mode, where its edition has one
+abbrev pub HasMode : Netlist → Type 0
+HasMode netlist = HasModeIf (is_moded netlist.edition) netlist.special
+
+-- a code, a memory, a program counter and the edition's file or mode, of sizes that fit together
 pub record HasRoles (netlist : Netlist) : Type 0 where
   pub code : HasOneCode netlist
   pub memory : HasOneMemory netlist
@@ -186,6 +204,7 @@ pub record HasRoles (netlist : Netlist) : Type 0 where
   pub sizes : HasSizes netlist
   pub address : HasAddress netlist
   pub file : HasFile netlist
+  pub mode : HasMode netlist
 
 -- ---- N7: enables depend on the instruction word alone
 

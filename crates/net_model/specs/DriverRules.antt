@@ -95,7 +95,7 @@ covers_binding s binding = covers s binding.1
 -- a module's outputs have one equation each, and the inputs of a part's module one link each
 abbrev pub is_driven_item : List Entry → Entry → Bool
 is_driven_item text (code name bits size counter) = true
-is_driven_item text (register name width input when) = covers (in_text text) input && covers_if (in_text text) when
+is_driven_item text (register kind name width input when) = covers (in_text text) input && covers_if (in_text text) when
 is_driven_item text (memory space name width size addr_width value addr when) =
     covers (in_text text) value && covers (in_text text) addr && covers_if (in_text text) when
 is_driven_item text (net name width value) = covers (in_text text) value

@@ -36,14 +36,14 @@ abbrev pub PortKeeps : Port → Type 0
 PortKeeps port = IsTrue (is_width port.width)
 
 abbrev pub IsRegisterItem : Option Entry → Type 0
-IsRegisterItem (Some (register name width input when)) = Unit {0}
+IsRegisterItem (Some (register kind name width input when)) = Unit {0}
 IsRegisterItem _ = ⊥
 
 -- the rules within an item
 abbrev pub ItemKeeps : List Entry → Entry → Type 0
 ItemKeeps text (code name bits size counter) =
     IsTrue (is_width bits) × IsTrue (nat_le size 65536) × IsRegisterItem (item_named text counter.name)
-ItemKeeps text (register name width input when) =
+ItemKeeps text (register kind name width input when) =
     IsTrue (is_width width) × Feeds (in_text text) width input × FeedsIf (in_text text) 1 when
 ItemKeeps text (memory space name width size addr_width value addr when) =
     IsTrue (is_width width) × IsTrue (is_width addr_width) × IsTrue (nat_le size (most_cells space))

@@ -1,5 +1,5 @@
 -- The netlist that the items of a text say.
-use Rattle.std.specs.Prelude.{ℕ, ◌+◌, ◌-◌, if◌then◌else◌, List, [], ◌∷◌, ◌++◌, map, Option, Some, None}
+use Rattle.std.specs.Prelude.{ℕ, ◌+◌, ◌-◌, nat_le, if◌then◌else◌, List, [], ◌∷◌, ◌++◌, map, Option, Some, None}
 use Rattle.grammar.specs.declared.words.Ident.{Ident}
 use Rattle.net_model.specs.declared.units.Port.{Port}
 use Rattle.net_model.specs.declared.hardware.Netlist.{Netlist}
@@ -9,9 +9,11 @@ use Rattle.net_model.specs.declared.hardware.Storage.{Storage}
 use Rattle.net_model.specs.declared.hardware.Storage.TheVariants.{Register, Memory, File}
 use Rattle.net_model.specs.declared.hardware.Cells.{Cells}
 use Rattle.net_model.specs.declared.hardware.Space.{Space}
+use Rattle.net_model.specs.declared.units.RegisterKind.TheVariants.{Mode as AsMode}
 use Rattle.net_model.specs.declared.hardware.Space.TheVariants.{Memory as InMemory, File as InFile}
 use Rattle.net_model.specs.declared.hardware.Gate.{Gate}
 use Rattle.net_model.specs.declared.hardware.Gate.TheVariants.{Word, Reg, Read, Const, Wire, Un, Bin, Slice, Cat, Zext, Sext, Case, Bus}
+use Rattle.net_model.specs.Editions.{is_moded}
 use Rattle.net_model.specs.Written.{Text, Entry, code, register, memory, net, bus, module_item, part, Phrase, named, const, un, bin, cat, slice, zext, sext, read, case, Rows, no_rows, row, Rest, no_rest, rest}
 use Rattle.net_model.specs.TextNames.{item_named}
 use Rattle.net_model.specs.TextWidths.{wide, ports_of}
@@ -170,7 +172,7 @@ part_nets text at start links ports equations =
 -- the nets of an item, where a net, a storage and a code have these numbers
 abbrev pub item_nets : List Entry → ℕ → ℕ → ℕ → Entry → List Net
 item_nets text start storage number (code name bits size counter) = plain_net name.at bits (Word number) ∷ []
-item_nets text start storage number (register name width input when) =
+item_nets text start storage number (register kind name width input when) =
     elaborated (of_text text) name.at start input ++ nets_if (of_text text) name.at (start + count input) when
     ++ plain_net name.at width (Reg storage) ∷ []
 item_nets text start storage number (memory space name width size addr_width value addr when) =
@@ -192,7 +194,7 @@ storage_in InMemory cells = Memory cells
 storage_in InFile cells = File cells
 
 abbrev pub item_storages : List Entry → ℕ → Entry → List Storage
-item_storages text start (register name width input when) =
+item_storages text start (register kind name width input when) =
     Register name.name width (out_of (of_text text) start input) (out_if (of_text text) (start + count input) when) ∷ []
 item_storages text start (memory space name width size addr_width value addr when) =
     storage_in space (record {
@@ -233,6 +235,25 @@ abbrev pub codes_from : List Entry → List Entry → List Code
 codes_from text [] = []
 codes_from text (e ∷ entries) = item_codes text e ++ codes_from text entries
 
+-- the modes among items: the storage and the width of each, where the first item's storage has a
+-- number
+abbrev pub own_modes : ℕ → Entry → List (ℕ × ℕ)
+own_modes storage (register AsMode name width input when) = (storage, width) ∷ []
+own_modes storage _ = []
+
+abbrev pub modes_from : ℕ → List Entry → List (ℕ × ℕ)
+modes_from storage [] = []
+modes_from storage (e ∷ entries) = own_modes storage e ++ modes_from (storage + count_storages e) entries
+
+-- the storage of the mode, where there is one alone, and it has 2 bits at most
+abbrev pub lone_mode : List (ℕ × ℕ) → Option ℕ
+lone_mode (mode ∷ []) = if nat_le mode.1 2 then Some mode.0 else None
+lone_mode _ = None
+
+-- the mode of items that are of an edition; only one edition has any
+abbrev pub special_in : ℕ → List Entry → Option ℕ
+special_in edition text = if is_moded edition then lone_mode (modes_from 0 text) else None
+
 -- the netlist of items that are of an edition, and of a text
 abbrev pub netlist_in : ℕ → List Entry → Netlist
 netlist_in edition text = record {
@@ -240,7 +261,7 @@ netlist_in edition text = record {
   storages = storages_from text 0 text;
   codes = codes_from text text;
   edition = edition;
-  special = None;
+  special = special_in edition text;
 }
 
 abbrev pub netlist_of : Text → Netlist

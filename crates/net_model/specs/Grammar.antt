@@ -8,8 +8,10 @@ use Rattle.grammar.specs.Tokens.{Sign, IsName, IsNumber, ByWord, IsNothing, Behi
 use Rattle.grammar.specs.declared.words.Word.TheVariants.{Name, Number, Symbol as Shows, Key as Keyed}
 use Rattle.net_model.specs.declared.words.Key.TheVariants.{Item, Operator as Operates}
 use Rattle.net_model.specs.declared.words.ItemWord.{ItemWord}
-use Rattle.net_model.specs.declared.words.ItemWord.TheVariants.{Code, Register, Memory, File, Net, Bus, Module, Part}
+use Rattle.net_model.specs.declared.words.ItemWord.TheVariants.{Code, Register, Mode, Memory, File, Net, Bus, Module, Part}
 use Rattle.net_model.specs.declared.hardware.Space.{Space}
+use Rattle.net_model.specs.declared.units.RegisterKind.{RegisterKind}
+use Rattle.net_model.specs.declared.units.RegisterKind.TheVariants.{Plain, Mode as AsMode}
 use Rattle.net_model.specs.declared.hardware.Space.TheVariants.{Memory as InMemory, File as InFile}
 use Rattle.net_model.specs.declared.words.Operator.{Operator}
 use Rattle.net_model.specs.declared.words.Operator.TheVariants.{Unary, Binary, Cat, Slice, Zext, Sext, Read, Case}
@@ -281,6 +283,13 @@ IsLinks = do
   links ← Maybe IsBindings
   Return (or_none links)
 
+-- name ':' number 'in' Expr [ 'when' Expr ] ';'
+abbrev pub IsLatch : RegisterKind → List Lexed → Entry → Type 0
+IsLatch kind = do
+  sized ← IsSized
+  fed ← IsFed In
+  Return (register kind sized.0 sized.1 fed.0 fed.1)
+
 -- name ':' number 'size' number 'addr' number 'write' Expr 'at' Expr [ 'when' Expr ] ';'
 abbrev pub IsCells : Space → List Lexed → Entry → Type 0
 IsCells space = do
@@ -298,11 +307,10 @@ ItemBehind Code = do
   size ← Behind Size IsNumber
   counter ← Before (Behind At IsName) Semicolon
   Return (code sized.0 sized.1 size counter)
--- 'register' name ':' number 'in' Expr [ 'when' Expr ] ';'
-ItemBehind Register = do
-  sized ← IsSized
-  fed ← IsFed In
-  Return (register sized.0 sized.1 fed.0 fed.1)
+-- 'register' Latch
+ItemBehind Register = IsLatch Plain
+-- 'mode' Latch
+ItemBehind Mode = IsLatch AsMode
 -- 'memory' Cells
 ItemBehind Memory = IsCells InMemory
 -- 'file' Cells

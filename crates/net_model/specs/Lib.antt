@@ -37,3 +37,7 @@ pub mod MemoryText
 pub mod Inner
 pub mod Editions
 pub mod WorkedFile
+pub mod Fixed
+pub mod Modes
+pub mod ModeRules
+pub mod WorkedModes

@@ -12,7 +12,7 @@ use Rattle.net_model.specs.Numbering.{count_items}
 use Rattle.rec_bits.specs.Faults.{or_else}
 
 abbrev pub count_register : Entry → ℕ
-count_register (register name width input when) = 1
+count_register (register kind name width input when) = 1
 count_register _ = 0
 
 abbrev pub count_registers : List Entry → ℕ

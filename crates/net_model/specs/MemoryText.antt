@@ -1,7 +1,8 @@
 -- What a memory text says of a netlist's state. Each line is REGISTER VALUE, or MEMORY ADDRESS
 -- VALUE or FILE ADDRESS VALUE, decimal without leading zeros; a later line for the same place
--- counts. What isn't named is 0, and nothing names the program counter.
-use Rattle.std.specs.Prelude.{ℕ, ◌^◌, ◌≡◌, ◌≢◌, ◌<◌, ◌⊎◌, List, [], ◌∷◌, ◌++◌, length, codes, slice_get, slice_set}
+-- counts. What isn't named is 0, and nothing names the program counter, nor the register `still`,
+-- where there is one.
+use Rattle.std.specs.Prelude.{ℕ, ◌^◌, ◌≡◌, ◌≢◌, ◌<◌, ◌⊎◌, List, [], ◌∷◌, ◌++◌, Option, Some, length, codes, slice_get, slice_set}
 use Rattle.std.proofs.Math.ListN.{replicate}
 use Rattle.std.specs.Fmt.{decimal}
 use Rattle.std.specs.List.{AllByRecursion, concat}
@@ -30,10 +31,12 @@ cell_line name address value = concat (name ∷ codes " " ∷ decimal address �
 abbrev pub IsOneWord : List ℕ → Type 0
 IsOneWord name = AllByRecursion (λ b. b ≢ 32) name
 
--- the line sets this register, which isn't the program counter, to this value, which fits it
-pub record SetsRegister (netlist : Netlist) (line : List ℕ) (id value : ℕ) : Type 0 where
+-- the line sets this register, which isn't the program counter and not `still`, to this value, which
+-- fits it
+pub record SetsRegister (netlist : Netlist) (still : Option ℕ) (line : List ℕ) (id value : ℕ) : Type 0 where
   pub register : IsRegister (slice_get netlist.storages id)
   pub other : id ≢ counter_of netlist.codes
+  pub unnamed : still ≢ Some id
   pub name : IsOneWord (name_of netlist id)
   pub fits : value < 2 ^ storage_bits (slice_get netlist.storages id)
   pub line_is : line ≡ register_line (name_of netlist id) value
@@ -45,8 +48,8 @@ pub record SetsCell (netlist : Netlist) (line : List ℕ) (space : Space) (addre
   pub fits : value < 2 ^ width_in space netlist.storages
   pub line_is : line ≡ cell_line (space_name netlist space) address value
 
-pub record SetsNothing (netlist : Netlist) (line : List ℕ) : Type 0 where
-  pub no_register : (id value : ℕ) → SetsRegister netlist line id value → ⊥
+pub record SetsNothing (netlist : Netlist) (still : Option ℕ) (line : List ℕ) : Type 0 where
+  pub no_register : (id value : ℕ) → SetsRegister netlist still line id value → ⊥
   pub no_cell : (space : Space) (address value : ℕ) → SetsCell netlist line space address value → ⊥
 
 -- ---- states
@@ -60,16 +63,16 @@ with_cell s InMemory address value = record s { cells = slice_set s.cells addres
 with_cell s InFile address value = record s { file = slice_set s.file address value }
 
 -- the line leads from one state to the other, by a register or by a cell
-abbrev pub SetsLine : Netlist → State → List ℕ → State → Type 0
-SetsLine netlist s line t =
-    ((id : ℕ) × (value : ℕ) × SetsRegister netlist line id value × (t ≡ with_register s id value))
+abbrev pub SetsLine : Netlist → Option ℕ → State → List ℕ → State → Type 0
+SetsLine netlist still s line t =
+    ((id : ℕ) × (value : ℕ) × SetsRegister netlist still line id value × (t ≡ with_register s id value))
     ⊎ ((space : Space) × (address : ℕ) × (value : ℕ) × SetsCell netlist line space address value
     × (t ≡ with_cell s space address value))
 
 -- the lines, one after the other, do
-abbrev pub AllLead : Netlist → State → List (List ℕ) → State → Type 0
-AllLead netlist s [] t = s ≡ t
-AllLead netlist s (line ∷ lines) t = (next : State) × SetsLine netlist s line next × AllLead netlist next lines t
+abbrev pub AllLead : Netlist → Option ℕ → State → List (List ℕ) → State → Type 0
+AllLead netlist still s [] t = s ≡ t
+AllLead netlist still s (line ∷ lines) t = (next : State) × SetsLine netlist still s line next × AllLead netlist still next lines t
 
 -- nothing but zeros: an entry for each storage, and the cells of the memory and of the file
 abbrev pub blank : List Storage → State
@@ -82,21 +85,21 @@ blank storages = record {
 -- ---- texts
 
 -- the bytes are a memory text, which says this state
-pub record IsMemoryText (netlist : Netlist) (bytes : List ℕ) (s : State) : Type 0 where
-  pub lead : AllLead netlist (blank netlist.storages) (lines_of bytes) s
+pub record IsMemoryText (netlist : Netlist) (still : Option ℕ) (bytes : List ℕ) (s : State) : Type 0 where
+  pub lead : AllLead netlist still (blank netlist.storages) (lines_of bytes) s
 
 -- The bytes aren't one: each line before this byte sets something, and the one that begins there
 -- sets nothing.
-pub record IsMemoryFault (netlist : Netlist) (bytes : List ℕ) (at : ℕ) : Type 0 where
+pub record IsMemoryFault (netlist : Netlist) (still : Option ℕ) (bytes : List ℕ) (at : ℕ) : Type 0 where
   pub before : List (List ℕ)
   pub line : List ℕ
   pub after : List (List ℕ)
   pub state : State
   pub lines : lines_of bytes ≡ before ++ (line ∷ after)
   pub place : length (concat before) ≡ at
-  pub good : AllLead netlist (blank netlist.storages) before state
-  pub bad : SetsNothing netlist line
+  pub good : AllLead netlist still (blank netlist.storages) before state
+  pub bad : SetsNothing netlist still line
 
-abbrev pub IsMemoryRefusal : Netlist → List ℕ → ParseFault → Type 0
-IsMemoryRefusal netlist bytes (fault.Text at) = IsMemoryFault netlist bytes at
-IsMemoryRefusal netlist bytes fault.Memory = Unit {0}
+abbrev pub IsMemoryRefusal : Netlist → Option ℕ → List ℕ → ParseFault → Type 0
+IsMemoryRefusal netlist still bytes (fault.Text at) = IsMemoryFault netlist still bytes at
+IsMemoryRefusal netlist still bytes fault.Memory = Unit {0}

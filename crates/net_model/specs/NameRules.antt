@@ -37,13 +37,13 @@ duplicates text = repeated [] (map own_name text) ++ gather repeated_ports text
 -- what an expression may name: a register, a code, a net or a bus
 abbrev pub has_value : Option Entry → Bool
 has_value (Some (code name bits size counter)) = true
-has_value (Some (register name width input when)) = true
+has_value (Some (register kind name width input when)) = true
 has_value (Some (net name width value)) = true
 has_value (Some (bus name width drivers)) = true
 has_value _ = false
 
 abbrev pub is_register : Option Entry → Bool
-is_register (Some (register name width input when)) = true
+is_register (Some (register kind name width input when)) = true
 is_register _ = false
 
 abbrev pub is_memory : Option Entry → Bool
@@ -124,7 +124,7 @@ unknown_binding output ports s binding =
 -- links are to inputs
 abbrev pub unknown_in_item : List Entry → Entry → List ℕ
 unknown_in_item text (code name bits size counter) = unknown (is_register (item_named text counter.name)) counter
-unknown_in_item text (register name width input when) =
+unknown_in_item text (register kind name width input when) =
     unknown_in (in_text text) input ++ unknown_if (in_text text) when
 unknown_in_item text (memory space name width size addr_width value addr when) =
     unknown_in (in_text text) value ++ unknown_in (in_text text) addr ++ unknown_if (in_text text) when

@@ -98,7 +98,7 @@ equations_of _ = []
 
 abbrev pub count_item : List Entry → Entry → ℕ
 count_item text (code name bits size counter) = 1
-count_item text (register name width input when) = count input + count_if when + 1
+count_item text (register kind name width input when) = count input + count_if when + 1
 count_item text (memory space name width size addr_width value addr when) = count value + count addr + count_if when
 count_item text (net name width value) = count value + 1
 count_item text (bus name width drivers) = count_drivers drivers + 1
@@ -129,7 +129,7 @@ wires_from text start (e ∷ entries) = item_wires text start e ∷ wires_from t
 
 -- how many storages an item gives, and the number of the first one of each item
 abbrev pub count_storages : Entry → ℕ
-count_storages (register name width input when) = 1
+count_storages (register kind name width input when) = 1
 count_storages (memory space name width size addr_width value addr when) = 1
 count_storages _ = 0
 

@@ -10,7 +10,7 @@ use Rattle.rec_bits.specs.Faults.{same_name}
 
 abbrev pub own_name : Entry → Ident
 own_name (code name bits size counter) = name
-own_name (register name width input when) = name
+own_name (register kind name width input when) = name
 own_name (memory space name width size addr_width value addr when) = name
 own_name (net name width value) = name
 own_name (bus name width drivers) = name

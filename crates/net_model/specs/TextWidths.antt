@@ -25,7 +25,7 @@ port_width (Some p) = Some p.width
 -- the width of what an item's name stands for: a code's word, a register's output, a net, a bus
 abbrev pub value_width : Option Entry → Option ℕ
 value_width (Some (code name bits size counter)) = Some bits
-value_width (Some (register name width input when)) = Some width
+value_width (Some (register kind name width input when)) = Some width
 value_width (Some (net name width value)) = Some width
 value_width (Some (bus name width drivers)) = Some width
 value_width _ = None

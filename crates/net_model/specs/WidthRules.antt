@@ -38,7 +38,7 @@ port_keeps port = is_width port.width
 
 abbrev pub widths_fit : List Entry → Entry → Bool
 widths_fit text (code name bits size counter) = is_width bits
-widths_fit text (register name width input when) =
+widths_fit text (register kind name width input when) =
     is_width width && feeds (in_text text) width input && enables (in_text text) when
 widths_fit text (memory space name width size addr_width value addr when) =
     is_width width && is_width addr_width && feeds (in_text text) width value && feeds (in_text text) addr_width addr

@@ -9,6 +9,7 @@ use Rattle.net_model.specs.declared.hardware.Gate.{Gate}
 use Rattle.net_model.specs.declared.hardware.Gate.TheVariants.{Word, Reg, Const, Wire, Un, Bin}
 use Rattle.grammar.specs.declared.words.Ident.{Ident}
 use Rattle.net_model.specs.declared.units.Port.{Port}
+use Rattle.net_model.specs.declared.units.RegisterKind.TheVariants.{Plain}
 use Rattle.net_model.specs.Written.{Entry, code, register, memory, net, bus, module_item, part, Phrase, named, const, un, bin, zext, read, case, no_rows, row, no_rest, rest}
 use Rattle.net_model.specs.Elaborated.{netlist_in}
 use Rattle.net_model.specs.Worked.{s8, a16, b2}
@@ -44,7 +45,7 @@ output_port name width = record { output = true; name = ident name; width = widt
 abbrev pub s8_items : List Entry
 s8_items =
     code (ident (codes "I")) 8 16 (ident (codes "PC"))
-    ∷ register (ident (codes "PC")) 4
+    ∷ register Plain (ident (codes "PC")) 4
     (case (bit (codes "I") 7)
     (row (0 ∷ []) (bin Add (of (codes "PC")) (const 1 4)) (row (1 ∷ []) (bits (codes "I") 3 0) no_rows)) no_rest) None
     ∷ memory InMemory (ident (codes "M")) 5 4 2 (bits (codes "I") 4 0) (bits (codes "I") 6 5) (Some (un Not (bit (codes "I") 7)))
@@ -72,7 +73,7 @@ a16_items =
     ∷ part (ident (codes "alu")) (ident (codes "ALU"))
     ((ident (codes "k"), bits (codes "op") 1 0) ∷ (ident (codes "a"), of (codes "ACC"))
     ∷ (ident (codes "b"), read (ident (codes "M")) (of (codes "f"))) ∷ [])
-    ∷ register (ident (codes "PC")) 8
+    ∷ register Plain (ident (codes "PC")) 8
     (case (of (codes "op"))
     (row (6 ∷ []) (of (codes "f"))
     (row (7 ∷ [])
@@ -81,7 +82,7 @@ a16_items =
     no_rows))
     (rest (bin Add (of (codes "PC")) (const 1 8))))
     None
-    ∷ register (ident (codes "ACC")) 16
+    ∷ register Plain (ident (codes "ACC")) 16
     (case (of (codes "op")) (row (5 ∷ []) (zext (of (codes "f")) 16) no_rows) (rest (output (codes "alu") (codes "y"))))
     (Some (case (of (codes "op")) (row (1 ∷ 2 ∷ 3 ∷ 5 ∷ []) (const 1 1) no_rows) (rest (const 0 1))))
     ∷ memory InMemory (ident (codes "M")) 16 256 8 (of (codes "ACC")) (of (codes "f"))
@@ -94,8 +95,8 @@ a16_elaborated = refl
 abbrev pub b2_items : List Entry
 b2_items =
     code (ident (codes "I")) 4 4 (ident (codes "PC"))
-    ∷ register (ident (codes "PC")) 2 (bin Add (of (codes "PC")) (const 1 2)) None
-    ∷ register (ident (codes "X")) 2 (of (codes "B")) None
+    ∷ register Plain (ident (codes "PC")) 2 (bin Add (of (codes "PC")) (const 1 2)) None
+    ∷ register Plain (ident (codes "X")) 2 (of (codes "B")) None
     ∷ bus (ident (codes "B")) 2
     ((bits (codes "I") 3 2, bit (codes "I") 0) ∷ (un Not (of (codes "X")), bit (codes "I") 1) ∷ [])
     ∷ memory InMemory (ident (codes "M")) 2 1 1 (of (codes "X")) (const 0 1) (Some (const 0 1))
@@ -120,7 +121,7 @@ part_items =
     ((at (codes "y") 57, bin Eq (named (at (codes "a") 64) None None) (const 3 4)) ∷ [])
     ∷ part (at (codes "p") 80) (at (codes "M") 84)
     ((at (codes "a") 87, un Not (named (at (codes "I") 95) None None)) ∷ [])
-    ∷ register (at (codes "R") 109) 1 (named (at (codes "p") 118) (Some (at (codes "y") 120)) None) None
+    ∷ register Plain (at (codes "R") 109) 1 (named (at (codes "p") 118) (Some (at (codes "y") 120)) None) None
     ∷ []
 
 -- the link, the wires of the ports, and the equation, all numbered for the part
@@ -150,8 +151,8 @@ outputs_items =
     (input_port (codes "a") 4 ∷ output_port (codes "y") 1 ∷ output_port (codes "z") 4 ∷ [])
     ((ident (codes "z"), un Not (of (codes "a"))) ∷ (ident (codes "y"), bin Eq (of (codes "a")) (const 3 4)) ∷ [])
     ∷ part (ident (codes "p")) (ident (codes "M")) ((ident (codes "a"), of (codes "I")) ∷ [])
-    ∷ register (ident (codes "R")) 1 (output (codes "p") (codes "y")) None
-    ∷ register (ident (codes "Q")) 4 (output (codes "p") (codes "z")) None
+    ∷ register Plain (ident (codes "R")) 1 (output (codes "p") (codes "y")) None
+    ∷ register Plain (ident (codes "Q")) 4 (output (codes "p") (codes "z")) None
     ∷ []
 
 -- the wires of the outputs and the nets of their equations come in the order of the ports, and not

@@ -5,6 +5,7 @@ use Rattle.grammar.specs.declared.words.Ident.{Ident}
 use Rattle.net_model.specs.declared.hardware.Space.TheVariants.{Memory as InMemory}
 use Rattle.net_model.specs.declared.fault.NetFault.TheVariants.{Duplicate, Unknown, Width, Driver, Limit}
 use Rattle.net_model.specs.declared.fault.NetKind.TheVariants.{Cells, Words}
+use Rattle.net_model.specs.declared.units.RegisterKind.TheVariants.{Plain}
 use Rattle.net_model.specs.Written.{Entry, code, register, memory, net, module_item, part, Phrase, named, const, bin, cat, read, case, no_rows, row, no_rest}
 use Rattle.net_model.specs.TextRules.{first_fault}
 
@@ -19,7 +20,7 @@ use_of name at = named (ident name at) None None
 -- memory M : 5 size 4 addr 2 write I[4:0] at I[6:5];
 abbrev control : ℕ → Entry
 control number =
-    register (ident (codes "PC") 35) 4
+    register Plain (ident (codes "PC") 35) 4
     (case (named (ident (codes "I") 50) None (Some (7, 7)))
     (row (0 ∷ []) (bin Add (use_of (codes "PC") 64) (const 1 4))
     (row (number ∷ []) (named (ident (codes "I") 78) None (Some (3, 0))) no_rows))
@@ -38,7 +39,7 @@ kept : first_fault s8 ≡ None
 kept = refl
 
 -- N1: the later of two registers, and of a port of each direction
-two_registers : first_fault (s8 ++ register (ident (codes "PC") 150) 4 (use_of (codes "I") 160) None ∷ [])
+two_registers : first_fault (s8 ++ register Plain (ident (codes "PC") 150) 4 (use_of (codes "I") 160) None ∷ [])
     ≡ Some (Duplicate 150)
 two_registers = refl
 

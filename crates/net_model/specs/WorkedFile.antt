@@ -28,6 +28,7 @@ use Rattle.net_model.specs.Symbolic.{sym_of}
 use Rattle.net_model.specs.Terms.{cell, word, const, bin, slice, write_at}
 use Rattle.net_model.specs.Transfers.{move_at, space_move}
 use Rattle.net_model.specs.Value.{value_of}
+use Rattle.net_model.specs.declared.units.RegisterKind.TheVariants.{Plain}
 use Rattle.net_model.specs.Written.{Entry, Phrase, code, register, memory, named}
 use Rattle.net_model.specs.Written.{bin as sum_of, const as number, read as read_of}
 
@@ -55,7 +56,7 @@ bits = of_range (codes "I")
 abbrev f4_items : ℕ → Phrase → Phrase → List Entry
 f4_items size at from =
     code (ident (codes "I") 16) 5 4 (ident (codes "PC") 0)
-    ∷ register (ident (codes "PC") 46) 2 (sum_of Add (of (codes "PC")) (number 1 2)) None
+    ∷ register Plain (ident (codes "PC") 46) 2 (sum_of Add (of (codes "PC")) (number 1 2)) None
     ∷ memory InFile (ident (codes "R") 75) 4 size 2
     (sum_of Add (read_of (ident (codes "R") 0) (bits 3 2)) (number 1 4)) at None
     ∷ memory InMemory (ident (codes "M") 145) 4 1 1 (read_of (ident (codes "R") 0) from) (number 0 1)

@@ -6,6 +6,7 @@ use Rattle.rec_bits.specs.declared.operator.Op2.{Op2}
 use Rattle.grammar.specs.declared.words.Ident.{Ident}
 use Rattle.net_model.specs.declared.units.Port.{Port}
 use Rattle.net_model.specs.declared.units.Units.{Units}
+use Rattle.net_model.specs.declared.units.RegisterKind.{RegisterKind}
 use Rattle.net_model.specs.declared.hardware.Space.{Space}
 use Rattle.net_model.specs.declared.units.Unit.{Unit as Item}
 use Rattle.net_model.specs.declared.units.Unit.TheVariants.{Code, Register, Memory, Net, Bus, Module, Part}
@@ -76,7 +77,7 @@ rest_of (Some a) = rest a
 
 pub data Entry : Type 0 where
   code : Ident → ℕ → ℕ → Ident → Entry
-  register : Ident → ℕ → Phrase → Option Phrase → Entry
+  register : RegisterKind → Ident → ℕ → Phrase → Option Phrase → Entry
   memory : Space → Ident → ℕ → ℕ → ℕ → Phrase → Phrase → Option Phrase → Entry
   net : Ident → ℕ → Phrase → Entry
   bus : Ident → ℕ → List (Phrase × Phrase) → Entry
@@ -95,7 +96,7 @@ binding_of b = (b.0, phrase_of b.1)
 
 abbrev pub entry_of : Item → Entry
 entry_of (Code name bits size counter) = code name bits size counter
-entry_of (Register name width input when) = register name width (phrase_of input) (when_of when)
+entry_of (Register kind name width input when) = register kind name width (phrase_of input) (when_of when)
 entry_of (Memory space name width size addr_width value addr when) =
     memory space name width size addr_width (phrase_of value) (phrase_of addr) (when_of when)
 entry_of (Net name width value) = net name width (phrase_of value)

@@ -54,6 +54,7 @@ pub enum Role {
     Size,
     Addr,
     File,
+    Mode,
 }
 
 /// What there may be too much of in a netlist.

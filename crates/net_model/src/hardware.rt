@@ -107,9 +107,11 @@ pub struct Netlist {
     pub nets: Items<Net>,
     pub storages: Items<Storage>,
     pub codes: Items<Code>,
-    /// The edition of its text: 2 where it is of register files, and otherwise 1.
+    /// The edition of its text: 2 where it has a register file, 3 where it has a mode, and
+    /// otherwise 1.
     pub edition: u8,
-    /// The storage that a later edition adds.
+    /// The register that is the mode, where the edition has one, and it is alone and has 2 bits at
+    /// most.
     pub special: Option<u32>,
 }
 

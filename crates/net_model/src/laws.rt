@@ -7,6 +7,7 @@ ghost use Rattle.net_model.specs.Widths.{IsState, IsTyped, StateFits, WordFits};
 ghost use Rattle.net_model.specs.Clock.{word_at};
 ghost use Rattle.net_model.specs.Control.{IsControlled, IsSound};
 ghost use Rattle.net_model.specs.Meaning.{mean};
+ghost use Rattle.net_model.specs.Modes.{ModesAreFixed};
 ghost use Rattle.net_model.specs.Symbolic.{sym_of};
 ghost use Rattle.net_model.specs.Transfers.{IsClean, Moved};
 ghost use Rattle.net_model.specs.Value.{value_of};
@@ -23,4 +24,10 @@ pub fn law_of_values()
 pub fn law_of_transfers()
     ensures { (netlist : Netlist) (words : List ℕ) (word : ℕ) (s : State) → IsSound netlist → IsState netlist s →
         IsClean netlist word → word_at netlist words s ≡ word → Moved netlist words word s }
+{}
+
+/// While the mode of a netlist is v, what the netlist is in mode v has the same values of nets, the
+/// same clash and the same clock.
+pub fn law_of_modes()
+    ensures { ModesAreFixed }
 {}

@@ -11,6 +11,13 @@ pub struct Units {
     pub items: Items<Unit>,
 }
 
+/// Which register: a plain one, or the mode, at each of whose numbers words do something else.
+#[derive(Clone, Copy, PartialEq, Eq)]
+pub enum RegisterKind {
+    Plain,
+    Mode,
+}
+
 /// An item: its names, numbers and expressions, in their order.
 #[derive(Drop)]
 pub enum Unit {
@@ -20,7 +27,9 @@ pub enum Unit {
         size: u64,
         counter: Ident,
     },
+    /// A register, or the mode.
     Register {
+        kind: RegisterKind,
         name: Ident,
         width: u64,
         input: NetExpr,

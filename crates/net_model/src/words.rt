@@ -23,6 +23,7 @@ pub enum Key {
 pub enum ItemWord {
     Code,
     Register,
+    Mode,
     Memory,
     File,
     Net,

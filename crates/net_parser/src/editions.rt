@@ -13,6 +13,7 @@ pub fn added_by(edition: u64) -> Option<ItemWord>
 {
     match edition {
         2 => Some(ItemWord::File),
+        3 => Some(ItemWord::Mode),
         _ => None,
     }
 }
@@ -23,6 +24,7 @@ fn is_added(item: ItemWord, text: &[u8]) -> bool
 {
     match item {
         ItemWord::File => text == b"file".as_slice(),
+        ItemWord::Mode => text == b"mode".as_slice(),
         _ => false,
     }
 }

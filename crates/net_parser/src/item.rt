@@ -2,10 +2,10 @@
 
 ghost use Rattle.std.specs.Prelude.{◌≡◌, MatchOption, map};
 ghost use Rattle.grammar.specs.Reading.{Gives, never};
-ghost use Rattle.net_model.specs.declared.words.ItemWord.TheVariants.{Bus, Code, Module, Net, Part, Register};
+ghost use Rattle.net_model.specs.declared.words.ItemWord.TheVariants.{Bus, Code, Module, Net, Part};
 ghost use Rattle.net_model.specs.declared.words.Symbol.TheVariants.{At, Semicolon};
 ghost use Rattle.grammar.specs.Tokens.{Before, Behind, IsName};
-ghost use Rattle.net_model.specs.Grammar.{IsCells, IsFed, IsItem, IsItems, IsWrite, ItemBehind};
+ghost use Rattle.net_model.specs.Grammar.{IsCells, IsFed, IsItem, IsItems, IsLatch, IsWrite, ItemBehind};
 ghost use Rattle.net_model.specs.Written.{entry_of, phrase_of, when_of};
 ghost use Rattle.net_parser.specs.Inner.Steps.{HasNoItem, OpensItem, after_items};
 
@@ -14,7 +14,7 @@ use crate::parts::{
     LEVELS, braced_drivers, braced_equations, enclosed_links, enclosed_ports, sized_name, when_end,
 };
 use grammar::{Stop, expect, front, keeping, name, name_behind, number_behind};
-use net_model::{Ident, ItemWord, Key, Lexed, NetExpr, Space, Symbol, Unit, Word};
+use net_model::{Ident, ItemWord, Key, Lexed, NetExpr, RegisterKind, Space, Symbol, Unit, Word};
 use rec_bits::Items;
 use std::alloc::Global;
 
@@ -67,13 +67,14 @@ fn fed(alloc: Global, symbol: Symbol, ts: &[Lexed]) -> Result<(Fed, &[Lexed]), S
     Ok(((input, when), rest))
 }
 
-/// A register, behind its word.
-fn register(alloc: Global, ts: &[Lexed]) -> Result<(Unit, &[Lexed]), Stop>
-    ensures { Gives (λ x. (entry_of x.0, x.1.now)) (ItemBehind Register) never ts.now result }
+/// A register or the mode, behind its word.
+fn register(alloc: Global, kind: RegisterKind, ts: &[Lexed]) -> Result<(Unit, &[Lexed]), Stop>
+    ensures { Gives (λ x. (entry_of x.0, x.1.now)) (IsLatch kind) never ts.now result }
 {
     let ((name, width), rest) = sized_name(alloc, ts)?;
     let ((input, when), rest) = fed(alloc, Symbol::In, rest)?;
     let unit = Unit::Register {
+        kind,
         name,
         width,
         input,
@@ -179,7 +180,8 @@ fn item_behind(alloc: Global, word: ItemWord, ts: &[Lexed]) -> Result<(Unit, &[L
 {
     match word {
         ItemWord::Code => code(alloc, ts),
-        ItemWord::Register => register(alloc, ts),
+        ItemWord::Register => register(alloc, RegisterKind::Plain, ts),
+        ItemWord::Mode => register(alloc, RegisterKind::Mode, ts),
         ItemWord::Memory => memory(alloc, Space::Memory, ts),
         ItemWord::File => memory(alloc, Space::File, ts),
         ItemWord::Net => net(alloc, ts),

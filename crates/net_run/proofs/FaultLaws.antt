@@ -1,10 +1,10 @@
 -- From what was read to the texts.
-use Rattle.std.proofs.Common.{ℕ, List, sym, subst}
+use Rattle.std.proofs.Common.{ℕ, List, None, sym, subst}
 use Rattle.std.specs.List.{AllByRecursion}
 use Rattle.net_model.specs.declared.hardware.Netlist.{Netlist}
 use Rattle.net_model.specs.Widths.{WordFits}
 use Rattle.net_model.specs.declared.states.State.{State}
-use Rattle.net_model.specs.CheckedRules.{Ordered}
+use Rattle.net_model.specs.ModeRules.{Moded}
 use Rattle.net_model.specs.Elaborated.{netlist_of}
 use Rattle.code_model.specs.declared.image.Image.{Image}
 use Rattle.code_model.specs.Places.{words_of}
@@ -18,19 +18,19 @@ use Rattle.net_run.specs.declared.machine.RunFault.{RunFault}
 use Rattle.net_run.specs.declared.machine.RunFault.TheVariants.{NetText, Net, ImageText, MemText, Clash, Memory}
 
 -- the words of an image that fits the netlist fit it
-pub read_words_fit : (net image : List ℕ) (checked : Ordered) → IsNetRead net checked → (said : Image) → IsImageText (limits_of checked.netlist) image said → AllByRecursion (WordFits checked.netlist) (words_of said)
+pub read_words_fit : (net image : List ℕ) (checked : Moded) → IsNetRead net checked → (said : Image) → IsImageText (limits_of checked.netlist) image said → AllByRecursion (WordFits checked.netlist) (words_of said)
 read_words_fit net image checked read said is =
     subst (λ (n : Netlist). AllByRecursion (WordFits n) (words_of said)) (sym read.netlist)
-    (words_fit (netlist_of read.entries) read.file.keeps.order read.file.keeps.rules said.words (subst (λ (n : Netlist). AllByRecursion (CodeFits (limits_of n).bits) said.words) read.netlist is.fits.words))
+    (words_fit (netlist_of read.entries) read.file.keeps.modes said.words (subst (λ (n : Netlist). AllByRecursion (CodeFits (limits_of n).bits) said.words) read.netlist is.fits.words))
 
-module _ (net image memory : List ℕ) (clocks : ℕ) (checked : Ordered) (read : IsNetRead net checked) where
+module _ (net image memory : List ℕ) (clocks : ℕ) (checked : Moded) (read : IsNetRead net checked) where
   module _ (said : Image) (image_is : IsImageText (limits_of checked.netlist) image said) where
     abbrev image_file : IsImageFile net image
     image_file = record { entries = read.entries; said = said; net_file = read.file; image_text = subst (λ (n : Netlist). IsImageText (limits_of n) image said) read.netlist image_is }
 
-    module _ (start : State) (memory_is : IsMemoryText checked.netlist memory start) where
+    module _ (start : State) (memory_is : IsMemoryText checked.netlist None memory start) where
       taken : IsLoaded net image memory (record { entries = read.entries; image = said; start = start })
-      taken = record { net_file = read.file; image_text = image_file.image_text; memory_text = subst (λ (n : Netlist). IsMemoryText n memory start) read.netlist memory_is }
+      taken = record { net_file = read.file; image_text = image_file.image_text; memory_text = subst (λ (n : Netlist). IsMemoryText n None memory start) read.netlist memory_is }
 
       pub shows_of_end : (out : List ℕ) → IsEndText checked.netlist (words_of said) start clocks out → ShowsState net image memory clocks out
       shows_of_end out h =

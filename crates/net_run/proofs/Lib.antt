@@ -4,3 +4,4 @@ pub mod LimitLaws
 pub mod StateLaws
 pub mod RunLaws
 pub mod FaultLaws
+pub mod Firsts

@@ -1,10 +1,13 @@
 -- The words of a checked netlist's code.
-use Rattle.std.proofs.Common.{◌≡◌, ℕ, zero, suc, ◌^◌, ◌<◌, ◌≤◌, List, [], ◌∷◌, length, map, refl, arith}
+use Rattle.std.proofs.Common.{◌≡◌, ℕ, zero, suc, ◌^◌, ◌<◌, ◌≤◌, List, [], ◌∷◌, length, map, refl, subst, arith}
 use Rattle.std.specs.List.{AllByRecursion}
 use Rattle.std.specs.Prelude.{slice_get}
 use Rattle.net_model.specs.declared.hardware.Code.{Code}
 use Rattle.net_model.specs.declared.hardware.Netlist.{Netlist}
 use Rattle.net_model.specs.CheckedRules.{CodeKeeps, KeepsRules}
+use Rattle.net_model.specs.ModeRules.{base_at, KeepsModes}
+use Rattle.net_model.proofs.Bases.{base_of}
+use Rattle.net_model.proofs.ModeFaults.{first_keeps}
 use Rattle.net_model.specs.Elaborated.{netlist_of}
 use Rattle.net_model.specs.Nets.{code_bits}
 use Rattle.net_model.specs.Widths.{WordFits}
@@ -21,8 +24,17 @@ narrow_code netlist (code ∷ codes) keeps few one = record { some = keeps.0.0.0
 narrow_rules : (netlist : Netlist) (order : List ℕ) → KeepsRules netlist order → Narrow (limits_of netlist)
 narrow_rules netlist order rules = narrow_code netlist netlist.codes rules.formed.codes rules.formed.limits.words rules.roles.code
 
+-- the codes of a netlist are those of what it is in mode 0
+pub first_codes : (netlist : Netlist) → (base_at netlist 0).codes ≡ netlist.codes
+first_codes netlist = (base_of netlist netlist.special 0).codes
+
+pub narrow_moded : (netlist : Netlist) → KeepsModes netlist → Narrow (limits_of netlist)
+narrow_moded netlist keeps =
+    let first = first_keeps netlist keeps in
+    subst (λ (list : List Code). Narrow (limits_in list)) (first_codes netlist) (narrow_rules (base_at netlist 0) first.order first.rules)
+
 pub narrow_of : (net : List ℕ) (entries : Text) → IsNetFile net entries → Narrow (limits_of (netlist_of entries))
-narrow_of net entries file = narrow_rules (netlist_of entries) file.keeps.order file.keeps.rules
+narrow_of net entries file = narrow_moded (netlist_of entries) file.keeps.modes
 
 -- a word that fits the limits fits the netlist
 word_fits : (netlist : Netlist) (codes : List Code) → netlist.codes ≡ codes → length codes ≡ 1 → (word : ℕ) → word < 2 ^ (limits_in codes).bits → WordFits netlist word
@@ -34,6 +46,10 @@ word_fits netlist (code ∷ []) is one word lt = record { fits = rw is by_code }
     by_code zero some = lt
     by_code (suc k) some = absurd (omega arith)
 
-pub words_fit : (netlist : Netlist) (order : List ℕ) → KeepsRules netlist order → (words : List Word) → AllByRecursion (CodeFits (limits_of netlist).bits) words → AllByRecursion (WordFits netlist) (map (λ (w : Word). w.word) words)
-words_fit netlist order rules [] fits = tt
-words_fit netlist order rules (word ∷ words) fits = (word_fits netlist netlist.codes refl rules.roles.code word.word fits.0.word, words_fit netlist order rules words fits.1)
+words_narrow : (netlist : Netlist) → length netlist.codes ≡ 1 → (words : List Word) → AllByRecursion (CodeFits (limits_of netlist).bits) words → AllByRecursion (WordFits netlist) (map (λ (w : Word). w.word) words)
+words_narrow netlist one [] fits = tt
+words_narrow netlist one (word ∷ words) fits = (word_fits netlist netlist.codes refl one word.word fits.0.word, words_narrow netlist one words fits.1)
+
+pub words_fit : (netlist : Netlist) → KeepsModes netlist → (words : List Word) → AllByRecursion (CodeFits (limits_of netlist).bits) words → AllByRecursion (WordFits netlist) (map (λ (w : Word). w.word) words)
+words_fit netlist keeps words fits =
+    words_narrow netlist (subst (λ (list : List Code). length list ≡ 1) (first_codes netlist) (first_keeps netlist keeps).rules.roles.code) words fits

@@ -1,5 +1,5 @@
 -- The answers of a run exclude each other.
-use Rattle.std.proofs.Common.{◌≡◌, ℕ, List, sym, ◌∙◌, ap, subst}
+use Rattle.std.proofs.Common.{◌≡◌, ℕ, List, None, sym, ◌∙◌, ap, subst}
 use Rattle.net_model.specs.Clock.{Reached, Clashed}
 use Rattle.net_model.specs.Elaborated.{netlist_of}
 use Rattle.net_model.specs.NetFaults.{name_at}
@@ -9,7 +9,7 @@ use Rattle.net_model.specs.MemoryText.{IsMemoryText, IsMemoryFault}
 use Rattle.net_run.specs.Runs.{Loaded, IsLoaded, IsImageFile, IsNoImageFile, IsNoMemoryFile, ClashedAt, Clashes, ShowsState, clocked}
 use Rattle.net_run.proofs.ImageLaws.{one_fault, one_image}
 use Rattle.net_run.proofs.LimitLaws.{narrow_of}
-use Rattle.net_run.proofs.StateLaws.{no_state_fault, one_state, one_state_fault}
+use Rattle.net_run.proofs.StateLaws.{no_state_fault, one_moded_state, one_state_fault}
 use Rattle.code_model.specs.ImageFits.{limits_of}
 use Rattle.code_model.specs.ImageLines.{IsImageText, IsLineFault}
 
@@ -30,14 +30,14 @@ module _ (net image : List ℕ) where
 
 pub one_memory_fault : (net memory : List ℕ) (a b : ℕ) → IsNoMemoryFile net memory a → IsNoMemoryFile net memory b → a ≡ b
 one_memory_fault net memory a b p q =
-    one_state_fault (netlist_of p.entries) memory a b p.none
-    (subst (λ e. IsMemoryFault (netlist_of e) memory b) (one_list net p.entries q.entries p.net_file q.net_file) q.none)
+    one_state_fault (netlist_of p.entries) None memory a b p.none
+    (subst (λ e. IsMemoryFault (netlist_of e) None memory b) (one_list net p.entries q.entries p.net_file q.net_file) q.none)
 
 module _ (net image memory : List ℕ) where
   pub no_memory_fault : (loaded : Loaded) (at : ℕ) → IsLoaded net image memory loaded → IsNoMemoryFile net memory at → ⊥
   no_memory_fault loaded at p q =
-      no_state_fault (netlist_of loaded.entries) memory loaded.start at p.memory_text
-      (subst (λ e. IsMemoryFault (netlist_of e) memory at) (one_list net loaded.entries q.entries p.net_file q.net_file) q.none)
+      no_state_fault (netlist_of loaded.entries) None memory loaded.start at p.memory_text
+      (subst (λ e. IsMemoryFault (netlist_of e) None memory at) (one_list net loaded.entries q.entries p.net_file q.net_file) q.none)
 
   -- three texts say one netlist, image and state
   one_loaded : (x y : Loaded) → IsLoaded net image memory x → IsLoaded net image memory y → y ≡ x
@@ -45,7 +45,7 @@ module _ (net image memory : List ℕ) where
       let e : y.entries ≡ x.entries = one_list net x.entries y.entries p.net_file q.net_file in
       let i : y.image ≡ x.image = one_image (limits_of (netlist_of x.entries)) image (narrow_of net x.entries p.net_file) y.image x.image
       (subst (λ z. IsImageText (limits_of (netlist_of z)) image y.image) e q.image_text) p.image_text in
-      let s : y.start ≡ x.start = one_state (netlist_of x.entries) memory p.net_file.keeps.order p.net_file.keeps.rules y.start x.start (subst (λ z. IsMemoryText (netlist_of z) memory y.start) e q.memory_text) p.memory_text in
+      let s : y.start ≡ x.start = one_moded_state (netlist_of x.entries) p.net_file.keeps.modes None memory y.start x.start (subst (λ z. IsMemoryText (netlist_of z) None memory y.start) e q.memory_text) p.memory_text in
       λ j. record { entries = e j; image = i j; start = s j }
 
   pub one_clash : (clocks : ℕ) (c d : ClashedAt) → Clashes net image memory clocks c → Clashes net image memory clocks d → c ≡ d

@@ -1,8 +1,8 @@
 -- What a run of an image on a netlist shows, and why there is none.
-use Rattle.std.specs.Prelude.{ℕ, ◌≡◌, List}
+use Rattle.std.specs.Prelude.{ℕ, ◌≡◌, List, None}
 use Rattle.net_model.specs.declared.hardware.Netlist.{Netlist}
 use Rattle.net_model.specs.declared.states.State.{State}
-use Rattle.net_model.specs.CheckedRules.{Ordered}
+use Rattle.net_model.specs.ModeRules.{AreModesOf, Moded}
 use Rattle.net_model.specs.Clock.{Run, run, Reached, Clashed}
 use Rattle.net_model.specs.Elaborated.{netlist_of}
 use Rattle.net_model.specs.NetFaults.{name_at}
@@ -30,7 +30,7 @@ pub record Loaded : Type 0 where
 pub record IsLoaded (net image memory : List ℕ) (loaded : Loaded) : Type 0 where
   pub net_file : IsNetFile net loaded.entries
   pub image_text : IsImageText (limits_of (netlist_of loaded.entries)) image loaded.image
-  pub memory_text : IsMemoryText (netlist_of loaded.entries) memory loaded.start
+  pub memory_text : IsMemoryText (netlist_of loaded.entries) None memory loaded.start
 
 -- the first bytes are a netlist's, and the second an image's for it
 pub record IsImageFile (net image : List ℕ) : Type 0 where
@@ -39,11 +39,12 @@ pub record IsImageFile (net image : List ℕ) : Type 0 where
   pub net_file : IsNetFile net entries
   pub image_text : IsImageText (limits_of (netlist_of entries)) image said
 
--- this netlist, which was checked, is that of the bytes
-pub record IsNetRead (net : List ℕ) (checked : Ordered) : Type 0 where
+-- this netlist, which was checked in its modes, is that of the bytes
+pub record IsNetRead (net : List ℕ) (moded : Moded) : Type 0 where
   pub entries : Text
   pub file : IsNetFile net entries
-  pub netlist : checked.netlist ≡ netlist_of entries
+  pub netlist : moded.netlist ≡ netlist_of entries
+  pub modes : AreModesOf moded.netlist moded.bases
 
 -- the words of the image that the bytes are
 pub record AreImageWords (netlist : Netlist) (image words : List ℕ) : Type 0 where
@@ -90,7 +91,7 @@ pub record IsNoImageFile (net image : List ℕ) (at : ℕ) : Type 0 where
 pub record IsNoMemoryFile (net memory : List ℕ) (at : ℕ) : Type 0 where
   pub entries : Text
   pub net_file : IsNetFile net entries
-  pub none : IsMemoryFault (netlist_of entries) memory at
+  pub none : IsMemoryFault (netlist_of entries) None memory at
 
 -- when each refusal comes; nothing is said where memory ran out
 abbrev pub IsRunFault : List ℕ → List ℕ → List ℕ → ℕ → RunFault → Type 0

@@ -3,7 +3,7 @@
 ghost use Rattle.std.specs.Prelude.{◌≡◌, MatchResult};
 ghost use Rattle.net_model.specs.Clock.{run, Clashed, Reached};
 
-use cycle_sim::{Clocked, Sim};
+use cycle_sim::{Clocked, ModeSim};
 
 /// The first clash: its cycle, from 0, and the number of the bus's net.
 #[derive(Clone, Copy, Debug, PartialEq, Eq)]
@@ -13,7 +13,7 @@ pub struct Clash {
 }
 
 /// So many clocks, or fewer where a bus clashes.
-pub fn clock_all(sim: &mut Sim<'_>, clocks: u32) -> Result<(), Clash>
+pub fn clock_all(sim: &mut ModeSim<'_>, clocks: u32) -> Result<(), Clash>
     ensures netlist { sim.new.netlist ≡ sim.old.netlist }
     ensures ended { MatchResult result
         (λ _. run sim.old.netlist sim.old.words sim.old.state clocks ≡ Reached sim.new.state)

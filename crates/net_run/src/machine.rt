@@ -1,6 +1,6 @@
 //! From the texts to the machine, and from its last state to the text.
 
-ghost use Rattle.std.specs.Prelude.{◌≡◌, ◌<◌, ◌^◌, IfOk, IfErr, length};
+ghost use Rattle.std.specs.Prelude.{◌≡◌, ◌<◌, ◌^◌, IfOk, IfErr, None, length};
 ghost use Rattle.std.specs.List.{AllByRecursion};
 ghost use Rattle.net_model.specs.NetFaults.{name_at};
 ghost use Rattle.net_model.specs.Widths.{IsState, WordFits};
@@ -14,9 +14,9 @@ ghost use Rattle.net_run.specs.declared.machine.RunFault.{RunFault};
 
 use crate::clocks::{Clash, clock_all};
 use code_model::{Image, words_of};
-use cycle_sim::Sim;
+use cycle_sim::ModeSim;
 use net_front::{NetRefusal, read_net};
-use net_model::{Checked, NetFault, State};
+use net_model::{Modes, NetFault, State};
 use rec_bits::{Items, NoMemory, ParseFault};
 use state_text::{text_room, write_state};
 use std::alloc::Global;
@@ -63,13 +63,13 @@ impl From<NetRefusal> for RunFault {
 }
 
 // The netlist.
-fn netlist(alloc: Global, net: &[u8]) -> Result<Checked, RunFault>
+fn netlist(alloc: Global, net: &[u8]) -> Result<Modes, RunFault>
     requires { length net.now < 2 ^ 32 }
     ensures found { IfOk result (IsNetRead net.now) }
     ensures refused { IfErr result (IsNetFault net.now) }
 {
-    let (_, checked) = read_net(alloc, net)?;
-    Ok(checked)
+    let (_, modes) = read_net(alloc, net)?;
+    Ok(modes)
 }
 
 // A fault of the image's text.
@@ -93,33 +93,31 @@ fn memory_fault(fault: ParseFault) -> RunFault
 }
 
 // The image.
-fn image_of(alloc: Global, bytes: &[u8], checked: &Checked) -> Result<Image, RunFault>
+fn image_of(alloc: Global, bytes: &[u8], modes: &Modes) -> Result<Image, RunFault>
     requires { length bytes.now < 2 ^ 32 }
-    ensures found { IfOk result (IsImageText (limits_of checked.now.netlist) bytes.now) }
-    ensures refused { IfErr result (IsImageFault checked.now.netlist bytes.now) }
+    ensures found { IfOk result (IsImageText (limits_of modes.now.netlist) bytes.now) }
+    ensures refused { IfErr result (IsImageFault modes.now.netlist bytes.now) }
 {
-    let image = image_text::read(alloc, bytes, checked).map_err(image_fault)?;
-    Ok(image)
+    image_text::read(alloc, bytes, modes.first()).map_err(image_fault)
 }
 
 // The state that the netlist starts from.
-fn start_of(alloc: Global, bytes: &[u8], checked: &Checked) -> Result<State, RunFault>
+fn start_of(alloc: Global, bytes: &[u8], modes: &Modes) -> Result<State, RunFault>
     requires { length bytes.now < 2 ^ 32 }
-    ensures found { IfOk result (IsMemoryText checked.now.netlist bytes.now) }
-    ensures fits { IfOk result (IsStartState checked.now.netlist) }
-    ensures refused { IfErr result (IsMemoryFaultOf checked.now.netlist bytes.now) }
+    ensures found { IfOk result (IsMemoryText modes.now.netlist None bytes.now) }
+    ensures fits { IfOk result (IsStartState modes.now.netlist) }
+    ensures refused { IfErr result (IsMemoryFaultOf modes.now.netlist bytes.now) }
 {
-    let state = state_text::read_state(alloc, bytes, checked).map_err(memory_fault)?;
-    Ok(state)
+    state_text::read_state(alloc, bytes, modes.first(), None).map_err(memory_fault)
 }
 
 // The words of the image that the bytes are.
-fn words_in(alloc: Global, bytes: &[u8], checked: &Checked) -> Result<Items<u64>, RunFault>
+fn words_in(alloc: Global, bytes: &[u8], modes: &Modes) -> Result<Items<u64>, RunFault>
     requires { length bytes.now < 2 ^ 32 }
-    ensures found { IfOk result (AreImageWords checked.now.netlist bytes.now) }
-    ensures refused { IfErr result (IsImageFault checked.now.netlist bytes.now) }
+    ensures found { IfOk result (AreImageWords modes.now.netlist bytes.now) }
+    ensures refused { IfErr result (IsImageFault modes.now.netlist bytes.now) }
 {
-    let image = image_of(alloc, bytes, checked)?;
+    let image = image_of(alloc, bytes, modes)?;
     let words = words_of(alloc, &image)?;
     Ok(words)
 }
@@ -127,24 +125,24 @@ fn words_in(alloc: Global, bytes: &[u8], checked: &Checked) -> Result<Items<u64>
 // Clocks the netlist so often, and writes the state.
 fn clocked(
     alloc: Global,
-    checked: &Checked,
+    modes: &Modes,
     words: Items<u64>,
     start: State,
     clocks: u32,
 ) -> Result<Vec<u8>, RunFault>
-    requires words { AllByRecursion (WordFits checked.now.netlist) words }
-    requires start { IsState checked.now.netlist start }
-    ensures text { IfOk result (λ text. IsEndText checked.now.netlist words start clocks text.items) }
-    ensures refused { IfErr result (IsEndFault checked.now.netlist words start clocks) }
+    requires words { AllByRecursion (WordFits modes.now.netlist) words }
+    requires start { IsState modes.now.netlist start }
+    ensures text { IfOk result (λ text. IsEndText modes.now.netlist words start clocks text.items) }
+    ensures refused { IfErr result (IsEndFault modes.now.netlist words start clocks) }
 {
     // nothing is asked for once the first clock has passed
-    let mut sim = Sim::new(alloc, checked, words, start)?;
-    let mut text = text_room(alloc, checked)?;
+    let mut sim = ModeSim::new(alloc, modes, words, start)?;
+    let mut text = text_room(alloc, modes.first())?;
     if let Err(Clash { cycle, bus }) = clock_all(&mut sim, clocks) {
-        let at = checked.netlist().name_at(bus);
+        let at = modes.netlist().name_at(bus);
         return Err(RunFault::Clash { cycle, bus, at });
     }
-    match write_state(&mut text, checked, u64::from(clocks), &sim) {
+    match write_state(&mut text, u64::from(clocks), sim.now()) {
         Ok(()) => Ok(text),
         Err(_) => unreachable!(),
     }
@@ -167,8 +165,8 @@ pub fn run(
     ensures shows { IfOk result (λ text. ShowsState net.now image.now memory.now clocks text.items) }
     ensures refused { IfErr result (IsRunFault net.now image.now memory.now clocks) }
 {
-    let checked = netlist(alloc, net)?;
-    let words = words_in(alloc, image, &checked)?;
-    let start = start_of(alloc, memory, &checked)?;
-    clocked(alloc, &checked, words, start, clocks)
+    let modes = netlist(alloc, net)?;
+    let words = words_in(alloc, image, &modes)?;
+    let start = start_of(alloc, memory, &modes)?;
+    clocked(alloc, &modes, words, start, clocks)
 }

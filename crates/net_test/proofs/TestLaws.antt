@@ -13,12 +13,12 @@ use Rattle.net_front.proofs.FrontLaws.{no_text_fault}
 use Rattle.net_extract.specs.Taken.{BreaksAnyTaken}
 use Rattle.net_extract.proofs.RoutedTaken.{no_broken_any_taken}
 use Rattle.transfer_set.proofs.OnePatterns.{patterns_one}
-use Rattle.form_model.specs.Covers.{Choice, IsChosen, Stock, job_cost}
+use Rattle.form_model.specs.Covers.{Choice, Stock}
 use Rattle.form_model.specs.Rules.{Rule}
 use Rattle.form_set.specs.Listing.{AreForms}
 use Rattle.form_set.proofs.OneList.{forms_one}
 use Rattle.src_trees.specs.Lowered.{Work}
-use Rattle.right_code.proofs.OneBound.{costs_one}
+use Rattle.right_code.proofs.OneBound.{chosen_cost_one}
 use Rattle.fault_sim.specs.Reports.{IsGoodRun}
 use Rattle.net_code.specs.Refusals.{IsStepless}
 use Rattle.self_test.specs.Cells.{test_need, test_works}
@@ -47,11 +47,7 @@ module _ (netlist : Netlist) where
   pub has_forms : (tried : List (Option Choice)) (words : List ℕ) (made : IsMadeFor netlist tried words) → HasForms netlist made.patterns made.rules
   has_forms tried words made = record { are = made.are; reach = made.reach; forms = made.forms }
 
--- the covers of one job cost the same
-cost_one : (stock : Stock) (job : Work) (a b : Choice) → IsChosen stock job.destination job.trees a → IsChosen stock job.destination job.trees b → job_cost job.destination a.plan ≡ job_cost job.destination b.plan
-cost_one stock job a b h k = let e = costs_one stock (job ∷ []) (a ∷ []) (b ∷ []) (h, tt) (k, tt) in cc e
-
--- and those of all jobs that have one
+-- the covers of all jobs that have one cost the same
 sums_one : (stock : Stock) (jobs : List Work) (a b : List (Option Choice)) → AreTried stock jobs a → AreTried stock jobs b → cost_sum jobs a ≡ cost_sum jobs b
 sums_one stock [] [] [] h k = refl
 sums_one stock [] [] (d ∷ b) h k = absurd k
@@ -62,7 +58,7 @@ sums_one stock (job ∷ jobs) (None ∷ a) (None ∷ b) h k = sums_one stock job
 sums_one stock (job ∷ jobs) (None ∷ a) (Some d ∷ b) h k = absurd (h.0.none d k.0.covers)
 sums_one stock (job ∷ jobs) (Some c ∷ a) (None ∷ b) h k = absurd (k.0.none c h.0.covers)
 sums_one stock (job ∷ jobs) (Some c ∷ a) (Some d ∷ b) h k =
-    let e = cost_one stock job c d h.0 k.0 in
+    let e = chosen_cost_one stock job c d h.0 k.0 in
     let f = sums_one stock jobs a b h.1 k.1 in
     omega (arith, e, f)
 

@@ -1,6 +1,6 @@
 //! From the text of a netlist to that of its self-test.
 
-ghost use Rattle.std.specs.Prelude.{◌≡◌, ◌*◌, ◌-◌, ◌<◌, ◌≤◌, ◌^◌, IfErr, IfOk, OnOk, length};
+ghost use Rattle.std.specs.Prelude.{◌≡◌, ◌*◌, ◌-◌, ◌<◌, ◌≤◌, ◌^◌, IfErr, IfOk, None, OnOk, length};
 ghost use Rattle.fault_sim.specs.Reports.{bits_of};
 ghost use Rattle.form_model.specs.Rules.{rules_of};
 ghost use Rattle.compaction.specs.Tables.{KnowsReads};
@@ -25,7 +25,7 @@ use compaction::{Machine, tables_of};
 use form_model::Forms;
 use form_set::forms;
 use net_code::only_control;
-use net_extract::{Extracted, read_extracted_taken};
+use net_extract::{Isa, read_extracted_taken};
 use net_model::{Checked, Net, Netlist};
 use rec_bits::{Items, NoMemory};
 use self_test::{TestJobs, candidates};
@@ -87,6 +87,7 @@ fn code(
     requires forms { AreForms (machine_netlist machine.now) (machine_patterns machine.now)
         (rules_of forms.now.list.items) forms.now.reach }
     requires file { forms.now.file ≡ size_in InFile (machine_netlist machine.now).storages }
+    requires plain { (machine_netlist machine.now).special ≡ None }
     ensures code { IfOk result (IsTestCode (machine_netlist machine.now)) }
     ensures refused { IfErr result (LacksTest (machine_netlist machine.now)) }
 {
@@ -162,18 +163,15 @@ fn text(alloc: Global, checked: &Checked, code: &TestCode) -> Result<Items<u8>, 
 }
 
 // The text of the self-test of a netlist, by what is extracted from it.
-fn text_of(
-    alloc: Global,
-    checked: &Checked,
-    extracted: &mut Extracted,
-) -> Result<Items<u8>, TestFault>
+fn text_of(alloc: Global, checked: &Checked, extracted: &mut Isa) -> Result<Items<u8>, TestFault>
     requires rules { KeepsRules checked.now.netlist checked.now.order }
+    requires plain { checked.now.netlist.special ≡ None }
     requires extracted { IsExtractedFrom checked.now.netlist extracted.old }
     requires patterns { ArePatterns checked.now.netlist (row_patterns extracted.old.pool extracted.old.patterns.rows) }
     ensures text { IfOk result (IsTestText checked.now.netlist) }
     ensures refused { IfErr result (LacksTest checked.now.netlist) }
 {
-    let Extracted {
+    let Isa {
         book,
         pool,
         patterns,

@@ -7,7 +7,7 @@ use Rattle.src_model.specs.Ways.{Passed}
 use Rattle.src_model.specs.Written.{Listing}
 use Rattle.code_model.specs.declared.image.Image.{Image}
 use Rattle.code_model.specs.Places.{words_of}
-use Rattle.code_model.specs.Machine.{TraceEntry, Shows, store_in, IsAt}
+use Rattle.code_model.specs.Machine.{TraceEntry, Shows, store_in, IsCalm}
 use Rattle.code_model.specs.Right.{passed_of, ShowsSource, TracesRight}
 use Rattle.checkpoint_text.specs.Texts.{is_end}
 use Rattle.net_watch.specs.Ends.{PassesEnd, ReachesEnd, has_passed_end}
@@ -22,7 +22,7 @@ front_end zero ps e = absurd (let z : false ≡ true = e in cc)
 front_end (suc k) [] e = e
 front_end (suc k) (p ∷ ps) e = either (is_end p.label) (has_passed_end (take k ps)) (has_passed_end ps) (λ q. front_end k ps q) e
 
-module _ (netlist : Netlist) (image : Image) (width : ℕ) (listing : Listing) (right : TracesRight netlist image (strace width listing)) (s : State) (here : IsAt netlist 0 s) where
+module _ (netlist : Netlist) (image : Image) (width : ℕ) (listing : Listing) (right : TracesRight netlist image (strace width listing)) (s : State) (here : IsCalm netlist 0 s) where
   pub end_shown : PassesEnd (strace width listing) (store_in image s) → ReachesEnd netlist image s
   end_shown passes =
       let h : ShowsSource netlist image (strace width listing) s passes.count = right.shows s here passes.count in

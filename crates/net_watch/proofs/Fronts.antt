@@ -13,7 +13,7 @@ use Rattle.src_model.proofs.WayLemmas.{IsWhole, finish_whole, finish_steady, fro
 use Rattle.src_model.proofs.TraceLemmas.{in_whole, in_steady}
 use Rattle.code_model.specs.declared.image.Image.{Image}
 use Rattle.code_model.specs.Places.{words_of}
-use Rattle.code_model.specs.Machine.{TraceEntry, Traced, Shows, Clashes, before, with_checkpoint, after_clock, mtrace, label_in, store_in, IsAt}
+use Rattle.code_model.specs.Machine.{TraceEntry, Traced, Shows, Clashes, before, with_checkpoint, after_clock, mtrace, label_in, store_in, IsCalm}
 use Rattle.code_model.specs.Right.{passed_of, ShowsSource, TracesRight}
 
 -- what is shown is the front of these entries
@@ -124,7 +124,7 @@ strace_enough word listing cells m = in_whole word listing.vars (acts_of listing
 
 module _ (netlist : Netlist) (image : Image) (trace : List ℕ → ℕ → List Passed) (right : TracesRight netlist image trace) (steady : IsSteady trace) (enough : IsEnough trace) where
   -- so many checkpoints more take more clocks
-  shows_some : (s : State) (n l : ℕ) → length (words_of image) ≡ l + 1 → IsAt netlist 0 s → ShowsFirst netlist image trace s n
+  shows_some : (s : State) (n l : ℕ) → length (words_of image) ≡ l + 1 → IsCalm netlist 0 s → ShowsFirst netlist image trace s n
   shows_some s n l long here =
       let h : ShowsSource netlist image trace s (n + 1) = right.shows s here (n + 1) in
       let f : IsFront (mtrace netlist image s 0 n) h.entries = mtrace_front netlist image n ((n + 1) * l + 1) ((n + 1) * length (words_of image)) s 0 h.entries (clocks n l (length (words_of image)) long) h.traced in
@@ -174,7 +174,7 @@ module _ (netlist : Netlist) (image : Image) (trace : List ℕ → ℕ → List 
       ended zero = rw e refl
       ended (suc n) = rw e refl
 
-  pub shows_first : (s : State) (n : ℕ) → IsAt netlist 0 s → ShowsFirst netlist image trace s n
+  pub shows_first : (s : State) (n : ℕ) → IsCalm netlist 0 s → ShowsFirst netlist image trace s n
   shows_first s n here = by_words (length (words_of image)) refl
     where
       by_words : (w : ℕ) → length (words_of image) ≡ w → ShowsFirst netlist image trace s n

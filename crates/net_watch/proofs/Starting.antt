@@ -6,10 +6,15 @@ use Rattle.net_model.specs.declared.hardware.Space.TheVariants.{Memory as InMemo
 use Rattle.net_model.specs.declared.hardware.Code.{Code}
 use Rattle.net_model.specs.declared.hardware.Netlist.{Netlist}
 use Rattle.net_model.specs.declared.states.State.{State}
-use Rattle.net_model.specs.CheckedRules.{KeepsRules}
-use Rattle.net_model.specs.Nets.{code_bits, memory_size}
+use Rattle.net_model.specs.declared.hardware.Storage.{Storage}
+use Rattle.net_model.specs.CheckedRules.{Ordered}
+use Rattle.net_model.specs.ModeRules.{AreModesOf, KeepsInOrder, base_at}
+use Rattle.net_model.specs.Modes.{IsBase}
+use Rattle.net_model.specs.Nets.{code_bits, memory_size, memory_width}
 use Rattle.net_model.specs.Widths.{IsState, WordFits}
+use Rattle.net_model.proofs.Bases.{base_of, state_in}
 use Rattle.net_model.proofs.Memories.{few_cells, memory_width_of}
+use Rattle.net_model.proofs.ModeFaults.{first_keeps, modes_keep}
 use Rattle.src_model.specs.declared.program.Var.{Var as Declared}
 use Rattle.src_model.specs.Meaning.{cells_in, cell_count}
 use Rattle.src_model.specs.Ways.{Passed}
@@ -43,10 +48,23 @@ word_fits netlist (code ∷ []) is one word lt = record { fits = rw is by_code }
     by_code zero some = lt
     by_code (suc k) some = absurd (omega arith)
 
-module _ (netlist : Netlist) (order : List ℕ) (rules : KeepsRules netlist order) where
+module _ (netlist : Netlist) (bases : List Ordered) (modes : AreModesOf netlist bases) where
+  -- what the netlist is in mode 0 has its storages and codes
+  abbrev base : Netlist
+  base = base_at netlist 0
+
+  keeps : KeepsInOrder base
+  keeps = first_keeps netlist (modes_keep netlist bases modes)
+
+  same : IsBase netlist netlist.special 0 base
+  same = base_of netlist netlist.special 0
+
+  one_code : length netlist.codes ≡ 1
+  one_code = subst (λ (codes : List Code). length codes ≡ 1) same.codes keeps.rules.roles.code
+
   pub words_fit : (words : List Word) → AllByRecursion (CodeFits (limits_of netlist).bits) words → AllByRecursion (WordFits netlist) (map (λ (w : Word). w.word) words)
   words_fit [] fits = tt
-  words_fit (word ∷ words) fits = (word_fits netlist netlist.codes refl rules.roles.code word.word fits.0.word, words_fit words fits.1)
+  words_fit (word ∷ words) fits = (word_fits netlist netlist.codes refl one_code word.word fits.0.word, words_fit words fits.1)
 
   -- ---- places
 
@@ -55,14 +73,16 @@ module _ (netlist : Netlist) (order : List ℕ) (rules : KeepsRules netlist orde
   within at end (var ∷ vars) apart = omega (arith, within (at + cells_in var) end vars apart.1)
 
   pub scene_of : (cells : ℕ) (vars : List Declared) (image : Image) (start : State) → IsState netlist start → IsLaidOut netlist cells (variables_of vars) image → IsFitting (limits_of netlist) image → IsScene netlist image vars image.temps
-  scene_of cells vars image start state laid fits = record {
-    first = refl;
-    places = laid.places;
-    within = within image.temps (memory_size netlist.storages) vars (subst (λ places. Apart image.temps places (memory_size netlist.storages)) laid.places laid.apart);
-    few = omega (arith, few_cells netlist order start InMemory rules state, state.cells InMemory);
-    narrow = (memory_width_of netlist order rules).1;
-    marks = fits.in_order;
-  }
+  scene_of cells vars image start state laid fits =
+      let own : IsState base start = state_in netlist base start (sym same.storages) state in
+      record {
+        first = refl;
+        places = laid.places;
+        within = within image.temps (memory_size netlist.storages) vars (subst (λ places. Apart image.temps places (memory_size netlist.storages)) laid.places laid.apart);
+        few = omega (arith, few_cells base keeps.order start InMemory keeps.rules own, state.cells InMemory);
+        narrow = subst (λ (list : List Storage). memory_width list ≤ 64) same.storages (memory_width_of base keeps.order keeps.rules).1;
+        marks = fits.in_order;
+      }
 
 count_is : (vars : List Declared) → cells_of (variables_of vars) ≡ cell_count vars
 count_is [] = refl

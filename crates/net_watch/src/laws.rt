@@ -6,7 +6,7 @@ ghost use Rattle.net_model.specs.declared.states.State.{State};
 ghost use Rattle.src_model.specs.Trace.{strace};
 ghost use Rattle.src_model.specs.Written.{Listing};
 ghost use Rattle.code_model.specs.declared.image.Image.{Image};
-ghost use Rattle.code_model.specs.Machine.{IsAt, store_in};
+ghost use Rattle.code_model.specs.Machine.{IsCalm, store_in};
 ghost use Rattle.code_model.specs.Right.{TracesRight};
 ghost use Rattle.net_watch.specs.Ends.{PassesEnd, ReachesEnd};
 
@@ -14,6 +14,6 @@ ghost use Rattle.net_watch.specs.Ends.{PassesEnd, ReachesEnd};
 /// from every state to start from.
 pub fn law_of_ends()
     ensures { (netlist : Netlist) (image : Image) (width : ℕ) (listing : Listing) (s : State) →
-        TracesRight netlist image (strace width listing) → IsAt netlist 0 s →
+        TracesRight netlist image (strace width listing) → IsCalm netlist 0 s →
         (PassesEnd (strace width listing) (store_in image s) ↔ ReachesEnd netlist image s) }
 {}

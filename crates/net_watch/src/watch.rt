@@ -7,7 +7,7 @@ ghost use Rattle.src_model.specs.Trace.{strace};
 ghost use Rattle.src_model.specs.Written.{listing_of};
 ghost use Rattle.code_model.specs.ImageFits.{IsFitting, limits_of};
 ghost use Rattle.code_model.specs.Layout.{variables_of};
-ghost use Rattle.code_model.specs.Machine.{IsAt};
+ghost use Rattle.code_model.specs.Machine.{IsCalm};
 ghost use Rattle.code_model.specs.Right.{IsLaidOut, TracesRight};
 ghost use Rattle.checkpoint_text.specs.Texts.{last_line};
 ghost use Rattle.net_watch.specs.Puts.{Puts};
@@ -16,8 +16,8 @@ ghost use Rattle.net_watch.specs.Watched.{IsTraceText};
 use crate::watching::write_lines;
 use crate::writer::LineWriter;
 use code_model::{Image, words_of};
-use cycle_sim::Sim;
-use net_model::{Checked, State};
+use cycle_sim::ModeSim;
+use net_model::{Modes, State};
 use rec_bits::NoMemory;
 use rec_io::{Sink, WriteFault, put_all};
 use src_model::Typed;
@@ -28,7 +28,7 @@ use std::marker::Model;
 /// and all its room is taken before.
 #[derive(Drop)]
 pub struct Watch<'a> {
-    sim: Sim<'a>,
+    sim: ModeSim<'a>,
     image: &'a Image,
     writer: LineWriter<'a>,
     clocks: u32,
@@ -62,26 +62,26 @@ impl<'a> Watch<'a> {
     /// the text is written.
     pub fn new(
         alloc: Global,
-        checked: &'a Checked,
+        modes: &'a Modes,
         typed: &'a Typed,
         image: &'a Image,
         start: State,
         clocks: u32,
     ) -> Result<Watch<'a>, NoMemory>
-        requires layout { IsLaidOut checked.now.netlist
+        requires layout { IsLaidOut modes.now.netlist
             (temp_count typed.now.width (listing_of typed.now.program))
             (variables_of typed.now.program.vars) image.now }
-        requires traces { TracesRight checked.now.netlist image.now
+        requires traces { TracesRight modes.now.netlist image.now
             (strace typed.now.width (listing_of typed.now.program)) }
-        requires fits { IsFitting (limits_of checked.now.netlist) image.now }
-        requires start { IsAt checked.now.netlist 0 start }
-        ensures { IfOk result (λ watch. IsTraceText checked.now.netlist image.now
+        requires fits { IsFitting (limits_of modes.now.netlist) image.now }
+        requires start { IsCalm modes.now.netlist 0 start }
+        ensures { IfOk result (λ watch. IsTraceText modes.now.netlist image.now
             typed.now.program.vars (strace typed.now.width (listing_of typed.now.program)) start clocks watch) }
     {
         // the rules that a checked netlist keeps, for the sizes of its memory
-        let _netlist = checked.netlist();
+        let _netlist = modes.netlist();
         let words = words_of(alloc, image)?;
-        let sim = Sim::new(alloc, checked, words, start)?;
+        let sim = ModeSim::new(alloc, modes, words, start)?;
         let writer = LineWriter::new(alloc, typed.program().vars.as_slice(), image.temps)?;
         Ok(Watch {
             sim,

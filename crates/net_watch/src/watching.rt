@@ -12,12 +12,12 @@ ghost use Rattle.net_watch.specs.Inner.Traces.{IsNext, IsShown, ends_at, line_at
 use crate::marks::label_at;
 use crate::writer::LineWriter;
 use code_model::Image;
-use cycle_sim::{Clocked, Sim};
+use cycle_sim::{Clocked, ModeSim};
 use rec_io::{Sink, WriteFault};
 use src_model::Checkpoint;
 
 // One clock, which doesn't clash.
-fn step(sim: &mut Sim<'_>)
+fn step(sim: &mut ModeSim<'_>)
     requires { IsNext (clock sim.old.netlist sim.old.words sim.old.state) }
     ensures netlist { sim.new.netlist ≡ sim.old.netlist }
     ensures words { sim.new.words ≡ sim.old.words }
@@ -34,7 +34,7 @@ fn step(sim: &mut Sim<'_>)
 // is the end.
 fn look<S: Sink>(
     image: &Image,
-    sim: &Sim<'_>,
+    sim: &ModeSim<'_>,
     writer: &mut LineWriter<'_>,
     cycle: u32,
     sink: &mut S,
@@ -54,7 +54,7 @@ fn look<S: Sink>(
     match label_at(image.marks.as_slice(), sim.pc()) {
         None => Ok(false),
         Some(label) => {
-            writer.write(cycle, label, sim, sink)?;
+            writer.write(cycle, label, sim.now(), sink)?;
             Ok(label == Checkpoint::End)
         }
     }
@@ -64,7 +64,7 @@ fn look<S: Sink>(
 /// and tells whether the end mark was seen.
 pub(crate) fn write_lines<S: Sink>(
     image: &Image,
-    sim: &mut Sim<'_>,
+    sim: &mut ModeSim<'_>,
     writer: &mut LineWriter<'_>,
     clocks: u32,
     sink: &mut S,

@@ -22,10 +22,10 @@ use Rattle.transfer_set.specs.Tables.{Table}
 use Rattle.transfer_set.specs.declared.row.Row.{Row}
 use Rattle.transfer_set.proofs.ReadyLaws.{row_clean}
 use Rattle.form_model.specs.declared.forms.Step.{Step}
-use Rattle.form_model.specs.Live.{Regs, group_writes}
-use Rattle.word_fit.specs.Fits.{FitsGroup, FitsJump, group_stores}
+use Rattle.form_model.specs.Live.{Regs, group_writes, no_regs}
+use Rattle.word_fit.specs.Fits.{FitsGroup, FitsTurning, group_stores}
 use Rattle.word_fit.specs.Steps.{step_operation}
-use Rattle.nop_synth.specs.Wanted.{all_hold, AllBelow, cell_sets, has_cells, has_fields, row_set, step_set, step_field, space_sets, is_wanted, register_sets, group_sets}
+use Rattle.nop_synth.specs.Wanted.{all_hold, AllBelow, cell_sets, has_cells, has_fields, jump_sets, row_set, step_set, step_field, space_sets, is_wanted, register_sets, group_sets}
 use Rattle.word_fit.proofs.FilePlaces.{file_at, file_told}
 use Rattle.nop_synth.proofs.HeldSteps.{below-append, false_not, hold_both, hold_parts, step_does, step_held, steps_below, steps_do, steps_held}
 use Rattle.nop_synth.proofs.HeldStorages.{space_below, space_held, space_kept, registers_below, registers_held, registers_kept}
@@ -146,18 +146,37 @@ module _ (netlist : Netlist) (order : List ℕ) (keeps : KeepsRules netlist orde
 
   -- ---- jumps
 
-  pub held_jumps : (step : Step) (word : ℕ) → word < 2 ^ book.bits → has_word book (step_set table step) word ≡ true → all_hold book (space_sets table InMemory false) word ≡ true → has_fields (step_field table step ∷ []) word ≡ true → FitsJump netlist word (step_operation pool table step)
-  held_jumps step word lt s h f = record {
-    clean = clean_row step.pattern word (slice_get table.rows step.pattern) refl lt s;
-    does = step_does netlist book pool table ready empty step word lt s (and_parts _ _ f).0;
-    memory = space_kept netlist book pool table ready InMemory false word lt memory_within h refl;
-  }
+  pub jumps_below : (kept : Regs) → AllBelow book (jump_sets table kept)
+  jumps_below kept =
+      below-append book (space_sets table InMemory false) (register_sets table kept no_regs 16)
+      (space_below netlist book pool table ready InMemory false) (registers_below netlist book pool table ready kept no_regs 16)
+
+  pub held_jumps : (step : Step) (kept : Regs) (word : ℕ) → word < 2 ^ book.bits → has_word book (step_set table step) word ≡ true → all_hold book (jump_sets table kept) word ≡ true → has_fields (step_field table step ∷ []) word ≡ true → FitsTurning netlist word (step_operation pool table step) kept
+  held_jumps step kept word lt s h f =
+      let p = hold_parts book (space_sets table InMemory false) (register_sets table kept no_regs 16) word h in
+      record {
+        jump = record {
+          clean = clean_row step.pattern word (slice_get table.rows step.pattern) refl lt s;
+          does = step_does netlist book pool table ready empty step word lt s (and_parts _ _ f).0;
+          memory = space_kept netlist book pool table ready InMemory false word lt memory_within p.0 refl;
+        };
+        registers = λ r is l.
+            registers_kept netlist book pool table ready kept no_regs 16 word r lt p.1
+            (omega (arith, few_storages netlist order keeps, register_within netlist.storages r is)) (register_within netlist.storages r is)
+            (wanted_from kept no_regs r l is refl);
+      }
     where
       clean_row : (i word : ℕ) (o : Option Row) → slice_get table.rows i ≡ o → word < 2 ^ book.bits → has_word book (row_set o) word ≡ true → IsClean netlist word
       clean_row i word None e lt h = false_not (has_word book 0 word) (empty word) h
       clean_row i word (Some row) e lt h = row_clean netlist book pool table ready i row e word lt h
 
-  pub jumps_held : (step : Step) (word : ℕ) → word < 2 ^ book.bits → FitsJump netlist word (step_operation pool table step) → (has_word book (step_set table step) word ≡ true) × (all_hold book (space_sets table InMemory false) word ≡ true) × (has_fields (step_field table step ∷ []) word ≡ true)
-  jumps_held step word lt f =
-      let p = step_held netlist book pool table ready empty step word lt f.clean f.does in
-      (p.0, space_held netlist book pool table ready InMemory false word lt f.clean (λ e. f.memory), and_from _ _ p.1 refl)
+  pub jumps_held : (step : Step) (kept : Regs) (word : ℕ) → word < 2 ^ book.bits → FitsTurning netlist word (step_operation pool table step) kept → (has_word book (step_set table step) word ≡ true) × (all_hold book (jump_sets table kept) word ≡ true) × (has_fields (step_field table step ∷ []) word ≡ true)
+  jumps_held step kept word lt f =
+      let p = step_held netlist book pool table ready empty step word lt f.jump.clean f.jump.does in (
+        p.0,
+        hold_both book (space_sets table InMemory false) (register_sets table kept no_regs 16) word
+            (space_held netlist book pool table ready InMemory false word lt f.jump.clean (λ e. f.jump.memory))
+            (registers_held netlist book pool table ready kept no_regs 16 word lt f.jump.clean
+            (λ r e n. (let v = wanted_parts kept no_regs r e in f.registers r (wanted_register kept no_regs r e n) v.0))),
+        and_from _ _ p.1 refl,
+      )

@@ -9,12 +9,12 @@ use Rattle.sym_expr.specs.declared.pool.Node.{Node}
 use Rattle.transfer_set.specs.Tables.{Table}
 use Rattle.form_model.specs.declared.forms.Step.{Step}
 use Rattle.form_model.specs.Live.{Regs, group_writes}
-use Rattle.word_fit.specs.Fits.{FitsGroup, FitsJump, IsLeastFit, group_stores}
+use Rattle.word_fit.specs.Fits.{FitsGroup, FitsTurning, IsLeastFit, group_stores}
 use Rattle.transfer_set.specs.Ready.{IsReady}
 use Rattle.word_fit.specs.Steps.{step_operation}
 use Rattle.net_model.proofs.WordWidths.{clean_below}
 use Rattle.nop_synth.specs.declared.meet.FieldValue.{FieldValue}
-use Rattle.nop_synth.specs.Wanted.{all_hold, has_fields, group_sets, space_sets, step_field, step_set}
+use Rattle.nop_synth.specs.Wanted.{all_hold, has_fields, group_sets, jump_sets, step_field, step_set}
 use Rattle.nop_synth.proofs.Asked.{held_fits, fits_held, held_jumps, jumps_held}
 
 -- what is told of the least word of a set
@@ -55,24 +55,24 @@ module _ (netlist : Netlist) (order : List ℕ) (keeps : KeepsRules netlist orde
           ∙ and_from _ _ (subst (λ k. has_word old k word ≡ true) (sym es) p.0)
           (and_from _ _ (subst (λ k. all_hold old k word ≡ true) (sym el) p.1) (subst (λ k. has_fields k word ≡ true) (sym ef) p.2))
 
-  pub jump_found : (step : Step) (start id width : ℕ) (sets : List ℕ) (fields : List FieldValue) (o : Option ℕ)
-      → old.bits ≡ width → start ≡ step_set table step → sets ≡ space_sets table InMemory false → fields ≡ step_field table step ∷ []
+  pub jump_found : (step : Step) (kept : Regs) (start id width : ℕ) (sets : List ℕ) (fields : List FieldValue) (o : Option ℕ)
+      → old.bits ≡ width → start ≡ step_set table step → sets ≡ jump_sets table kept → fields ≡ step_field table step ∷ []
       → ((word : ℕ) → word < 2 ^ width → has_word new id word ≡ (has_word old start word && (all_hold old sets word && has_fields fields word)))
       → IsLeastOf new id o
-      → MatchOption o ((word : ℕ) → FitsJump netlist word (step_operation pool table step) → ⊥) (IsLeastFit (λ word. FitsJump netlist word (step_operation pool table step)))
-  jump_found step start id width sets fields o ew es el ef words l = least_of (λ word. FitsJump netlist word (step_operation pool table step)) new id o l there back
+      → MatchOption o ((word : ℕ) → FitsTurning netlist word (step_operation pool table step) kept → ⊥) (IsLeastFit (λ word. FitsTurning netlist word (step_operation pool table step) kept))
+  jump_found step kept start id width sets fields o ew es el ef words l = least_of (λ word. FitsTurning netlist word (step_operation pool table step) kept) new id o l there back
     where
-      there : (word : ℕ) → word < 2 ^ new.bits → has_word new id word ≡ true → FitsJump netlist word (step_operation pool table step)
+      there : (word : ℕ) → word < 2 ^ new.bits → has_word new id word ≡ true → FitsTurning netlist word (step_operation pool table step) kept
       there word lt h =
           let p = and_parts (has_word old start word) (all_hold old sets word && has_fields fields word) (sym (words word (subst (λ n. word < 2 ^ n) ew (fits_old word lt))) ∙ h) in
           let q = and_parts (all_hold old sets word) (has_fields fields word) p.1 in
-          held_jumps netlist order keeps old pool table ready empty step word (fits_old word lt)
+          held_jumps netlist order keeps old pool table ready empty step kept word (fits_old word lt)
           (subst (λ k. has_word old k word ≡ true) es p.0) (subst (λ k. all_hold old k word ≡ true) el q.0) (subst (λ k. has_fields k word ≡ true) ef q.1)
 
-      back : (word : ℕ) → FitsJump netlist word (step_operation pool table step) → has_word new id word ≡ true
+      back : (word : ℕ) → FitsTurning netlist word (step_operation pool table step) kept → has_word new id word ≡ true
       back word f =
-          let lt : word < 2 ^ old.bits = subst (λ n. word < 2 ^ n) (sym ready.bits) (clean_below netlist order keeps word f.clean) in
-          let p = jumps_held netlist order keeps old pool table ready empty step word lt f in
+          let lt : word < 2 ^ old.bits = subst (λ n. word < 2 ^ n) (sym ready.bits) (clean_below netlist order keeps word f.jump.clean) in
+          let p = jumps_held netlist order keeps old pool table ready empty step kept word lt f in
           words word (subst (λ n. word < 2 ^ n) ew lt)
           ∙ and_from _ _ (subst (λ k. has_word old k word ≡ true) (sym es) p.0)
           (and_from _ _ (subst (λ k. all_hold old k word ≡ true) (sym el) p.1) (subst (λ k. has_fields k word ≡ true) (sym ef) p.2))

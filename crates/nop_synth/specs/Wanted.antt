@@ -1,5 +1,5 @@
 -- What is wanted of a word: sets that hold it, and values of fields.
-use Rattle.std.specs.Prelude.{ℕ, zero, suc, ◌<◌, ◌==◌, nat_eq, ◌&&◌, ◌||◌, not, if◌then◌else◌, Bool, true, List, [], ◌∷◌, ◌++◌, map, length, min, slice_get, bit_and, Option, Some, None}
+use Rattle.std.specs.Prelude.{ℕ, zero, suc, ◌<◌, ◌==◌, nat_eq, ◌&&◌, ◌||◌, not, if◌then◌else◌, Bool, true, false, List, [], ◌∷◌, ◌++◌, map, length, min, slice_get, bit_and, Option, Some, None}
 use Rattle.std.specs.Int.{bit_at}
 use Rattle.std.specs.Option.{option_eq}
 use Rattle.bit_bdd.specs.Diagrams.{Diagrams, has_word}
@@ -8,7 +8,7 @@ use Rattle.transfer_set.specs.Tables.{Table}
 use Rattle.net_model.specs.declared.hardware.Space.{Space}
 use Rattle.net_model.specs.declared.hardware.Space.TheVariants.{Memory as InMemory, File as InFile}
 use Rattle.form_model.specs.declared.forms.Step.{Step}
-use Rattle.form_model.specs.Live.{Regs}
+use Rattle.form_model.specs.Live.{Regs, no_regs}
 use Rattle.nop_synth.specs.declared.meet.FieldValue.{FieldValue}
 
 -- ---- sets and fields
@@ -103,3 +103,7 @@ cell_sets table stored = space_sets table InMemory (stored InMemory) ++ space_se
 abbrev pub group_sets : Table → List Step → Regs → (Space → Bool) → Regs → List ℕ
 group_sets table group live stored written =
     (map (step_set table) group ++ cell_sets table stored) ++ register_sets table live written 16
+
+-- and of a jump or branch that is to keep registers
+abbrev pub jump_sets : Table → Regs → List ℕ
+jump_sets table kept = space_sets table InMemory false ++ register_sets table kept no_regs 16

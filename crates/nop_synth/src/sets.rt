@@ -2,10 +2,9 @@
 
 ghost use Rattle.std.specs.Prelude.{◌≡◌, false, ◌<◌, [], ◌++◌, if◌then◌else◌, map, slice_get, IfOk, OnOk};
 ghost use Rattle.form_model.specs.Live.{group_writes, regs_of};
-ghost use Rattle.net_model.specs.declared.hardware.Space.TheVariants.{Memory as InMemory};
 ghost use Rattle.word_fit.specs.Fits.{group_stores};
 ghost use Rattle.word_fit.specs.Steps.{step_operation};
-ghost use Rattle.nop_synth.specs.Wanted.{cell_sets, group_sets, has_cells, is_wanted, keep_at, option_list, place_of, register_sets, row_fields, row_set, space_sets, step_field, step_set};
+ghost use Rattle.nop_synth.specs.Wanted.{cell_sets, group_sets, has_cells, is_wanted, jump_sets, keep_at, option_list, place_of, register_sets, row_fields, row_set, space_sets, step_field, step_set};
 
 use crate::meet::FieldValue;
 use bit_bdd::SetId;
@@ -209,11 +208,17 @@ pub(crate) fn wanted_sets(
     Ok(sets)
 }
 
-// The words that keep the memory.
-pub(crate) fn kept_memory(alloc: Global, patterns: &Patterns) -> Result<Items<SetId>, NoMemory>
-    ensures { IfOk result (λ sets. sets ≡ space_sets patterns.now InMemory false) }
+// The words that keep the memory, and those that keep registers.
+pub(crate) fn kept_sets(
+    alloc: Global,
+    patterns: &Patterns,
+    pool: &Pool,
+    kept: RegSet,
+) -> Result<Items<SetId>, NoMemory>
+    ensures { IfOk result (λ sets. sets ≡ jump_sets patterns.now (regs_of kept)) }
 {
     let mut sets = Items::new(alloc);
     add_space(patterns, &mut sets, Space::Memory, false)?;
+    add_registers(patterns, pool, &mut sets, &[], kept)?;
     Ok(sets)
 }

@@ -4,11 +4,11 @@ ghost use Rattle.std.specs.Prelude.{◌≡◌, ℕ, IfOk, MatchOption};
 ghost use Rattle.bit_bdd.specs.Diagrams.{Extends};
 ghost use Rattle.form_model.specs.Live.{regs_of};
 ghost use Rattle.transfer_set.specs.Ready.{IsReady};
-ghost use Rattle.word_fit.specs.Fits.{FitsGroup, FitsJump, IsLeastFit};
+ghost use Rattle.word_fit.specs.Fits.{FitsGroup, FitsTurning, IsLeastFit};
 ghost use Rattle.word_fit.specs.Steps.{step_operation};
 
 use crate::meet::words_held;
-use crate::sets::{field_of, kept_memory, set_of, step_fields, wanted_sets};
+use crate::sets::{field_of, kept_sets, set_of, step_fields, wanted_sets};
 use bit_bdd::Book;
 use form_model::{RegSet, Step};
 use net_model::Checked;
@@ -59,9 +59,10 @@ pub fn word_for(
     Ok(book.least(fitting))
 }
 
-/// The least word without clash that does the transfer of a jump or branch with its setting and
-/// keeps the data memory, and `None` exactly where there is none. Registers and the register file
-/// needn't keep what they hold.
+/// The least word without clash that does the transfer of a jump or branch with its setting, keeps
+/// the data memory and each register of a set, and `None` exactly where there is none. Other
+/// registers and the register file needn't keep what they hold. `kept` has bit `r` for the register
+/// of number `r`.
 ///
 /// The patterns' sets are those of the book, and their expressions those of the pool, which isn't
 /// read; the book grows, and what it held means what it meant. Want of memory is the only refusal.
@@ -69,21 +70,24 @@ pub fn jump_word(
     alloc: Global,
     checked: &Checked,
     book: &mut Book,
-    _pool: &Pool,
+    pool: &Pool,
     patterns: &Patterns,
     step: Step,
+    kept: RegSet,
 ) -> Result<Option<u64>, NoMemory>
-    requires ready { IsReady checked.now.netlist book.old _pool.now patterns.now }
+    requires ready { IsReady checked.now.netlist book.old pool.now patterns.now }
     ensures grows { Extends book.old book.new }
-    ensures ready { IsReady checked.now.netlist book.new _pool.now patterns.now }
+    ensures ready { IsReady checked.now.netlist book.new pool.now patterns.now }
     ensures word { IfOk result (λ found. MatchOption found
-        ((word : ℕ) → FitsJump checked.now.netlist word (step_operation _pool.now patterns.now step) → ⊥)
-        (IsLeastFit (λ word. FitsJump checked.now.netlist word (step_operation _pool.now patterns.now step)))) }
+        ((word : ℕ) →
+        FitsTurning checked.now.netlist word (step_operation pool.now patterns.now step) (regs_of kept) → ⊥)
+        (IsLeastFit (λ word.
+        FitsTurning checked.now.netlist word (step_operation pool.now patterns.now step) (regs_of kept)))) }
 {
     let width = checked.netlist().word_width();
     // the size tells that the first id is the empty set
     let _ = book.size();
-    let sets = kept_memory(alloc, patterns)?;
+    let sets = kept_sets(alloc, patterns, pool, kept)?;
     let fields = [field_of(patterns, step)];
     let set = set_of(patterns, step.pattern);
     let fitting = words_held(alloc, book, width, set, sets.as_slice(), &fields)?;

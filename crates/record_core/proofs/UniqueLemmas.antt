@@ -7,6 +7,7 @@ use Rattle.net_parser.proofs.TextFaults.{one_net_fault}
 use Rattle.net_front.proofs.FrontLaws.{one_broken_rule}
 use Rattle.src_parser.proofs.TextFaults.{one_src_fault}
 use Rattle.net_extract.specs.Extracts.{IsExtracted}
+use Rattle.net_model.specs.declared.fault.NetFault.{NetFault}
 use Rattle.net_extract.proofs.RoutedTaken.{one_broken_any_taken}
 use Rattle.job_gen.specs.NetText.{net_text as job_netlist}
 use Rattle.job_gen.specs.SrcText.{src_text as job_program}
@@ -19,7 +20,7 @@ use Rattle.net_run.specs.Runs.{ClashedAt}
 use Rattle.net_asm.proofs.AsmLaws.{one_text_fault, one_wordless}
 use Rattle.net_asm.specs.Assembled.{IsAssembled}
 use Rattle.net_asm.specs.Disassembled.{IsDisassembled}
-use Rattle.net_explain.specs.Explained.{IsExplained}
+use Rattle.net_explain.specs.Explained.{explained_edition, IsExplained}
 use Rattle.net_test.proofs.TestLaws.{one_full as one_test_full, one_limit as one_test_limit, one_too_long}
 use Rattle.net_test.specs.Texts.{tested_edition}
 use Rattle.rec_io.specs.Causes.{Rose}
@@ -29,6 +30,8 @@ use Rattle.rec_io.specs.Sink.{SinkState}
 use Rattle.record_core.proofs.CompileLemmas.{done_within}
 use Rattle.record_core.proofs.GoLemmas.{one_lack}
 use Rattle.record_core.proofs.NetLemmas.{NetStages-alike}
+use Rattle.net_extract.proofs.RoutedLaws.{one_broken_any}
+use Rattle.net_asm.specs.Machines.{assembled_edition}
 use Rattle.record_core.proofs.StageLemmas.{AllAlike, AtMostOne, By-unique, Then-alike, Just-unique}
 use Rattle.record_core.specs.Answers.{AnswersAgree, Answers, AsmAnswers, DisAnswers, FilesAnswer, CanCompile, AreOfImages, AreOfTests, CodeAnswers, CodeEnds, ExtractAnswers, FormAnswers, WatchAnswers, netlist_in, RunEnds, RunAnswers, TestAnswers, TestEnds, TextAnswers, CommandAnswers, file_at, file_limit, place_from, AreFiles, IsFileReadFault, IsFileTooLong, IsFile, IsAnswer, IsExact, IsAccepted}
 use Rattle.record_core.specs.Lines.{due_line}
@@ -70,9 +73,10 @@ module _ (Alike : Status → Status → Type 0) (same : (s t : Status) → s ≡
       AllAlike Alike Rest → AllAlike Alike (Then line Refuses Rest)
   stage Refuses Rest one = Then-alike Alike line Refuses Rest (λ s t p q. same s t (one s t p q))
 
-  FormAnswers-alike : (net src : List ℕ) (Later : Status → List ℕ → Type 0) → AllAlike Alike Later → AllAlike Alike (FormAnswers line net src Later)
-  FormAnswers-alike net src Later later =
-      NetStages-alike line net _ Alike same (
+  FormAnswers-alike : (net src : List ℕ) (Breaks : NetFault → Type 0) → ((fault other : NetFault) → Breaks fault → Breaks other → fault ≡ other) →
+      (Later : Status → List ℕ → Type 0) → AllAlike Alike Later → AllAlike Alike (FormAnswers line net src Breaks Later)
+  FormAnswers-alike net src Breaks one Later later =
+      NetStages-alike line net Breaks _ one Alike same (
       stage _ _ (By-unique SrcText _ (one_src_fault src)) (
       stage _ _ (By-unique Src _ (one_broken net src)) (
       stage _ _ (By-unique (λ (p : ℕ × ℕ). DataFull p.0 p.1) _ (one_full net src)) (
@@ -101,7 +105,7 @@ module _ (line : Status → List ℕ) (net src : List ℕ) (Later : Status → L
 
   CodeAnswers-agree : AllAlike CodeAgree (CodeAnswers line net src Later)
   CodeAnswers-agree =
-      FormAnswers-alike CodeAgree (λ s t e. inl e) line net src _ (
+      FormAnswers-alike CodeAgree (λ s t e. inl e) line net src _ (one_broken_any net) _ (
       stage CodeAgree (λ s t e. inl e) line _ _ (By-unique NoCover _ (one_uncovered net src)) (
       stage CodeAgree (λ s t e. inl e) line _ _ (By-unique (λ (p : ℕ × ℕ). NoReach p.0 p.1) _ (one_beyond net src)) CodeEnds-agree))
 
@@ -129,7 +133,7 @@ module _ (line : Status → List ℕ) (net src memory : List ℕ) (clocks : ℕ)
 -- ---- `extract`
 
 ExtractAnswers-unique : (line : Status → List ℕ) (net : List ℕ) → AtMostOne (ExtractAnswers line net)
-ExtractAnswers-unique line net = NetStages-alike line net _ (λ s t. s ≡ t) (λ s t e. e) (done_only (IsExtracted net))
+ExtractAnswers-unique line net = NetStages-alike line net _ _ (one_broken_any net) (λ s t. s ≡ t) (λ s t e. e) (done_only (IsExtracted net))
 
 -- ---- `run`
 
@@ -152,13 +156,13 @@ RunAnswers-unique line net image memory clocks =
 
 AsmAnswers-unique : (line : Status → List ℕ) (net asm : List ℕ) → AtMostOne (AsmAnswers line net asm)
 AsmAnswers-unique line net asm =
-    NetStages-alike line net _ (λ s t. s ≡ t) (λ s t e. e) (
+    NetStages-alike line net _ _ (one_broken_any_taken assembled_edition net) (λ s t. s ≡ t) (λ s t e. e) (
     Then-alike (λ s t. s ≡ t) line _ _ (By-unique AsmText _ (one_text_fault net asm)) (
     Then-alike (λ s t. s ≡ t) line _ _ (By-unique AsmWord _ (one_wordless net asm)) (done_only (IsAssembled net asm))))
 
 DisAnswers-unique : (line : Status → List ℕ) (net image : List ℕ) → AtMostOne (DisAnswers line net image)
 DisAnswers-unique line net image =
-    NetStages-alike line net _ (λ s t. s ≡ t) (λ s t e. e) (
+    NetStages-alike line net _ _ (one_broken_any_taken assembled_edition net) (λ s t. s ≡ t) (λ s t e. e) (
     Then-alike (λ s t. s ≡ t) line _ _ (By-unique ImageText _ (one_image_fault net image)) (done_only (IsDisassembled net image)))
 
 -- ---- `test`
@@ -200,7 +204,7 @@ TextAnswers-agree line Asm files = AsmAnswers-unique (line None) (file_at files 
 TextAnswers-agree line Dis files = DisAnswers-unique (line None) (file_at files 0) (file_at files 1)
 TextAnswers-agree line Test files = TestAnswers-agree (line None) (file_at files 0)
 TextAnswers-agree line Explain files =
-    FormAnswers-alike (λ s t. s ≡ t) (λ s t e. e) (line None) (file_at files 0) (file_at files 1) _ (done_only (IsExplained (file_at files 0) (file_at files 1)))
+    FormAnswers-alike (λ s t. s ≡ t) (λ s t e. e) (line None) (file_at files 0) (file_at files 1) _ (one_broken_any_taken explained_edition (file_at files 0)) _ (done_only (IsExplained (file_at files 0) (file_at files 1)))
 
 -- the bytes of a file that is told
 one_file : (files : Option Files) (name a b : List ℕ) → IsSome files → IsFile files name a → IsFile files name b → a ≡ b

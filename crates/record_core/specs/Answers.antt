@@ -2,6 +2,7 @@
 use Rattle.std.specs.Prelude.{◌≡◌, ℕ, ◌+◌, ◌<◌, ◌≤◌, ◌⊎◌, true, false, List, [], ◌∷◌, ◌++◌, length, take, Some, None, IfSome, IsSome, IsSomeAnd, cond, slice_index_or, ⊤}
 use Rattle.std.specs.declared.option.Option.{Option}
 use Rattle.std.specs.Str.{bytes_eq}
+use Rattle.net_model.specs.declared.fault.NetFault.{NetFault}
 use Rattle.net_parser.specs.Texts.{IsNoNetText}
 use Rattle.net_front.specs.Fronts.{BreaksRule}
 use Rattle.net_extract.specs.Extracts.{BreaksAnyRule, IsExtracted}
@@ -17,7 +18,8 @@ use Rattle.job_gen.specs.SrcText.{src_text as job_program}
 use Rattle.net_make.specs.Summaries.{IsSummary}
 use Rattle.net_asm.specs.Assembled.{IsAssembled, IsNoAsmFile, IsWordless}
 use Rattle.net_asm.specs.Disassembled.{IsDisassembled}
-use Rattle.net_explain.specs.Explained.{IsExplained}
+use Rattle.net_asm.specs.Machines.{assembled_edition}
+use Rattle.net_explain.specs.Explained.{explained_edition, IsExplained}
 use Rattle.net_test.specs.Refusals.{IsBeyondLimit, IsTestDataFull, IsTestTooLong}
 use Rattle.net_test.specs.Texts.{IsTested, NetHolds, tested_edition}
 use Rattle.net_run.specs.Runs.{IsNoImageFile, IsNoMemoryFile, ClashedAt, Clashes, ShowsState}
@@ -86,11 +88,13 @@ CodeEnds line net src Later status text =
     ⊎ Later status text
 
 -- what a command answers that covers the program of the second text by forms of the netlist of the
--- first, and what the later stages answer where code can be made of them
-abbrev pub FormAnswers : (Status → List ℕ) → List ℕ → List ℕ → (Status → List ℕ → Type 0) → Status → List ℕ → Type 0
-FormAnswers line net src Later =
+-- first, by the first rule that the netlist's text breaks, and what the later stages answer where
+-- code can be made of them
+abbrev pub FormAnswers : (Status → List ℕ) → List ℕ → List ℕ → (NetFault → Type 0) →
+    (Status → List ℕ → Type 0) → Status → List ℕ → Type 0
+FormAnswers line net src Breaks Later =
     Then line (By NetText (IsNoNetText net)) (
-    Then line (By Net (BreaksAnyRule net)) (
+    Then line (By Net Breaks) (
     Then line (By SrcText (IsNoSrcText src)) (
     Then line (By Src (BreaksSrc net src)) (
     Then line (By (λ (p : ℕ × ℕ). DataFull p.0 p.1) (λ (p : ℕ × ℕ). TaskHolds net src (IsDataFull p.0 p.1))) (
@@ -101,7 +105,7 @@ FormAnswers line net src Later =
 -- there is an image
 abbrev pub CodeAnswers : (Status → List ℕ) → List ℕ → List ℕ → (Status → List ℕ → Type 0) → Status → List ℕ → Type 0
 CodeAnswers line net src Later =
-    FormAnswers line net src (
+    FormAnswers line net src (BreaksAnyRule net) (
     Then line (By NoCover (λ (tree : ℕ). TaskHolds net src (HasBareTree tree))) (
     Then line (By (λ (p : ℕ × ℕ). NoReach p.0 p.1) (λ (p : ℕ × ℕ). TaskHolds net src (IsBeyondReach p.0 p.1))) (
     CodeEnds line net src Later)))
@@ -110,9 +114,12 @@ CodeAnswers line net src Later =
 abbrev pub CompileAnswers : (Status → List ℕ) → List ℕ → List ℕ → Status → List ℕ → Type 0
 CompileAnswers line net src = CodeAnswers line net src (λ status text. (status ≡ Done) × IsCompiled net src text)
 
--- what `explain` answers for these two texts; a cover that is missing is no refusal
+-- what `explain` answers for these two texts, of which the first has no modes; a cover that is
+-- missing is no refusal
 abbrev pub ExplainAnswers : (Status → List ℕ) → List ℕ → List ℕ → Status → List ℕ → Type 0
-ExplainAnswers line net src = FormAnswers line net src (λ status text. (status ≡ Done) × IsExplained net src text)
+ExplainAnswers line net src =
+    FormAnswers line net src (BreaksAnyTaken explained_edition net)
+    (λ status text. (status ≡ Done) × IsExplained net src text)
 
 -- what `extract` answers for this text
 abbrev pub ExtractAnswers : (Status → List ℕ) → List ℕ → Status → List ℕ → Type 0
@@ -155,20 +162,20 @@ MakeAnswers line number =
     CodeAnswers line (job_netlist number) (job_program number)
     (λ status text. (status ≡ Done) × IsSummary number text)
 
--- what `asm` answers for these two texts
+-- what `asm` answers for these two texts, of which the first has no modes
 abbrev pub AsmAnswers : (Status → List ℕ) → List ℕ → List ℕ → Status → List ℕ → Type 0
 AsmAnswers line net asm =
     Then line (By NetText (IsNoNetText net)) (
-    Then line (By Net (BreaksAnyRule net)) (
+    Then line (By Net (BreaksAnyTaken assembled_edition net)) (
     Then line (By AsmText (IsNoAsmFile net asm)) (
     Then line (By AsmWord (IsWordless net asm)) (
     λ status text. (status ≡ Done) × IsAssembled net asm text))))
 
--- what `dis` answers for these two texts
+-- what `dis` answers for these two texts, of which the first has no modes
 abbrev pub DisAnswers : (Status → List ℕ) → List ℕ → List ℕ → Status → List ℕ → Type 0
 DisAnswers line net image =
     Then line (By NetText (IsNoNetText net)) (
-    Then line (By Net (BreaksAnyRule net)) (
+    Then line (By Net (BreaksAnyTaken assembled_edition net)) (
     Then line (By ImageText (IsNoImageFile net image)) (
     λ status text. (status ≡ Done) × IsDisassembled net image text)))
 

@@ -8,7 +8,7 @@ use Rattle.net_model.specs.declared.fault.NetFault.TheVariants.{Duplicate, Unkno
 use Rattle.net_model.specs.declared.fault.NetKind.{NetKind}
 use Rattle.net_model.specs.declared.fault.NetKind.TheVariants.{Nets, Registers, Cells, Words, File as FileCells}
 use Rattle.net_model.specs.declared.fault.Role.{Role}
-use Rattle.net_model.specs.declared.fault.Role.TheVariants.{Code, Memory, Pc, Size, Addr, File}
+use Rattle.net_model.specs.declared.fault.Role.TheVariants.{Code, Memory, Pc, Size, Addr, File, Mode}
 
 abbrev pub role_text : Role → List ℕ
 role_text Code = codes "code"
@@ -17,6 +17,7 @@ role_text Pc = codes "pc"
 role_text Size = codes "size"
 role_text Addr = codes "addr"
 role_text File = codes "file"
+role_text Mode = codes "mode"
 
 abbrev pub net_kind_text : NetKind → List ℕ
 net_kind_text Nets = codes "nets"

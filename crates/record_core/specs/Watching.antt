@@ -8,15 +8,15 @@ use Rattle.right_code.specs.Tasks.{Task}
 use Rattle.net_compile.specs.Code.{IsRightFor}
 use Rattle.net_watch.specs.Watched.{IsTraceText}
 
--- the bytes are no memory text for its netlist, which shows at this offset
+-- the bytes are no memory text for its netlist that leaves its mode alone, which shows at this offset
 pub record LacksMemory (memory : List ℕ) (at : ℕ) (task : Task) : Type 0 where
-  pub none : IsMemoryFault task.netlist memory at
+  pub none : IsMemoryFault task.netlist task.netlist.special memory at
 
 -- these are the checkpoints that the netlist shows over so many clocks on the words of an image
 -- that is right code and that it holds, from the state that the memory text says
 pub record IsWatched (memory : List ℕ) (clocks : ℕ) (out : List ℕ) (task : Task) : Type 0 where
   pub start : State
-  pub said : IsMemoryText task.netlist memory start
+  pub said : IsMemoryText task.netlist task.netlist.special memory start
   pub image : Image
   pub right : IsRightFor image task
   pub trace : IsTraceText task.netlist image task.listing.vars (strace task.width task.listing) start clocks out

@@ -1,5 +1,7 @@
 //! The command that compiles a program and watches the netlist run it.
 ghost use Rattle.std.specs.Prelude.{◌≡◌, ◌≢◌, ◌⊎◌, ℕ, List, ◌≤◌, IfOk, IfErr, length};
+ghost use Rattle.net_model.specs.MemoryText.{IsMemoryText};
+ghost use Rattle.code_model.specs.Machine.{IsCalm};
 ghost use Rattle.right_code.specs.Tasks.{read_task};
 ghost use Rattle.net_compile.specs.Code.{IsRightFor};
 ghost use Rattle.record_core.specs.Answers.{file_limit, GoAnswers};
@@ -9,6 +11,7 @@ ghost use Rattle.record_core.specs.declared.status.Status.{Status};
 
 use crate::Status;
 use net_compile::{Compiled, read_compiled};
+use net_model::State;
 use net_watch::Watch;
 use rec_bits::ParseFault;
 use rec_io::{Sink, WriteFault};
@@ -25,6 +28,19 @@ fn memory_status(fault: ParseFault) -> Status
     }
 }
 
+// The state that `memory` says, in which the netlist is in mode 0 before its first word: no line
+// names the mode.
+fn start_of(alloc: Global, program: &Compiled, memory: &[u8]) -> Result<State, Status>
+    requires { length memory.now ≤ file_limit }
+    ensures said { IfOk result (IsMemoryText program.now.modes.netlist
+        program.now.modes.netlist.special memory.now) }
+    ensures starts { IfOk result (IsCalm program.now.modes.netlist 0) }
+    ensures refused { IfErr result (IsMemoryStatus (read_task program.now.modes program.now.typed) memory.now) }
+{
+    let modes = &program.modes;
+    read_state(alloc, memory, modes.first(), modes.netlist().special).map_err(memory_status)
+}
+
 // Puts the checkpoints of a compiled program over so many clocks, from the state of `memory`.
 fn watch<S: Sink>(
     alloc: Global,
@@ -34,16 +50,16 @@ fn watch<S: Sink>(
     out: &mut S,
 ) -> Result<Result<(), WriteFault>, Status>
     requires short { length memory.now ≤ file_limit }
-    requires image { IsRightFor program.now.image (read_task program.now.checked program.now.typed) }
-    ensures done { IfOk result (PutsWatched (read_task program.now.checked program.now.typed)
+    requires image { IsRightFor program.now.image (read_task program.now.modes program.now.typed) }
+    ensures done { IfOk result (PutsWatched (read_task program.now.modes program.now.typed)
         memory.now clocks (S.state out.old) (S.state out.new)) }
-    ensures refused { IfErr result (IsMemoryStatus (read_task program.now.checked program.now.typed) memory.now) }
+    ensures refused { IfErr result (IsMemoryStatus (read_task program.now.modes program.now.typed) memory.now) }
     ensures still { IfErr result (λ _. S.state out.new ≡ S.state out.old) }
 {
-    let start = read_state(alloc, memory, &program.checked).map_err(memory_status)?;
+    let start = start_of(alloc, program, memory)?;
     let watch = Watch::new(
         alloc,
-        &program.checked,
+        &program.modes,
         &program.typed,
         &program.image,
         start,

@@ -31,6 +31,7 @@ fn role_name(role: Role) -> &'static str
         Role::Size => "size",
         Role::Addr => "addr",
         Role::File => "file",
+        Role::Mode => "mode",
     }
 }
 

@@ -1,37 +1,37 @@
 -- A program has one first job without a cover, and none where all have covers.
-use Rattle.std.proofs.Common.{◌≡◌, ℕ, ◌<◌, List, inl, inr, subst, arith}
+use Rattle.std.proofs.Common.{◌≡◌, ℕ, ◌<◌, List, inl, inr, arith}
 use Rattle.std.proofs.lemmas.Bool.{cases_lt}
 use Rattle.form_model.specs.Covers.{Stock}
-use Rattle.form_model.specs.Rules.{Rule}
+use Rattle.mode_set.specs.Keeping.{IsUsable}
 use Rattle.src_trees.specs.Lowered.{Work}
-use Rattle.right_code.specs.Covered.{AllChosen, HasBareTree, HasCovers, IsFirstBare}
-use Rattle.right_code.specs.Tasks.{Task, task_stock, task_works}
+use Rattle.right_code.specs.Covered.{AllPlanned, HasBareTree, HasCover, HasCovers, IsFirstBare, mode_stock}
+use Rattle.right_code.specs.Tasks.{Task, task_works}
 use Rattle.right_code.proofs.Covering.{covered_at}
-use Rattle.right_code.proofs.OneForms.{forms_of_one}
+use Rattle.right_code.proofs.OneBound.{plans_alike}
 
--- a job without a cover doesn't come before the first
-not_before : (stock : Stock) (jobs : List Work) (n m : ℕ) → IsFirstBare stock jobs n → IsFirstBare stock jobs m → n < m → ⊥
-not_before stock jobs n m a b lt = let c = b.earlier n a.job lt a.at in a.none.none c.0 c.1
+module _ (stock : ℕ → Stock) (Usable : ℕ → Type 0) where
+  -- a job without a cover doesn't come before the first
+  not_before : (jobs : List Work) (n m : ℕ) → IsFirstBare stock Usable jobs n → IsFirstBare stock Usable jobs m → n < m → ⊥
+  not_before jobs n m a b lt = let c : HasCover stock Usable a.job = b.earlier n a.job lt a.at in a.none.none c.mode c.choice c.covers
 
-first_one : (stock : Stock) (jobs : List Work) (n m : ℕ) → IsFirstBare stock jobs n → IsFirstBare stock jobs m → n ≡ m
-first_one stock jobs n m a b =
-    elim (cases_lt n m) [
-      | inl lt ↦ absurd (not_before stock jobs n m a b lt)
-      | inr le ↦ elim (cases_lt m n) [
-        | inl lt ↦ absurd (not_before stock jobs m n b a lt)
-        | inr more ↦ omega arith
+  first_one : (jobs : List Work) (n m : ℕ) → IsFirstBare stock Usable jobs n → IsFirstBare stock Usable jobs m → n ≡ m
+  first_one jobs n m a b =
+      elim (cases_lt n m) [
+        | inl lt ↦ absurd (not_before jobs n m a b lt)
+        | inr le ↦ elim (cases_lt m n) [
+          | inl lt ↦ absurd (not_before jobs m n b a lt)
+          | inr more ↦ omega arith
+        ]
       ]
-    ]
 
 pub one_bare : (task : Task) (n m : ℕ) → HasBareTree n task → HasBareTree m task → n ≡ m
 one_bare task n m a b =
-    let same = forms_of_one task.netlist b.rules a.rules b.reach a.reach b.forms a.forms in
-    first_one (task_stock a.rules task) (task_works task) n m a.bare
-    (subst (λ (rules : List Rule). IsFirstBare (task_stock rules task) (task_works task) m) same.0 b.bare)
+    first_one (mode_stock task a.isas) (IsUsable task.netlist a.isas) (task_works task) n m a.bare
+    (plans_alike task b.isas a.isas (λ stock Usable. IsFirstBare stock Usable (task_works task) m) b.bare)
 
 pub no_bare : (task : Task) (n : ℕ) → HasCovers task → HasBareTree n task → ⊥
 no_bare task n h b =
-    let same = forms_of_one task.netlist h.are.rules b.rules h.are.reach b.reach h.are.forms b.forms in
-    let chosen = subst (λ (rules : List Rule). AllChosen (task_stock rules task) (task_works task) h.are.choices) same.0 h.are.chosen in
-    let c = covered_at (task_stock b.rules task) (task_works task) h.are.choices chosen n b.bare.job b.bare.at in
-    b.bare.none.none c.0 c.1
+    let c : HasCover (mode_stock task b.isas) (IsUsable task.netlist b.isas) b.bare.job =
+    covered_at (mode_stock task b.isas) (IsUsable task.netlist b.isas) (task_works task) h.are.plans
+    (plans_alike task h.are.isas b.isas (λ stock Usable. AllPlanned stock Usable (task_works task) h.are.plans) h.are.planned) n b.bare.job b.bare.at in
+    b.bare.none.none c.mode c.choice c.covers

@@ -5,7 +5,7 @@ use Rattle.std.proofs.lemmas.Nat.{and_le_l}
 use Rattle.net_model.specs.declared.hardware.Netlist.{Netlist}
 use Rattle.net_model.specs.declared.states.State.{State}
 use Rattle.net_model.specs.CheckedRules.{KeepsRules}
-use Rattle.net_model.specs.Terms.{Term, word, reg, const, read, un, bin, slice, cat, zext, sext, select, term_width, write}
+use Rattle.net_model.specs.Terms.{Term, word, reg, const, read, un, bin, slice, cat, zext, sext, select, write}
 use Rattle.net_model.specs.Meaning.{mean}
 use Rattle.net_model.specs.Symbolic.{no_state}
 use Rattle.net_model.specs.Nets.{counter_of, counter_width, file_place}
@@ -14,7 +14,7 @@ use Rattle.net_model.specs.Patterns.{Pattern}
 use Rattle.net_model.specs.Transfers.{IsClean, counter_move}
 use Rattle.net_model.proofs.KeptRules.{sound_of}
 use Rattle.code_model.specs.Machine.{IsAt}
-use Rattle.code_model.specs.Words.{is_fixed, DoesGoto}
+use Rattle.code_model.specs.Words.{is_fixed, DoesGoto, KeepsMode}
 use Rattle.net_model.specs.Fields.{fields, WordFitsMove, WordFitsTerm}
 use Rattle.rec_bits.specs.declared.operator.Op2.{Op2}
 use Rattle.rec_bits.specs.declared.operator.Op2.TheVariants.{Add}
@@ -107,8 +107,8 @@ module _ (netlist : Netlist) (order : List ℕ) (keeps : KeepsRules netlist orde
 
   -- ---- jumps
 
-  pub jump_does : (patterns : List Pattern) (i to : ℕ) → IsJumpMade netlist patterns i to → DoesGoto netlist i to
-  jump_does patterns i to h =
+  pub jump_does : (special : Option ℕ) (patterns : List Pattern) (i to : ℕ) → IsJumpMade netlist special patterns i to → DoesGoto netlist i to
+  jump_does special patterns i to h =
       let f : FitsJump netlist i (record { storage = counter_of netlist.codes; space = space_in (file_place netlist.storages) (counter_of netlist.codes); move = write h.rule.value; setting = h.bits }) =
       jump_opened netlist patterns i h.rule.pattern h.bits _ h.form.is h.word in
       let fit : WordFitsTerm h.rule.value i = value_fits i h.rule.value f.clean f.does.gives in
@@ -185,10 +185,11 @@ module _ (netlist : Netlist) (order : List ℕ) (keeps : KeepsRules netlist orde
   -- a branch word goes to its target, or on
   pub branch_does : (patterns : List Pattern) (rule : Rule) (when_one : Bool) (way : BranchTarget) (form : IsBranchForm netlist patterns rule when_one way) (i setting bits at to : ℕ)
       → BranchParts patterns rule when_one way form i setting bits → ((s : State) → IsAt netlist at s → mean form.target s i ≡ to) → at + 1 < 2 ^ counter_width netlist
-      → DoesBranch netlist i form.condition when_one at to
-  branch_does patterns rule when_one way form i setting bits at to p leads b = record {
+      → (special : Option ℕ) → KeepsMode special netlist i → DoesBranch netlist special i form.condition when_one at to
+  branch_does patterns rule when_one way form i setting bits at to p leads b special mode = record {
     clean = p.clean;
     keeps = record { move = p.jump.memory };
+    mode = mode;
     first = one_side when_one form.target form.step;
     second = one_side when_one form.step form.target;
     move = p.jump.does.gives;

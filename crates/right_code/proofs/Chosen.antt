@@ -1,128 +1,153 @@
--- The image of a task is code whose blocks and tests are ready, and traces the program.
-use Rattle.std.proofs.Common.{ℕ, zero, suc, ◌≡◌, ◌≤◌, ◌+◌, List, [], ◌∷◌, ◌++◌, length, Option, Some, None, refl, sym, ◌∙◌, ap, arith, subst, slice_get}
+-- The plans of a task's jobs are covers by the forms of their modes, and so are the cuts of a block's
+-- jobs; and variables are in reach of addresses.
+use Rattle.std.proofs.Common.{ℕ, zero, suc, ◌≡◌, ◌≤◌, ◌+◌, List, [], ◌∷◌, ◌++◌, Option, Some, None, refl, sym, ◌∙◌, ap, arith, subst, slice_get}
 use Rattle.std.specs.List.{AllByRecursion}
 use Rattle.net_model.specs.declared.hardware.Netlist.{Netlist}
 use Rattle.net_model.specs.declared.hardware.Storage.{Storage}
 use Rattle.net_model.specs.declared.hardware.Storage.TheVariants.{Register, Memory, File}
-use Rattle.net_model.specs.CheckedRules.{KeepsRules, StorageKeeps, code_size, memory_addr_width, memory_count}
+use Rattle.net_model.specs.CheckedRules.{KeepsRules, StorageKeeps, memory_addr_width, memory_count}
 use Rattle.net_model.specs.Nets.{memory_size, memory_width}
 use Rattle.src_model.specs.Written.{Listing}
 use Rattle.src_model.specs.Rules.{temp_count}
-use Rattle.code_model.specs.declared.image.Image.{Image}
-use Rattle.code_model.specs.Places.{words_of}
 use Rattle.code_model.specs.Layout.{need_of}
 use Rattle.form_model.specs.declared.flow.Flow.{Flow}
 use Rattle.form_model.specs.declared.flow.Flow.TheVariants.{Assign, Test as Tested, Jump as Jumped, End as Ended}
-use Rattle.form_model.specs.Covers.{Stock, Choice}
-use Rattle.form_model.specs.Live.{no_regs}
-use Rattle.form_model.specs.Rules.{tested}
-use Rattle.emit_seq.specs.Spares.{wanted}
+use Rattle.form_model.specs.Covers.{Choice}
 use Rattle.emit_seq.specs.ReadWords.{AllReadWords}
 use Rattle.src_trees.specs.Lowered.{Work}
 use Rattle.src_trees.specs.Blocks.{job_list, job_at, jobs_at}
-use Rattle.src_trees.specs.Flows.{program_flow}
 use Rattle.src_trees.specs.Seen.{InReach}
 use Rattle.src_trees.specs.Measures.{AllSmall}
-use Rattle.branch_fix.specs.Parts.{PartsFit}
-use Rattle.branch_fix.proofs.Laying.{settled_fit}
-use Rattle.right_code.specs.Jobs.{IsCovered, tree_used}
-use Rattle.right_code.specs.Inner.Jobs.{AreCovered}
+use Rattle.right_code.specs.Jobs.{IsCovered}
+use Rattle.right_code.specs.Inner.Jobs.{AreCovered, HasOne}
 use Rattle.right_code.specs.Inner.Forks.{test_of}
-use Rattle.right_code.specs.Inner.Laid.{IsLaidCode}
-use Rattle.right_code.specs.Covered.{AllChosen}
-use Rattle.right_code.specs.Images.{AreTestWords, IsMadeFor, choices_of, choice_at, choices_at}
-use Rattle.right_code.specs.Tasks.{Task, task_stock, task_works}
+use Rattle.form_model.specs.Rules.{Destination, tested}
+use Rattle.right_code.specs.Inner.Blocks.{Kit}
+use Rattle.right_code.specs.Covered.{AllPlanned, ArePlans, mode_stock}
+use Rattle.mode_set.specs.Costs.{MayRunIn, Planned}
+use Rattle.mode_set.specs.Keeping.{Isas, IsUsable, held}
+use Rattle.net_model.specs.ModeRules.{base_at}
+use Rattle.right_code.specs.Cuts.{Cut, cuts_of, join_cut, join_first, join_zero, plan_at, plan_choices, plans_at, plans_of}
+use Rattle.right_code.specs.Tasks.{Task, task_works}
 use Rattle.right_code.proofs.Covered.{covered_of}
-use Rattle.right_code.proofs.Tasks.{AllOne, IsTestWork, AreTests, test_work_of}
-
-module _ (bits : ℕ) (stock : Stock) (reads : AllReadWords bits stock.rules) where
-  covered_on : (xs ys : List Work) (cs ds : List Choice) → AreCovered stock xs cs → AreCovered stock ys ds → AreCovered stock (xs ++ ys) (cs ++ ds)
-  covered_on [] ys [] ds g h = h
-  covered_on [] ys (c ∷ cs) ds g h = absurd g
-  covered_on (x ∷ xs) ys [] ds g h = absurd g
-  covered_on (x ∷ xs) ys (c ∷ cs) ds g h = (g.0, g.1, covered_on xs ys cs ds g.2 h)
-
-  -- the job and the cover of one number
-  pair_at : (most : ℕ) (works : List Work) (choices : List Choice) (k : ℕ) → AllSmall bits stock.temps most works → AllOne works → AllChosen stock works choices
-      → AreCovered stock (job_list (slice_get works k)) (choices_of (slice_get choices k))
-  pair_at most [] [] k s o c = tt
-  pair_at most [] (d ∷ choices) k s o c = absurd c
-  pair_at most (t ∷ works) [] k s o c = absurd c
-  pair_at most (t ∷ works) (d ∷ choices) zero s o c = (covered_of bits stock reads most t d s.0 c.0, o.0, tt)
-  pair_at most (t ∷ works) (d ∷ choices) (suc k) s o c = pair_at most works choices k s.1 o.1 c.1
-
-  pub choice_there : (works : List Work) (choices : List Choice) (k : ℕ) (t : Work) → AllChosen stock works choices → slice_get works k ≡ Some t → (d : Choice) × (slice_get choices k ≡ Some d)
-  choice_there [] choices k t c e = absurd (cc e)
-  choice_there (x ∷ works) [] k t c e = absurd c
-  choice_there (x ∷ works) (d ∷ choices) zero t c e = (d, refl)
-  choice_there (x ∷ works) (d ∷ choices) (suc k) t c e = choice_there works choices k t c.1 e
-
-  module _ (most : ℕ) (works : List Work) (choices : List Choice) (small : AllSmall bits stock.temps most works) (one : AllOne works) (chosen : AllChosen stock works choices) where
-    covered_place : (o : Option Flow) → AreCovered stock (job_at works o) (choice_at choices o)
-    covered_place None = tt
-    covered_place (Some (Assign tree)) = pair_at most works choices tree small one chosen
-    covered_place (Some (Tested tree a b)) = tt
-    covered_place (Some (Jumped to)) = tt
-    covered_place (Some Ended) = tt
-
-    -- the jobs of a block and their covers
-    pub covered_block : (flow : List Flow) (at n : ℕ) → AreCovered stock (jobs_at flow works at n) (choices_at flow choices at n)
-    covered_block flow at zero = tt
-    covered_block flow at (suc n) = covered_on (jobs_at flow works at n) (job_at works (slice_get flow (at + n))) (choices_at flow choices at n) (choice_at choices (slice_get flow (at + n))) (covered_block flow at n) (covered_place (slice_get flow (at + n)))
-
-    -- the job of a test and its cover
-    pub covered_test : (k : ℕ) (job : Work) (choice : Choice) → slice_get works k ≡ Some job → slice_get choices k ≡ Some choice → job.destination ≡ tested → IsCovered stock (test_of job) choice
-    covered_test k job choice e d aim =
-        let c : AreCovered stock (job_list (slice_get works k)) (choices_of (slice_get choices k)) = pair_at most works choices k small one chosen in
-        let both : AreCovered stock (job ∷ []) (choice ∷ []) = subst (λ o. AreCovered stock (job_list (Some job)) (choices_of o)) d (subst (λ o. AreCovered stock (job_list o) (choices_of (slice_get choices k))) e c) in
-        subst (λ x. IsCovered stock (record { destination = x; trees = job.trees }) choice) aim both.0
+use Rattle.right_code.proofs.Tasks.{AllOne}
 
 -- a job that goes nowhere is a test's
 pub as_test : (job : Work) → job.destination ≡ tested → test_of job ≡ job
 as_test job e = (λ j. record { destination = sym e j; trees = job.trees })
 
-module _ (task : Task) (image : Image) (made : IsMadeFor task image) (most : ℕ) where
-  pub made_laid : AllReadWords task.width made.rules → AllSmall task.width (temp_count task.width task.listing) most (task_works task) → AllOne (task_works task) → AreTests (task_works task) (program_flow task.listing)
-      → length (words_of image) ≤ code_size task.netlist.codes → length (words_of image) ≤ made.reach
-      → IsLaidCode task.netlist made.patterns (task_stock made.rules task) image (program_flow task.listing) (task_works task) made.parts made.reach
-  made_laid reads small one tests room reached =
-      let stock : Stock = task_stock made.rules task in
-      let flow : List Flow = program_flow task.listing in
-      let works : List Work = task_works task in
-      let fit : PartsFit made.rules flow 0 flow made.parts = settled_fit made.rules flow made.sizes made.settings made.parts made.settled in
-      let long = made.long in
-      record {
-        layout = record { sizes = made.sizes; settings = made.settings; settled = made.settled; reached = omega (arith, long, reached) };
-        room = omega (arith, long, room);
-        marks = made.marks;
-        words = made.words;
-        stand = made.stand;
-        long = made.long;
-        blocks = λ at n block size b e.
-            (let p = made.blocks at n block size b e in
-            record { choices = choices_at flow made.choices at n; covered = covered_block task.width stock reads most works made.choices small one made.chosen flow at n; live = no_regs; groups = made.groups block; means = p.packing.means; least = p.least; long = p.long });
-        forks = λ at f e job has.
-            (let d = choice_there task.width stock reads works made.choices f.tree job made.chosen has in
-            let t : IsTestWork works f.tree = test_work_of works made.rules flow made.parts at f fit tests e in
-            let aim : job.destination ≡ tested = ap (λ (x : Work). x.destination) (same job t.work (sym has ∙ t.at)) ∙ t.destination in
-            let p : AreTestWords task.netlist made.patterns stock (test_of job) d.0 (made.groups f.block) (made.words f.block) f =
-            subst (λ (x : Work). AreTestWords task.netlist made.patterns stock x d.0 (made.groups f.block) (made.words f.block) f) (sym (as_test job aim)) (made.tests at f e job has d.0 d.1) in
-            record {
-              choice = d.0;
-              covered = covered_test task.width stock reads most works made.choices small one made.chosen f.tree job d.0 has d.1 aim;
-              live = wanted stock tested (tree_used (test_of job) d.0) d.0.plan;
-              groups = made.groups f.block;
-              means = p.packing.means;
-              least = p.least;
-              long = p.long;
-              wants = λ r h. h;
-              form = p.branch.form;
-              setting = p.branch.setting;
-            });
-      }
-    where
-      same : (x y : Work) → Some x ≡ Some y → x ≡ y
-      same x y e = cc
+-- plans of one mode
+abbrev pub AllMode : ℕ → List Planned → Type 0
+AllMode v [] = Unit {0}
+AllMode v (planned ∷ plans) = (planned.mode ≡ v) × AllMode v plans
+
+-- the jobs of cuts
+abbrev pub cut_jobs : List Cut → List Work
+cut_jobs [] = []
+cut_jobs (x ∷ cuts) = x.jobs ++ cut_jobs cuts
+
+module _ (task : Task) (isas : Isas task.netlist) where
+  abbrev pub own_net : ℕ → Netlist
+  own_net v = base_at task.netlist (held task.netlist v)
+
+  abbrev pub own_kit : ℕ → Kit
+  own_kit v = record { netlist = own_net v; patterns = (isas v).patterns; stock = mode_stock task isas v }
+
+  -- a job's cover is by forms of its mode
+  abbrev pub PlansCovered : List Work → List Planned → Type 0
+  PlansCovered [] [] = Unit {0}
+  PlansCovered (job ∷ jobs) (planned ∷ plans) = IsCovered (own_kit planned.mode).stock job planned.choice × HasOne job.destination job.trees × PlansCovered jobs plans
+  PlansCovered _ _ = ⊥
+
+  -- so are those of jobs of one mode by its forms
+  pub run_covered : (v : ℕ) (jobs : List Work) (plans : List Planned) → AllMode v plans → PlansCovered jobs plans → AreCovered (own_kit v).stock jobs (plan_choices plans)
+  run_covered v [] [] all c = tt
+  run_covered v [] (planned ∷ plans) all c = absurd c
+  run_covered v (job ∷ jobs) [] all c = absurd c
+  run_covered v (job ∷ jobs) (planned ∷ plans) all c = (subst (λ n. IsCovered (own_kit n).stock job planned.choice) all.0 c.0, c.1, run_covered v jobs plans all.1 c.2)
+
+  abbrev pub CutsCovered : List Cut → Type 0
+  CutsCovered [] = Unit {0}
+  CutsCovered (x ∷ cuts) = AreCovered (own_kit x.mode).stock x.jobs x.choices × CutsCovered cuts
+
+  first_covered : (v : ℕ) (job : Work) (choice : Choice) (x : Cut) (cuts : List Cut) → x.mode ≡ v → IsCovered (own_kit 0).stock job choice → HasOne job.destination job.trees → CutsCovered (x ∷ cuts) → CutsCovered (join_first v job choice x cuts)
+  first_covered zero job choice x cuts e c o h = ((c, o, subst (λ n. AreCovered (own_kit n).stock x.jobs x.choices) e h.0), h.1)
+  first_covered (suc v) job choice x cuts e c o h = ((c, o, tt), h)
+
+  zero_covered : (job : Work) (choice : Choice) (cuts : List Cut) → IsCovered (own_kit 0).stock job choice → HasOne job.destination job.trees → CutsCovered cuts → CutsCovered (join_zero job choice cuts)
+  zero_covered job choice [] c o h = ((c, o, tt), tt)
+  zero_covered job choice (x ∷ cuts) c o h = first_covered x.mode job choice x cuts refl c o h
+
+  join_covered : (v : ℕ) (job : Work) (choice : Choice) (cuts : List Cut) → IsCovered (own_kit v).stock job choice → HasOne job.destination job.trees → CutsCovered cuts → CutsCovered (join_cut v job choice cuts)
+  join_covered zero job choice cuts c o h = zero_covered job choice cuts c o h
+  join_covered (suc v) job choice cuts c o h = ((c, o, tt), h)
+
+  pub cuts_covered : (jobs : List Work) (plans : List Planned) → PlansCovered jobs plans → CutsCovered (cuts_of jobs plans)
+  cuts_covered [] [] c = tt
+  cuts_covered [] (planned ∷ plans) c = tt
+  cuts_covered (job ∷ jobs) [] c = tt
+  cuts_covered (job ∷ jobs) (planned ∷ plans) c = join_covered planned.mode job planned.choice (cuts_of jobs plans) c.0 c.1 (cuts_covered jobs plans c.2)
+
+  first_jobs : (v : ℕ) (job : Work) (choice : Choice) (x : Cut) (cuts : List Cut) → cut_jobs (join_first v job choice x cuts) ≡ job ∷ cut_jobs (x ∷ cuts)
+  first_jobs zero job choice x cuts = refl
+  first_jobs (suc v) job choice x cuts = refl
+
+  join_jobs : (v : ℕ) (job : Work) (choice : Choice) (cuts : List Cut) → cut_jobs (join_cut v job choice cuts) ≡ job ∷ cut_jobs cuts
+  join_jobs zero job choice [] = refl
+  join_jobs zero job choice (x ∷ cuts) = first_jobs x.mode job choice x cuts
+  join_jobs (suc v) job choice cuts = refl
+
+  pub cuts_jobs : (jobs : List Work) (plans : List Planned) → PlansCovered jobs plans → jobs ≡ cut_jobs (cuts_of jobs plans)
+  cuts_jobs [] [] c = refl
+  cuts_jobs [] (planned ∷ plans) c = absurd c
+  cuts_jobs (job ∷ jobs) [] c = absurd c
+  cuts_jobs (job ∷ jobs) (planned ∷ plans) c = ap (λ (list : List Work). job ∷ list) (cuts_jobs jobs plans c.2) ∙ sym (join_jobs planned.mode job planned.choice (cuts_of jobs plans))
+
+  plans_both : (jobs works : List Work) (plans others : List Planned) → PlansCovered jobs plans → PlansCovered works others → PlansCovered (jobs ++ works) (plans ++ others)
+  plans_both [] works [] others c d = d
+  plans_both [] works (planned ∷ plans) others c d = absurd c
+  plans_both (job ∷ jobs) works [] others c d = absurd c
+  plans_both (job ∷ jobs) works (planned ∷ plans) others c d = (c.0, c.1, plans_both jobs works plans others c.2 d)
+
+  module _ (reads : (v : ℕ) → AllReadWords task.width (isas v).rules) (most : ℕ) (small : AllSmall task.width (temp_count task.width task.listing) most (task_works task)) (one : AllOne (task_works task))
+      (plans : List Planned) (planned : ArePlans task isas plans) where
+    -- ---- the jobs of blocks
+
+    pair_at : (works : List Work) (plans : List Planned) (k : ℕ) → AllSmall task.width (temp_count task.width task.listing) most works → AllOne works → AllPlanned (mode_stock task isas) (IsUsable task.netlist isas) works plans
+        → PlansCovered (job_list (slice_get works k)) (plans_of (slice_get plans k))
+    pair_at [] [] k s o c = tt
+    pair_at [] (d ∷ plans) k s o c = absurd c
+    pair_at (t ∷ works) [] k s o c = absurd c
+    pair_at (t ∷ works) (d ∷ plans) zero s o c = (covered_of task.width (own_kit d.mode).stock (reads d.mode) most t d.choice s.0 c.0.chosen, o.0, tt)
+    pair_at (t ∷ works) (d ∷ plans) (suc k) s o c = pair_at works plans k s.1 o.1 c.1
+
+    place_covered : (o : Option Flow) → PlansCovered (job_at (task_works task) o) (plan_at plans o)
+    place_covered None = tt
+    place_covered (Some (Assign tree)) = pair_at (task_works task) plans tree small one planned
+    place_covered (Some (Tested tree a b)) = tt
+    place_covered (Some (Jumped to)) = tt
+    place_covered (Some Ended) = tt
+
+    pub block_covered : (flow : List Flow) (at n : ℕ) → PlansCovered (jobs_at flow (task_works task) at n) (plans_at flow plans at n)
+    block_covered flow at zero = tt
+    block_covered flow at (suc n) =
+        plans_both (jobs_at flow (task_works task) at n) (job_at (task_works task) (slice_get flow (at + n))) (plans_at flow plans at n) (plan_at plans (slice_get flow (at + n))) (block_covered flow at n) (place_covered (slice_get flow (at + n)))
+
+    -- ---- tests
+
+    pub test_plan : (works : List Work) (plans : List Planned) (k : ℕ) (job : Work) → AllSmall task.width (temp_count task.width task.listing) most works → AllPlanned (mode_stock task isas) (IsUsable task.netlist isas) works plans → slice_get works k ≡ Some job → job.destination ≡ tested
+        → (d : Planned) × (slice_get plans k ≡ Some d) × IsCovered (own_kit 0).stock job d.choice
+    test_plan [] plans k job s c e aim = absurd (cc e)
+    test_plan (t ∷ works) [] k job s c e aim = absurd c
+    test_plan (t ∷ works) (d ∷ plans) zero job s c e aim =
+        let same : t ≡ job = (λ (x y : Work) (h : Some x ≡ Some y). one_of x y h) t job e in
+        let goes : t.destination ≡ tested = ap (λ (x : Work). x.destination) same ∙ aim in
+        let mode : d.mode ≡ 0 = subst (λ (x : Destination). MayRunIn x d.mode) goes c.0.may in
+        (d, refl, subst (λ x. IsCovered (own_kit 0).stock x d.choice) same (subst (λ v. IsCovered (own_kit v).stock t d.choice) mode (covered_of task.width (own_kit d.mode).stock (reads d.mode) most t d.choice s.0 c.0.chosen)))
+      where
+        one_of : (x y : Work) → Some x ≡ Some y → x ≡ y
+        one_of x y h = cc
+    test_plan (t ∷ works) (d ∷ plans) (suc k) job s c e aim = test_plan works plans k job s.1 c.1 e aim
 
 -- addresses of the data memory have some bits
 some_addresses : (netlist : Netlist) (storages : List Storage) → AllByRecursion (StorageKeeps netlist) storages → memory_count storages ≡ 1 → 1 ≤ memory_addr_width storages

@@ -1,16 +1,12 @@
 -- Code that is made of its parts traces the program.
-use Rattle.std.proofs.Common.{ℕ, zero, suc, ◌≡◌, ◌≤◌, ◌<◌, ◌+◌, ◌^◌, inl, inr, Bool, true, false, List, [], ◌∷◌, length, Option, Some, None, slice_get, slice_index, refl, sym, ◌∙◌, ap, arith}
+use Rattle.std.proofs.Common.{ℕ, zero, suc, ◌≡◌, ◌≤◌, ◌<◌, ◌+◌, ◌^◌, inl, inr, Bool, true, false, List, [], ◌∷◌, length, Option, Some, None, slice_get, refl, sym, ◌∙◌, ap, arith, subst}
 use Rattle.std.proofs.lemmas.Bool.{cases_eq}
 use Rattle.std.proofs.Math.Nat.{pow-le-pow_right}
 use Rattle.net_model.specs.declared.hardware.Netlist.{Netlist}
-use Rattle.net_model.specs.declared.hardware.Space.TheVariants.{File as InFile}
 use Rattle.net_model.specs.declared.hardware.Storage.{Storage}
 use Rattle.net_model.specs.declared.hardware.Storage.TheVariants.{Register, Memory, File}
-use Rattle.net_model.specs.CheckedRules.{KeepsRules, IsCounter, code_size}
-use Rattle.net_model.specs.Nets.{file_place, storage_bits, counter_of, counter_width, memory_size, memory_width, size_in}
-use Rattle.net_model.specs.Widths.{WordFits}
-use Rattle.net_model.specs.Patterns.{Pattern}
-use Rattle.net_model.proofs.KeptRules.{sound_of}
+use Rattle.net_model.specs.CheckedRules.{IsCounter, code_size}
+use Rattle.net_model.specs.Nets.{storage_bits, counter_of, counter_width, memory_size, memory_width}
 use Rattle.src_model.specs.Written.{Listing, acts_of}
 use Rattle.src_model.specs.Meaning.{cell_count}
 use Rattle.src_model.specs.Rules.{first_fault}
@@ -21,25 +17,25 @@ use Rattle.code_model.specs.Layout.{variables_of}
 use Rattle.code_model.specs.Right.{TracesRight}
 use Rattle.form_model.specs.declared.flow.Flow.{Flow}
 use Rattle.form_model.specs.declared.flow.Flow.TheVariants.{End as Ended}
-use Rattle.form_model.specs.Covers.{Stock}
 use Rattle.form_model.specs.Rules.{Rule}
-use Rattle.emit_seq.specs.Formed.{AreFormed}
 use Rattle.src_trees.specs.Lowered.{Work}
 use Rattle.src_trees.specs.Flows.{places_in, program_flow, program_works}
 use Rattle.src_trees.specs.Seen.{memory_map, InReach}
 use Rattle.branch_fix.specs.declared.part.Part.{Part}
 use Rattle.branch_fix.specs.declared.part.Part.TheVariants.{Block, Inner, Test, Jump, End}
-use Rattle.branch_fix.specs.Parts.{address, total, room, branch_words, PartsFit, FitsPart}
-use Rattle.branch_fix.specs.Made.{IsMade}
+use Rattle.branch_fix.specs.Parts.{address, total, room, branch_words, rule_at_one, PartsFit, FitsPart}
+use Rattle.branch_fix.specs.Made.{DoesBlock, DoesFork, IsMade, image_word}
+use Rattle.branch_fix.specs.Sections.{DoSections, DoesIn, DoesSection, PutsMode, Section, section_jobs, section_room, sections_room}
+use Rattle.branch_fix.proofs.Sections.{sections_do}
 use Rattle.branch_fix.specs.Inner.Flowing.{IsFlow}
 use Rattle.branch_fix.proofs.Addresses.{address_next, address_rises, part_at, fit_length}
 use Rattle.branch_fix.proofs.Laying.{address_total}
 use Rattle.branch_fix.proofs.Shapes.{program_is_flow}
 use Rattle.branch_fix.proofs.LaidRight.{laid_right}
 use Rattle.right_code.specs.Inner.Code.{IsMadeCode}
-use Rattle.right_code.proofs.Walked.{block_does}
-use Rattle.right_code.proofs.Branching.{jump_does}
-use Rattle.right_code.proofs.Forked.{fork_does}
+use Rattle.right_code.specs.Inner.Blocks.{AreSectionsMade, IsBlockMade, IsKit, IsModeBlockMade, IsModeWordMade, IsSectionMade, Kit, Machine}
+use Rattle.right_code.proofs.Walked.{block_does, word_puts}
+use Rattle.right_code.proofs.Forked.{fork_does, leads}
 
 -- a place at which something stands is one of the list
 pub there : {A : Type 0} (xs : List A) (k : ℕ) (x : A) → slice_get xs k ≡ Some x → k < length xs
@@ -110,36 +106,79 @@ three_words : (next long : Bool) → long ≡ true → 3 ≤ branch_words next l
 three_words next true e = omega arith
 three_words next false e = absurd (cc e)
 
-module _ (netlist : Netlist) (order : List ℕ) (keeps : KeepsRules netlist order) (image : Image) (patterns : List Pattern) (stock : Stock) (sized : stock.file ≡ size_in InFile netlist.storages) (formed : AreFormed (file_place netlist.storages) patterns (length netlist.storages) stock.file stock.rules) where
+module _ (m : Machine) (kit : Kit) (are : IsKit m 0 kit) (image : Image) where
+  -- addresses within the code are within those of the counter, in each mode
+  within : (v : ℕ) (other : Kit) → IsKit m v other → (n : ℕ) → n ≤ code_size kit.netlist.codes → n ≤ 2 ^ counter_width other.netlist
+  within v other is n le =
+      let a : code_size kit.netlist.codes ≡ code_size m.netlist.codes = ap code_size are.base.codes in
+      let b : code_size other.netlist.codes ≡ code_size m.netlist.codes = ap code_size is.base.codes in
+      let c : code_size other.netlist.codes ≤ 2 ^ counter_width other.netlist = is.keeps.roles.sizes.0.1 in
+      omega (arith, le, a, b, c)
+
+  -- ---- the sections of a block
+
+  part_does : (v : ℕ) (other : Kit) → IsKit m v other → (jobs : List Work) (at n : ℕ) → IsBlockMade other.netlist m.netlist.special other.patterns other.stock image jobs at n → at + n < code_size kit.netlist.codes
+      → DoesIn m.netlist image m.temps v jobs at n
+  part_does v other is jobs at n made lt =
+      let low : at + n + 1 ≤ 2 ^ counter_width other.netlist = within v other is (at + n + 1) (omega (arith, lt)) in
+      subst (λ t. DoesIn m.netlist image t v jobs at n) is.temps
+      (block_does m.netlist other.netlist v is.base is.order is.keeps image other.patterns other.stock is.sized is.formed jobs at n made (omega (arith, low)))
+
+  word_does : (v : ℕ) (other : Kit) → IsKit m v other → (at to : ℕ) → IsModeWordMade other.netlist m.netlist.special (image_word image at) to → at + 1 < code_size kit.netlist.codes → PutsMode m.netlist image v to at
+  word_does v other is at to made lt =
+      let low : at + 1 + 1 ≤ 2 ^ counter_width other.netlist = within v other is (at + 1 + 1) (omega (arith, lt)) in
+      word_puts m.netlist other.netlist v is.base is.order is.keeps image at to made (omega (arith, low))
+
+  section_does : (v : ℕ) (jobs : List Work) (at n : ℕ) → IsSectionMade m kit image v jobs at n → at + section_room v n < code_size kit.netlist.codes → DoesSection m.netlist image m.temps v jobs at n
+  section_does zero jobs at n made lt = part_does 0 kit are jobs at n made (omega (arith, lt))
+  section_does (suc v) jobs at n made lt =
+      (word_does 0 kit are at (suc v) made.2 (omega (arith, lt)), part_does (suc v) made.0 made.1 jobs (at + 1) n made.3 (omega (arith, lt)), word_does (suc v) made.0 made.1 (at + 1 + n) 0 made.4 (omega (arith, lt)))
+
+  sections_done : (sections : List Section) (at : ℕ) → AreSectionsMade m kit image sections at → at + sections_room sections < code_size kit.netlist.codes → DoSections m.netlist image m.temps sections at
+  sections_done [] at made lt = tt
+  sections_done (x ∷ sections) at made lt =
+      (section_does x.mode x.jobs at x.words made.0 (omega (arith, lt)), sections_done sections (at + section_room x.mode x.words) made.1 (omega (arith, lt)))
+
+  block_done : (jobs : List Work) (at n : ℕ) → IsModeBlockMade m kit image jobs at n → at + n < code_size kit.netlist.codes → DoesBlock m.netlist image m.temps jobs at n
+  block_done jobs at n made lt =
+      let r : n ≡ sections_room made.sections = made.room in
+      subst (λ (list : List Work). DoesBlock m.netlist image m.temps list at n) (sym made.are)
+      (subst (λ k. DoesBlock m.netlist image m.temps (section_jobs made.sections) at k) (sym r)
+      (sections_do m.netlist image m.temps made.sections at (sections_done made.sections at made.made (omega (arith, lt, r)))))
+
+  -- ---- the code
+
   -- code that is made of its parts is made as the flow wants it
-  pub made_is : (flow : List Flow) (jobs : List Work) (parts : List Part) (end : ℕ) → IsFlow flow end → IsMadeCode netlist patterns stock image flow jobs parts
-      → IsMade netlist image stock.temps stock.rules flow jobs parts
+  pub made_is : (flow : List Flow) (jobs : List Work) (parts : List Part) (end : ℕ) → IsFlow flow end → IsMadeCode m kit image flow jobs parts
+      → IsMade m.netlist image m.temps kit.stock.rules flow jobs parts
   made_is flow jobs parts end f made =
-      let few : counter_width netlist ≤ 64 = counter_narrow (slice_get netlist.storages (counter_of netlist.codes)) keeps.roles.counter in
-      let full : total parts ≤ code_size netlist.codes = made.room in
-      let words : code_size netlist.codes ≤ 2 ^ counter_width netlist = keeps.roles.sizes.0.1 in
-      let big : total parts ≤ 2 ^ counter_width netlist = omega (arith, full, words) in
+      let base : Netlist = kit.netlist in
+      let rules : List Rule = kit.stock.rules in
+      let few : counter_width kit.netlist ≤ 64 = counter_narrow (slice_get kit.netlist.storages (counter_of kit.netlist.codes)) are.keeps.roles.counter in
+      let full : total parts ≤ code_size kit.netlist.codes = made.room in
+      let big : total parts ≤ 2 ^ counter_width kit.netlist = within 0 kit are (total parts) full in
       record {
         fit = made.fit;
         marks = made.marks;
         blocks = λ at n block words b e.
-            (let l : address parts at + words < total parts = before_end stock.rules flow end parts at (Block block words) f made.fit e refl in
-            block_does netlist order keeps image patterns stock sized formed _ (address parts at) words (made.blocks at n block words b e) (omega (arith, l, big)));
+            (let l : address parts at + words < total parts = before_end kit.stock.rules flow end parts at (Block block words) f made.fit e refl in
+            block_done _ (address parts at) words (made.blocks at n block words b e) (omega (arith, l, full)));
         forks = λ at fork e job has.
-            (let l : address parts at + (fork.words + branch_words fork.next fork.long) < total parts = before_end stock.rules flow end parts at (Test fork) f made.fit e refl in
+            (let l : address parts at + (fork.words + branch_words fork.next fork.long) < total parts = before_end kit.stock.rules flow end parts at (Test fork) f made.fit e refl in
             let one : 1 ≤ branch_words fork.next fork.long = one_word fork.next fork.long in
-            let wide : 2 ^ counter_width netlist ≤ 2 ^ 64 = powers (counter_width netlist) few in
-            fork_does netlist order keeps image patterns stock sized formed job _ fork (address parts at) (address parts fork.to) (address parts fork.other) (made.forks at fork e job has) few
-            (omega (arith, l, one, big)) (omega (arith, l, one, big, wide)) (λ z. let three : 3 ≤ branch_words fork.next fork.long = three_words fork.next fork.long z in omega (arith, l, three, big)));
-        jumps = λ at to e. jump_does netlist order keeps patterns _ (address parts to) (made.jumps at to e);
-        ends = λ at e. jump_does netlist order keeps patterns _ (address parts at) (made.ends at e);
+            let wide : 2 ^ counter_width kit.netlist ≤ 2 ^ 64 = powers (counter_width kit.netlist) few in
+            subst (λ t. DoesFork m.netlist image t job (rule_at_one (slice_get kit.stock.rules fork.form)) fork (address parts at) (address parts fork.to) (address parts fork.other)) are.temps
+            (fork_does m.netlist kit.netlist are.base are.order are.keeps image kit.patterns kit.stock are.sized are.formed job _ fork (address parts at) (address parts fork.to) (address parts fork.other) (made.forks at fork e job has) few
+            (omega (arith, l, one, big)) (omega (arith, l, one, big, wide)) (λ z. let three : 3 ≤ branch_words fork.next fork.long = three_words fork.next fork.long z in omega (arith, l, three, big))));
+        jumps = λ at to e. leads m.netlist kit.netlist are.base are.order are.keeps image kit.patterns kit.stock are.sized are.formed (address parts at) (address parts to) (made.jumps at to e);
+        ends = λ at e. leads m.netlist kit.netlist are.base are.order are.keeps image kit.patterns kit.stock are.sized are.formed (address parts at) (address parts at) (made.ends at e);
       }
 
-  -- and traces the program
-  pub code_right : (bits addr : ℕ) (l : Listing) (parts : List Part) → first_fault bits l ≡ None → memory_width netlist.storages ≡ bits → InReach bits addr stock.temps l.vars
-      → stock.temps + cell_count l.vars ≤ memory_size netlist.storages → image.places ≡ places_from stock.temps (variables_of l.vars)
-      → IsMadeCode netlist patterns stock image (program_flow l) (program_works (memory_map bits addr stock.temps l.vars) l) parts
-      → length (words_of image) ≡ total parts → ((a : ℕ) → WordFits netlist (slice_index (words_of image) a)) → TracesRight netlist image (strace bits l)
-  code_right bits addr l parts kept wide reach room places made long fits =
-      laid_right netlist image bits addr stock.temps l stock.rules parts (sound_of netlist order keeps) kept wide reach room places
-      (made_is (program_flow l) (program_works (memory_map bits addr stock.temps l.vars) l) parts (places_in (acts_of l.body)) (program_is_flow l) made) long fits
+  -- and traces the program, with each mark in mode 0
+  pub code_right : (bits addr : ℕ) (l : Listing) (parts : List Part) → first_fault bits l ≡ None → memory_width m.netlist.storages ≡ bits → InReach bits addr m.temps l.vars
+      → m.temps + cell_count l.vars ≤ memory_size m.netlist.storages → image.places ≡ places_from m.temps (variables_of l.vars)
+      → IsMadeCode m kit image (program_flow l) (program_works (memory_map bits addr m.temps l.vars) l) parts
+      → length (words_of image) ≡ total parts → TracesRight m.netlist image (strace bits l)
+  code_right bits addr l parts kept wide reach room places made long =
+      laid_right m.netlist image bits addr m.temps l kit.stock.rules parts kept wide reach room places
+      (made_is (program_flow l) (program_works (memory_map bits addr m.temps l.vars) l) parts (places_in (acts_of l.body)) (program_is_flow l) made) long

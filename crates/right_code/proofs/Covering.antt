@@ -1,8 +1,9 @@
--- Covers of jobs, one after the other.
+-- Plans of jobs, one after the other.
 use Rattle.std.proofs.Common.{◌≡◌, ℕ, zero, suc, ◌<◌, List, [], ◌∷◌, ◌++◌, take, length, Some, slice_get, refl, subst, ap, arith}
-use Rattle.form_model.specs.Covers.{Choice, HasNoCover, IsChosen, Stock, job_cost}
+use Rattle.form_model.specs.Covers.{Stock}
+use Rattle.mode_set.specs.Costs.{HasNoPlan, IsPlanned, Planned, mode_cost}
 use Rattle.src_trees.specs.Lowered.{Work}
-use Rattle.right_code.specs.Covered.{AllChosen, HasCover, IsFirstBare, job_costs}
+use Rattle.right_code.specs.Covered.{AllPlanned, HasCover, IsFirstBare, plan_costs}
 
 -- an element of a front part
 taken_at : {X : Type 0} (xs : List X) (k i : ℕ) (x : X) → i < k → slice_get xs i ≡ Some x → slice_get (take k xs) i ≡ Some x
@@ -11,43 +12,45 @@ taken_at (y ∷ xs) zero i x lt at = absurd (omega arith)
 taken_at (y ∷ xs) (suc k) zero x lt at = at
 taken_at (y ∷ xs) (suc k) (suc i) x lt at = taken_at xs k i x (omega arith) at
 
-module _ (stock : Stock) where
-  -- one more job with its cover
-  pub chosen_more : (jobs : List Work) (choices : List Choice) (job : Work) (choice : Choice) → AllChosen stock jobs choices →
-      IsChosen stock job.destination job.trees choice → AllChosen stock (jobs ++ job ∷ []) (choices ++ choice ∷ [])
-  chosen_more [] [] job choice h k = (k, tt)
-  chosen_more [] (c ∷ choices) job choice h k = absurd h
-  chosen_more (j ∷ jobs) [] job choice h k = absurd h
-  chosen_more (j ∷ jobs) (c ∷ choices) job choice h k = (h.0, chosen_more jobs choices job choice h.1 k)
+module _ (stock : ℕ → Stock) (Usable : ℕ → Type 0) where
+  -- one more job with its plan
+  pub planned_more : (jobs : List Work) (plans : List Planned) (job : Work) (planned : Planned) → AllPlanned stock Usable jobs plans →
+      IsPlanned stock Usable job.destination job.trees planned → AllPlanned stock Usable (jobs ++ job ∷ []) (plans ++ planned ∷ [])
+  planned_more [] [] job planned h k = (k, tt)
+  planned_more [] (c ∷ plans) job planned h k = absurd h
+  planned_more (j ∷ jobs) [] job planned h k = absurd h
+  planned_more (j ∷ jobs) (c ∷ plans) job planned h k = (h.0, planned_more jobs plans job planned h.1 k)
 
-  pub costs_more : (jobs : List Work) (choices : List Choice) (job : Work) (choice : Choice) → AllChosen stock jobs choices →
-      job_costs (jobs ++ job ∷ []) (choices ++ choice ∷ []) ≡ job_costs jobs choices ++ job_cost job.destination choice.plan ∷ []
-  costs_more [] [] job choice h = refl
-  costs_more [] (c ∷ choices) job choice h = absurd h
-  costs_more (j ∷ jobs) [] job choice h = absurd h
-  costs_more (j ∷ jobs) (c ∷ choices) job choice h = ap (λ (l : List ℕ). job_cost j.destination c.plan ∷ l) (costs_more jobs choices job choice h.1)
+  pub costs_more : (jobs : List Work) (plans : List Planned) (job : Work) (planned : Planned) → AllPlanned stock Usable jobs plans →
+      plan_costs (jobs ++ job ∷ []) (plans ++ planned ∷ []) ≡ plan_costs jobs plans ++ mode_cost planned.mode job.destination planned.choice.plan ∷ []
+  costs_more [] [] job planned h = refl
+  costs_more [] (c ∷ plans) job planned h = absurd h
+  costs_more (j ∷ jobs) [] job planned h = absurd h
+  costs_more (j ∷ jobs) (c ∷ plans) job planned h = ap (λ (l : List ℕ). mode_cost c.mode j.destination c.choice.plan ∷ l) (costs_more jobs plans job planned h.1)
 
-  -- there are as many covers as jobs
-  pub chosen_length : (jobs : List Work) (choices : List Choice) → AllChosen stock jobs choices → length choices ≡ length jobs
-  chosen_length [] [] h = refl
-  chosen_length [] (c ∷ choices) h = absurd h
-  chosen_length (j ∷ jobs) [] h = absurd h
-  chosen_length (j ∷ jobs) (c ∷ choices) h = ap suc (chosen_length jobs choices h.1)
+  -- there are as many plans as jobs
+  pub planned_length : (jobs : List Work) (plans : List Planned) → AllPlanned stock Usable jobs plans → length plans ≡ length jobs
+  planned_length [] [] h = refl
+  planned_length [] (c ∷ plans) h = absurd h
+  planned_length (j ∷ jobs) [] h = absurd h
+  planned_length (j ∷ jobs) (c ∷ plans) h = ap suc (planned_length jobs plans h.1)
 
   -- each of them has one
-  pub covered_at : (jobs : List Work) (choices : List Choice) → AllChosen stock jobs choices → (k : ℕ) (job : Work) → slice_get jobs k ≡ Some job → HasCover stock job
+  pub covered_at : (jobs : List Work) (plans : List Planned) → AllPlanned stock Usable jobs plans → (k : ℕ) (job : Work) → slice_get jobs k ≡ Some job → HasCover stock Usable job
   covered_at [] [] h k job at = absurd cc
-  covered_at [] (c ∷ choices) h k job at = absurd h
+  covered_at [] (c ∷ plans) h k job at = absurd h
   covered_at (j ∷ jobs) [] h k job at = absurd h
-  covered_at (j ∷ jobs) (c ∷ choices) h zero job at = let same : j ≡ job = cc in subst (HasCover stock) same (c, h.0.covers)
-  covered_at (j ∷ jobs) (c ∷ choices) h (suc k) job at = covered_at jobs choices h.1 k job at
+  covered_at (j ∷ jobs) (c ∷ plans) h zero job at =
+      let same : j ≡ job = cc in
+      subst (HasCover stock Usable) same (record { mode = c.mode; choice = c.choice; covers = record { can = h.0.can; may = h.0.may; covers = h.0.chosen.covers } })
+  covered_at (j ∷ jobs) (c ∷ plans) h (suc k) job at = covered_at jobs plans h.1 k job at
 
-  -- where those before a job have covers and it has none, it is the first
-  pub first_bare : (jobs : List Work) (k : ℕ) (job : Work) (choices : List Choice) → AllChosen stock (take k jobs) choices → slice_get jobs k ≡ Some job →
-      HasNoCover stock job.destination job.trees → IsFirstBare stock jobs k
-  first_bare jobs k job choices h at none = record {
+  -- where those before a job have plans and it has none, it is the first
+  pub first_bare : (jobs : List Work) (k : ℕ) (job : Work) (plans : List Planned) → AllPlanned stock Usable (take k jobs) plans → slice_get jobs k ≡ Some job →
+      HasNoPlan stock Usable job.destination job.trees → IsFirstBare stock Usable jobs k
+  first_bare jobs k job plans h at none = record {
     job = job;
     at = at;
     none = none;
-    earlier = λ i other lt there. covered_at (take k jobs) choices h i other (taken_at jobs k i other lt there);
+    earlier = λ i other lt there. covered_at (take k jobs) plans h i other (taken_at jobs k i other lt there);
   }

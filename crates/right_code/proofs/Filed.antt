@@ -1,13 +1,13 @@
 -- What swaps leave of reads of the register file, and where the tied read is.
-use Rattle.std.proofs.Common.{◌≡◌, ℕ, zero, suc, ◌+◌, ◌-◌, ◌<◌, ◌≤◌, ◌==◌, ◌&&◌, ◌||◌, not, if◌then◌else◌, Bool, true, false, true≢false, List, [], ◌∷◌, ◌++◌, length, length-append, Option, Some, None, slice_get, refl, sym, ap, subst, ◌∙◌, arith, inl, inr}
-use Rattle.std.specs.Prelude.{is_some, option_map}
-use Rattle.std.proofs.lemmas.Bool.{and_parts, cases_Bool, or_cases}
+use Rattle.std.proofs.Common.{◌≡◌, ℕ, zero, suc, ◌+◌, ◌&&◌, ◌||◌, not, if◌then◌else◌, Bool, true, false, true≢false, List, [], ◌∷◌, ◌++◌, length, length-append, Option, Some, None, slice_get, refl, sym, ap, subst, ◌∙◌, arith}
+use Rattle.std.specs.Prelude.{is_some}
+use Rattle.std.proofs.lemmas.Bool.{and_parts}
 use Rattle.rec_bits.specs.declared.operator.Op2.{Op2}
 use Rattle.net_model.specs.declared.hardware.Space.TheVariants.{Memory as InMemory, File as InFile}
 use Rattle.net_model.specs.Terms.{Term, word, reg, const, read, un, bin, slice, cat, zext, sext, select}
-use Rattle.form_model.specs.Matches.{Home, in_register, in_file}
-use Rattle.form_model.specs.Shapes.{is_plain, is_plain_sum, is_shape, shows_below, sum_of}
-use Rattle.form_set.specs.Static.{reads_shown, shows_cells}
+use Rattle.form_model.specs.Matches.{Home, in_file}
+use Rattle.form_model.specs.Shapes.{is_plain, is_shape, shows_below}
+use Rattle.form_set.specs.Static.{reads_shown}
 use Rattle.form_set.specs.Swaps.{Path, can_swap, ordered, swap_at, swaps_here}
 use Rattle.form_set.specs.Targets.{first_of}
 use Rattle.form_set.specs.Tied.{behind, operand_count, same_term, tied_place}

@@ -1,43 +1,22 @@
 -- Each word of the code fits the netlist.
-use Rattle.std.proofs.Common.{ℕ, zero, suc, ◌≡◌, ◌≤◌, ◌<◌, ◌+◌, ◌-◌, ◌&&◌, inl, inr, Bool, true, false, nat_lt, not, List, [], ◌∷◌, ◌++◌, length, Option, Some, None, refl, sym, ◌∙◌, ap, subst, arith, slice_get, slice_index}
+use Rattle.block_words.specs.Laws.{operation_in}
+use Rattle.std.proofs.Common.{ℕ, zero, suc, ◌≡◌, ◌≤◌, ◌<◌, ◌+◌, ◌-◌, ◌&&◌, inl, inr, Bool, true, false, nat_lt, not, List, [], ◌∷◌, ◌++◌, length, Option, Some, None, refl, sym, ◌∙◌, ap, subst, arith, slice_get, slice_index, ◌^◌}
 use Rattle.std.proofs.lemmas.Bool.{and_parts, cases_lt, cases_eq}
 use Rattle.std.proofs.lemmas.List.{get_or_past}
 use Rattle.net_model.specs.declared.hardware.Netlist.{Netlist}
-use Rattle.net_model.specs.declared.hardware.Space.TheVariants.{File as InFile}
 use Rattle.net_model.specs.Widths.{WordFits}
 use Rattle.net_model.specs.Patterns.{Pattern}
-use Rattle.net_model.specs.CheckedRules.{KeepsRules}
-use Rattle.net_model.specs.Nets.{file_place, memory_size, memory_width, size_in}
-use Rattle.src_model.specs.Written.{Listing, acts_of}
-use Rattle.src_model.specs.Meaning.{cell_count}
-use Rattle.src_model.specs.Rules.{first_fault}
-use Rattle.src_model.specs.Trace.{strace}
-use Rattle.code_model.specs.Places.{places_from}
-use Rattle.code_model.specs.Layout.{variables_of}
-use Rattle.code_model.specs.Right.{TracesRight}
-use Rattle.emit_seq.specs.Formed.{AreFormed}
-use Rattle.src_trees.specs.Lowered.{MemoryMap}
-use Rattle.src_trees.specs.Flows.{places_in, program_flow, program_works}
-use Rattle.src_trees.specs.Seen.{memory_map, InReach}
-use Rattle.branch_fix.specs.Parts.{address}
-use Rattle.branch_fix.specs.Inner.Flowing.{IsFlow}
-use Rattle.branch_fix.proofs.Shapes.{program_is_flow}
 use Rattle.branch_fix.proofs.Words.{items_length}
-use Rattle.right_code.specs.Inner.Laid.{AreTurns}
-use Rattle.right_code.proofs.Tasks.{program_tests}
-use Rattle.right_code.proofs.Layouts.{within_code}
-use Rattle.right_code.proofs.Ordered.{ordered_right}
 use Rattle.code_model.specs.declared.image.Image.{Image}
 use Rattle.code_model.specs.Places.{words_of}
 use Rattle.form_model.specs.declared.flow.Flow.{Flow}
 use Rattle.form_model.specs.declared.flow.Flow.TheVariants.{Assign, Test as Tested, Jump as Jumped, End as Ended}
 use Rattle.form_model.specs.declared.forms.Step.{Step}
-use Rattle.form_model.specs.Covers.{Stock}
 use Rattle.form_model.specs.Live.{Regs}
 use Rattle.form_model.specs.Rules.{Rule}
 use Rattle.src_trees.specs.Lowered.{Work}
 use Rattle.src_trees.specs.Blocks.{is_assign, is_entered, continues, IsAssignBlock}
-use Rattle.branch_fix.specs.Parts.{room, total, starts, FitsPart, PartsFit}
+use Rattle.branch_fix.specs.Parts.{room, starts, FitsPart, PartsFit}
 use Rattle.branch_fix.specs.Items.{groups, behind, jump_form, part_items, items_from}
 use Rattle.branch_fix.specs.declared.laid.Item.{Item}
 use Rattle.branch_fix.specs.declared.laid.Item.TheVariants.{Group, Jump as Word}
@@ -45,7 +24,16 @@ use Rattle.branch_fix.specs.declared.part.Part.{Part}
 use Rattle.branch_fix.specs.declared.part.Part.TheVariants.{Block, Inner, Test, Jump, End}
 use Rattle.branch_fix.proofs.Addresses.{part_at, fit_length}
 use Rattle.branch_fix.proofs.Laying.{settled_fit}
-use Rattle.right_code.specs.Inner.Laid.{IsLaidCode}
+use Rattle.std.specs.List.{AllByRecursion}
+use Rattle.net_model.specs.declared.hardware.Code.{Code}
+use Rattle.net_model.specs.Nets.{code_bits}
+use Rattle.form_model.specs.Effects.{Operation}
+use Rattle.word_fit.specs.Fits.{fits_over}
+use Rattle.word_fit.specs.Groups.{GroupsFit}
+use Rattle.word_fit.proofs.Least.{all_fit as least_fits}
+use Rattle.branch_fix.specs.Sections.{Section}
+use Rattle.right_code.specs.Inner.Blocks.{IsKit, Kit, Machine}
+use Rattle.right_code.specs.Inner.Laid.{AreSectionsReady, IsBlockReady, IsLaidCode, IsSectionReady}
 use Rattle.right_code.specs.Words.{AreGroupWords, StandItems}
 use Rattle.right_code.proofs.Coded.{there}
 use Rattle.right_code.proofs.Inside.{get_there}
@@ -92,7 +80,52 @@ block_from flow at (suc fuel) n first some l assigns inner =
 
 -- ---- words of items
 
-module _ (netlist : Netlist) (patterns : List Pattern) (words : ℕ → List ℕ) where
+-- ---- words of sections
+
+pub word_in : (a b : Netlist) (w : ℕ) → a.codes ≡ b.codes → WordFits a w → WordFits b w
+word_in a b w e h = record { fits = subst (λ (list : List Code). (code : ℕ) → 0 < code_bits (slice_get list code) → w < 2 ^ code_bits (slice_get list code)) e h.fits }
+
+all_in : (a b : Netlist) (ws : List ℕ) → a.codes ≡ b.codes → AllByRecursion (WordFits a) ws → AllByRecursion (WordFits b) ws
+all_in a b [] e h = tt
+all_in a b (w ∷ ws) e h = (word_in a b w e h.0, all_in a b ws e h.1)
+
+all_words : {A : Type 0} (netlist : Netlist) (m : A → Operation) (ws : List ℕ) (gs : List (List A)) (live : Regs) → GroupsFit m (fits_over netlist m) ws gs live → AllByRecursion (WordFits netlist) ws
+all_words netlist m [] [] live f = tt
+all_words netlist m [] (g ∷ gs) live f = absurd f
+all_words netlist m (w ∷ ws) [] live f = absurd f
+all_words netlist m (w ∷ ws) (g ∷ gs) live f = (f.0.clean.fits, all_words netlist m ws gs live f.1)
+
+all_both : (P : ℕ → Type 0) (xs ys : List ℕ) → AllByRecursion P xs → AllByRecursion P ys → AllByRecursion P (xs ++ ys)
+all_both P [] ys h k = k
+all_both P (x ∷ xs) ys h k = (h.0, all_both P xs ys h.1 k)
+
+all_at : (P : ℕ → Type 0) (ws : List ℕ) (k : ℕ) → AllByRecursion P ws → k < length ws → P (slice_index ws k)
+all_at P [] k h l = absurd (omega (arith, l))
+all_at P (w ∷ ws) zero h l = h.0
+all_at P (w ∷ ws) (suc k) h l = all_at P ws k h.1 (omega (arith, l))
+
+module _ (m : Machine) (kit : Kit) (are : IsKit m 0 kit) where
+  codes_in : (v : ℕ) (other : Kit) → IsKit m v other → other.netlist.codes ≡ kit.netlist.codes
+  codes_in v other is = is.base.codes ∙ sym are.base.codes
+
+  ready_fit : (own : Kit) (jobs : List Work) (n : ℕ) (words : List ℕ) → IsBlockReady own.netlist m.netlist.special own.patterns own.stock jobs words n → AllByRecursion (WordFits own.netlist) words
+  ready_fit own jobs n words r = all_words own.netlist (operation_in own.netlist own.patterns) words r.groups r.live (least_fits (operation_in own.netlist own.patterns) (fits_over own.netlist (operation_in own.netlist own.patterns)) r.live words r.groups r.least)
+
+  section_fits : (v : ℕ) (jobs : List Work) (n : ℕ) (words : List ℕ) → IsSectionReady m kit v jobs n words → AllByRecursion (WordFits kit.netlist) words
+  section_fits zero jobs n words r = ready_fit kit jobs n words r
+  section_fits (suc v) jobs n words r =
+      subst (AllByRecursion (WordFits kit.netlist)) (sym r.5) (
+        r.6.clean.fits,
+        all_both (WordFits kit.netlist) r.3 (r.4 ∷ []) (all_in r.0.netlist kit.netlist r.3 (codes_in (suc v) r.0 r.1) (ready_fit r.0 jobs n r.3 r.7)) (word_in r.0.netlist kit.netlist r.4 (codes_in (suc v) r.0 r.1) r.8.clean.fits, tt),
+      )
+
+  pub sections_fit : (sections : List Section) (words : List ℕ) → AreSectionsReady m kit sections words → AllByRecursion (WordFits kit.netlist) words
+  sections_fit [] words r = subst (AllByRecursion (WordFits kit.netlist)) (sym r) tt
+  sections_fit (x ∷ sections) words r = subst (AllByRecursion (WordFits kit.netlist)) (sym r.2) (all_both (WordFits kit.netlist) r.0 r.1 (section_fits x.mode x.jobs x.words r.0 r.3) (sections_fit sections r.1 r.4))
+
+-- ---- words of items
+
+module _ (netlist : Netlist) (special : Option ℕ) (patterns : List Pattern) (words : ℕ → List ℕ) where
   abbrev AreFitting : ℕ → ℕ → Type 0
   AreFitting block size = (k : ℕ) → k < size → WordFits netlist (slice_index (words block) k)
 
@@ -143,10 +176,10 @@ module _ (netlist : Netlist) (patterns : List Pattern) (words : ℕ → List ℕ
       fit_on (part_items rules jump addresses at p) (items_from rules jump addresses (at + room p) parts) (part_fits rules jump addresses at p (h 0 p refl))
       (items_fit rules jump addresses (at + room p) parts (λ k q e. h (suc k) q e))
 
-  stand_fit : (code : List ℕ) (at : ℕ) (items : List Item) (a : ℕ) → ItemsFit items → StandItems netlist patterns words code at items → a < length items → WordFits netlist (slice_index code (at + a))
+  stand_fit : (code : List ℕ) (at : ℕ) (items : List Item) (a : ℕ) → ItemsFit items → StandItems netlist special patterns words code at items → a < length items → WordFits netlist (slice_index code (at + a))
   stand_fit code at [] a f s l = absurd (omega (arith, l))
   stand_fit code at (Group block i ∷ items) zero f s l = let z : at ≡ at + 0 = omega arith in subst (λ k. WordFits netlist (slice_index code k)) z (subst (WordFits netlist) (sym s.0) f.0)
-  stand_fit code at (Word step ∷ items) zero f s l = let z : at ≡ at + 0 = omega arith in subst (λ k. WordFits netlist (slice_index code k)) z s.0.is.clean.fits
+  stand_fit code at (Word step ∷ items) zero f s l = let z : at ≡ at + 0 = omega arith in subst (λ k. WordFits netlist (slice_index code k)) z s.0.is.fits.clean.fits
   stand_fit code at (Group block i ∷ items) (suc a) f s l =
       let z : at + 1 + a ≡ at + suc a = omega arith in subst (λ k. WordFits netlist (slice_index code k)) z (stand_fit code (at + 1) items a f.1 s.1 (omega (arith, l)))
   stand_fit code at (Word step ∷ items) (suc a) f s l =
@@ -155,7 +188,7 @@ module _ (netlist : Netlist) (patterns : List Pattern) (words : ℕ → List ℕ
   zero_fits : (w : ℕ) → WordFits netlist w → WordFits netlist 0
   zero_fits w h = record { fits = λ code some. let f = h.fits code some in omega (arith, f) }
 
-  all_fit : (code : List ℕ) (items : List Item) → ItemsFit items → StandItems netlist patterns words code 0 items → length code ≡ length items → 1 ≤ length items → (a : ℕ) → WordFits netlist (slice_index code a)
+  all_fit : (code : List ℕ) (items : List Item) → ItemsFit items → StandItems netlist special patterns words code 0 items → length code ≡ length items → 1 ≤ length items → (a : ℕ) → WordFits netlist (slice_index code a)
   all_fit code items f s n some a = elim (cases_lt a (length items)) as (λ _. WordFits netlist (slice_index code a)) [
     | inl l ↦ (let z : 0 + a ≡ a = omega arith in subst (λ k. WordFits netlist (slice_index code k)) z (stand_fit code 0 items a f s l))
     | inr l ↦ subst (WordFits netlist) (sym (get_or_past code a 0 (omega (arith, l, n)))) (zero_fits _ (stand_fit code 0 items 0 f s some))
@@ -181,34 +214,23 @@ block_at rules flow parts k block size fit e =
     one x y e = cc
 
 -- each word of the code fits
-pub code_fits : (netlist : Netlist) (patterns : List Pattern) (stock : Stock) (image : Image) (flow : List Flow) (jobs : List Work) (parts : List Part) (reach : ℕ) → AreTests jobs flow → IsLaidCode netlist patterns stock image flow jobs parts reach
-    → 1 ≤ length (words_of image) → (a : ℕ) → WordFits netlist (slice_index (words_of image) a)
-code_fits netlist patterns stock image flow jobs parts reach tests laid some =
-    let fit : PartsFit stock.rules flow 0 flow parts = settled_fit stock.rules flow laid.layout.sizes laid.layout.settings parts laid.layout.settled in
+pub code_fits : (m : Machine) (kit : Kit) (are : IsKit m 0 kit) (image : Image) (flow : List Flow) (jobs : List Work) (parts : List Part) (reach : ℕ) → AreTests jobs flow → IsLaidCode m kit image flow jobs parts reach
+    → 1 ≤ length (words_of image) → (a : ℕ) → WordFits kit.netlist (slice_index (words_of image) a)
+code_fits m kit are image flow jobs parts reach tests laid some =
+    let rules : List Rule = kit.stock.rules in
+    let fit : PartsFit kit.stock.rules flow 0 flow parts = settled_fit kit.stock.rules flow laid.layout.sizes laid.layout.settings parts laid.layout.settled in
     let n = laid.long in
-    let items = items_length stock.rules (jump_form stock.rules reach) (starts parts) 0 parts in
-    all_fit netlist patterns laid.words (words_of image) (items_from stock.rules (jump_form stock.rules reach) (starts parts) 0 parts)
-    (items_fit netlist patterns laid.words stock.rules (jump_form stock.rules reach) (starts parts) 0 parts (λ k p e. by fit k p e)) laid.stand (n ∙ sym (items_length stock.rules (jump_form stock.rules reach) (starts parts) 0 parts)) (omega (arith, n, items, some))
+    let items = items_length kit.stock.rules (jump_form kit.stock.rules reach) (starts parts) 0 parts in
+    all_fit kit.netlist m.netlist.special kit.patterns laid.words (words_of image) (items_from kit.stock.rules (jump_form kit.stock.rules reach) (starts parts) 0 parts)
+    (items_fit kit.netlist m.netlist.special kit.patterns laid.words kit.stock.rules (jump_form kit.stock.rules reach) (starts parts) 0 parts (λ k p e. by fit k p e)) laid.stand (n ∙ sym (items_length kit.stock.rules (jump_form kit.stock.rules reach) (starts parts) 0 parts)) (omega (arith, n, items, some))
   where
-    by : PartsFit stock.rules flow 0 flow parts → (k : ℕ) (p : Part) → slice_get parts k ≡ Some p → PartFits netlist patterns laid.words p
-    by fit k (Block block size) e = let b = block_at stock.rules flow parts k block size fit e in let r = laid.blocks k b.0 block size b.1 e in least_fit netlist patterns laid.words block r.groups r.live size r.least r.long
+    by : PartsFit kit.stock.rules flow 0 flow parts → (k : ℕ) (p : Part) → slice_get parts k ≡ Some p → PartFits kit.netlist m.netlist.special kit.patterns laid.words p
+    by fit k (Block block size) e =
+        let b = block_at kit.stock.rules flow parts k block size fit e in
+        let r = laid.blocks k b.0 block size b.1 e in
+        let long : size ≡ length (laid.words block) = r.long in
+        (λ i l. all_at (WordFits kit.netlist) (laid.words block) i (sections_fit m kit are r.sections (laid.words block) r.ready) (omega (arith, l, long)))
     by fit k Inner e = tt
-    by fit k (Test f) e = let t : IsTestWork jobs f.tree = test_work_of jobs stock.rules flow parts k f fit tests e in let r = laid.forks k f e t.work t.at in least_fit netlist patterns laid.words f.block r.groups r.live f.words r.least r.long
+    by fit k (Test f) e = let t : IsTestWork jobs f.tree = test_work_of jobs kit.stock.rules flow parts k f fit tests e in let r = laid.forks k f e t.work t.at in least_fit kit.netlist m.netlist.special kit.patterns laid.words f.block r.groups r.live f.words r.least r.long
     by fit k (Jump to) e = tt
     by fit k End e = tt
-
--- code as the layout orders it traces the program
-pub laid_traces : (netlist : Netlist) (order : List ℕ) → KeepsRules netlist order → (image : Image) (patterns : List Pattern) (stock : Stock) → stock.file ≡ size_in InFile netlist.storages → AreFormed (file_place netlist.storages) patterns (length netlist.storages) stock.file stock.rules → (reach : ℕ)
-    → AreTurns netlist patterns stock.rules reach → (bits addr : ℕ) (l : Listing) (parts : List Part) → first_fault bits l ≡ None → memory_width netlist.storages ≡ bits → InReach bits addr stock.temps l.vars
-    → stock.temps + cell_count l.vars ≤ memory_size netlist.storages → image.places ≡ places_from stock.temps (variables_of l.vars)
-    → IsLaidCode netlist patterns stock image (program_flow l) (program_works (memory_map bits addr stock.temps l.vars) l) parts reach → TracesRight netlist image (strace bits l)
-laid_traces netlist order keeps image patterns stock sized formed reach turns bits addr l parts kept wide inreach room places laid =
-    let m : MemoryMap = memory_map bits addr stock.temps l.vars in
-    let f : IsFlow (program_flow l) (places_in (acts_of l.body)) = program_is_flow l in
-    let fit : PartsFit stock.rules (program_flow l) 0 (program_flow l) parts = settled_fit stock.rules (program_flow l) laid.layout.sizes laid.layout.settings parts laid.layout.settled in
-    let n = fit_length stock.rules (program_flow l) 0 (program_flow l) parts fit in
-    let long = f.long in
-    let some : address parts 0 < total parts = within_code stock.rules (program_flow l) (places_in (acts_of l.body)) parts 0 f fit (omega (arith, n, long)) in
-    let words = laid.long in
-    ordered_right netlist order keeps image patterns stock sized formed reach turns bits addr l parts kept wide inreach room places laid
-    (code_fits netlist patterns stock image (program_flow l) (program_works m l) parts reach (program_tests m l) laid (omega (arith, some, words)))

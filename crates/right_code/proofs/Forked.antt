@@ -1,4 +1,5 @@
 -- The words of a test do what the flow says.
+use Rattle.code_model.specs.Machine.{IsAt}
 use Rattle.std.proofs.Common.{ℕ, ◌≡◌, ◌≤◌, ◌<◌, ◌+◌, ◌^◌, Bool, true, false, if◌then◌else◌, bit_and, List, length, drop, Some, refl, sym, ◌∙◌, ap, arith, subst}
 use Rattle.net_model.proofs.Spaces.{by_space}
 use Rattle.net_model.specs.declared.hardware.Netlist.{Netlist}
@@ -25,12 +26,17 @@ use Rattle.word_fit.proofs.Occurring.{reads_occurs}
 use Rattle.net_model.specs.Occurs.{AgreeOn, has_read, occurs}
 use Rattle.net_model.proofs.TermLaws.{mean_alike}
 use Rattle.src_trees.specs.Lowered.{Work}
+use Rattle.net_model.proofs.KeptRules.{sound_of}
+use Rattle.net_model.specs.Modes.{IsBase}
+use Rattle.code_model.specs.Flow.{GoesTo}
+use Rattle.code_model.proofs.Bases.{at_in}
 use Rattle.branch_fix.specs.Made.{Walks, DoesOperands, DoesFork, TailGoes, image_word}
+use Rattle.branch_fix.proofs.Walking.{branches, goes}
 use Rattle.branch_fix.specs.declared.part.Fork.{Fork}
 use Rattle.right_code.specs.Jobs.{tree_or_none, tree_used, job_steps}
 use Rattle.right_code.specs.Inner.Blocks.{WalksTo}
 use Rattle.right_code.specs.Forks.{plan_rule}
-use Rattle.right_code.specs.Inner.Forks.{IsBranchForm, test_of, BehindMade, IsTestMade, IsForkMade}
+use Rattle.right_code.specs.Inner.Forks.{IsBranchForm, IsJumpMade, test_of, BehindMade, IsTestMade, IsForkMade}
 use Rattle.right_code.proofs.Meant.{tree_mean, same_behind}
 use Rattle.right_code.proofs.Jobs.{used_tree, leaves}
 use Rattle.right_code.proofs.Walked.{filed, walked}
@@ -46,12 +52,13 @@ pub setting_within : (stock : Stock) (tree : Term) (plan : Plan) → IsOrderly s
 setting_within stock tree plan o =
     subst (λ c. bit_and (branch_setting stock tree plan) (fields c) ≡ branch_setting stock tree plan) (condition_is stock plan) (branch_in stock tree plan o)
 
-module _ (netlist : Netlist) (order : List ℕ) (keeps : KeepsRules netlist order) (image : Image) (patterns : List Pattern) (stock : Stock) (sized : stock.file ≡ size_in InFile netlist.storages) (formed : AreFormed (file_place netlist.storages) patterns (length netlist.storages) stock.file stock.rules) where
+-- `base` is what the netlist is in mode 0
+module _ (netlist base : Netlist) (basis : IsBase netlist netlist.special 0 base) (order : List ℕ) (keeps : KeepsRules base order) (image : Image) (patterns : List Pattern) (stock : Stock) (sized : stock.file ≡ size_in InFile base.storages) (formed : AreFormed (file_place base.storages) patterns (length base.storages) stock.file stock.rules) where
   -- behind a test's words the condition has the value of its tree
-  pub operands_do : (job : Work) (choice : Choice) (at n : ℕ) (when_one : Bool) (way : BranchTarget) (form : IsBranchForm netlist patterns (plan_rule stock choice.plan) when_one way) (i bits : ℕ)
-      → IsTestMade netlist patterns stock image job choice at n
-      → BranchParts netlist order keeps patterns (plan_rule stock choice.plan) when_one way form i (branch_setting stock (tree_used (test_of job) choice) choice.plan) bits
-      → at + n < 2 ^ counter_width netlist → DoesOperands netlist image stock.temps job i form.condition at n
+  pub operands_do : (job : Work) (choice : Choice) (at n : ℕ) (when_one : Bool) (way : BranchTarget) (form : IsBranchForm base patterns (plan_rule stock choice.plan) when_one way) (i bits : ℕ)
+      → IsTestMade base netlist.special patterns stock image job choice at n
+      → BranchParts base order keeps patterns (plan_rule stock choice.plan) when_one way form i (branch_setting stock (tree_used (test_of job) choice) choice.plan) bits
+      → at + n < 2 ^ counter_width base → DoesOperands netlist image stock.temps job i form.condition at n
   operands_do job choice at n when_one way form i bits made p b =
       let used : Term = tree_used (test_of job) choice in
       let setting : ℕ = branch_setting stock used choice.plan in
@@ -62,16 +69,18 @@ module _ (netlist : Netlist) (order : List ℕ) (keeps : KeepsRules netlist orde
         used = used;
         among = made.covered.covers.used ∙ ap Some (sym is);
         walks = λ s here lie.
-            (let u : State = steps_effect (operation_in netlist patterns) (job_steps stock (test_of job) choice) s in
-            let w : WalksTo netlist image at (length made.words) made.live s u =
-            walked netlist order keeps image (operation_in netlist patterns) made.live (job_steps stock (test_of job) choice) made.groups made.words at s made.means made.fit here made.stand (subst (λ k. at + k < 2 ^ counter_width netlist) made.long b) in
-            let h : LeaveValue stock (file_place netlist.storages) patterns tested used choice.plan s =
-            subst (λ x. LeaveValue stock (file_place netlist.storages) patterns tested x choice.plan s) (sym is)
-            (leaves stock (file_place netlist.storages) patterns (length netlist.storages) formed (test_of job) choice s made.covered here.state.regs (filed netlist stock.file s sized here.state) (record { reads = lie.reads; destination = tt; below = lie.below })) in
+            (let u : State = steps_effect (operation_in base patterns) (job_steps stock (test_of job) choice) s in
+            let w : WalksTo netlist 0 image at (length made.words) made.live s u =
+            walked netlist base 0 basis order keeps image (operation_in base patterns) made.live (job_steps stock (test_of job) choice) made.groups made.words at s made.means made.fit made.kept here.here here.mode made.stand (subst (λ k. at + k < 2 ^ counter_width base) made.long b) in
+            let there : IsAt base at s = at_in netlist base at s (sym basis.storages) (sym basis.codes) here.here in
+            let h : LeaveValue stock (file_place base.storages) patterns tested used choice.plan s =
+            subst (λ x. LeaveValue stock (file_place base.storages) patterns tested x choice.plan s) (sym is)
+            (leaves stock (file_place base.storages) patterns (length base.storages) formed (test_of job) choice s made.covered there.state.regs (filed base stock.file s sized there.state) (record { reads = lie.reads; destination = tt; below = lie.below })) in
             let c : Term = condition_of stock choice.plan in
             let a : AgreeOn (λ r. occurs r c) (has_read c) w.last u = record { cells = λ e. by_space (λ space. held w.last space ≡ held u space) w.agree.cells w.agree.file; regs = λ r e. w.agree.regs r (made.wants r (reads_occurs c setting r ∙ e)) } in (
               w.last,
               subst (λ k. Walks netlist image at s k w.last) (sym made.long) w.walks,
+              w.mode,
               ap (drop stock.temps) w.agree.cells ∙ same_behind stock.temps u.cells s.cells h.cells (λ c le. h.others c le (λ z. z)),
               mean_under form.condition w.last i setting p.test_fits p.test ∙ sym (form.alike.means w.last setting) ∙ ap (λ x. mean x w.last setting) (sym (condition_is stock choice.plan))
                   ∙ mean_alike (condition_of stock choice.plan) setting w.last u a ∙ h.value ∙ tree_mean used s t,
@@ -79,7 +88,7 @@ module _ (netlist : Netlist) (order : List ℕ) (keeps : KeepsRules netlist orde
       }
 
   -- the setting of a test's branch has bits of the condition alone
-  test_setting : (job : Work) (choice : Choice) (at n : ℕ) (when_one : Bool) (way : BranchTarget) (form : IsBranchForm netlist patterns (plan_rule stock choice.plan) when_one way) → IsTestMade netlist patterns stock image job choice at n
+  test_setting : (job : Work) (choice : Choice) (at n : ℕ) (when_one : Bool) (way : BranchTarget) (form : IsBranchForm base patterns (plan_rule stock choice.plan) when_one way) → IsTestMade base netlist.special patterns stock image job choice at n
       → bit_and (branch_setting stock (tree_used (test_of job) choice) choice.plan) (fields form.condition) ≡ branch_setting stock (tree_used (test_of job) choice) choice.plan
   test_setting job choice at n when_one way form made =
       let used : Term = tree_used (test_of job) choice in
@@ -87,27 +96,32 @@ module _ (netlist : Netlist) (order : List ℕ) (keeps : KeepsRules netlist orde
       let o : IsOrderly stock tested used true choice.plan = subst (λ x. IsOrderly stock tested x true choice.plan) (sym is) made.covered.covers.orderly in
       subst (λ k. bit_and (branch_setting stock used choice.plan) k ≡ branch_setting stock used choice.plan) form.same_fields (setting_within stock used choice.plan o)
 
-  behind_does : (next long : Bool) (at to other : ℕ) → BehindMade netlist patterns image next long at to other → TailGoes netlist image next long at to other
-  behind_does next true at to other h = (jump_does netlist order keeps patterns _ other h.0, jump_does netlist order keeps patterns _ to h.1)
+  -- the word of a jump leads to its address
+  pub leads : (at to : ℕ) → IsJumpMade base netlist.special patterns (image_word image at) to → GoesTo netlist image at to
+  leads at to h = goes netlist image base basis (sound_of base order keeps) at to (jump_does base order keeps netlist.special patterns (image_word image at) to h) h.mode
+
+  behind_does : (next long : Bool) (at to other : ℕ) → BehindMade base netlist.special patterns image next long at to other → TailGoes netlist image next long at to other
+  behind_does next true at to other h = (leads (at + 1) other h.0, leads (at + 2) to h.1)
   behind_does true false at to other h = tt
-  behind_does false false at to other h = jump_does netlist order keeps patterns _ other h
+  behind_does false false at to other h = leads (at + 1) other h
 
   -- the words of a test do what its part says
-  pub fork_does : (job : Work) (when_one : Bool) (f : Fork) (at to other : ℕ) → IsForkMade netlist patterns stock image job when_one f at to other
-      → counter_width netlist ≤ 64 → at + f.words + 1 < 2 ^ counter_width netlist → at + f.words ≤ 2 ^ 64 → (f.long ≡ true → at + f.words + 2 < 2 ^ counter_width netlist)
+  pub fork_does : (job : Work) (when_one : Bool) (f : Fork) (at to other : ℕ) → IsForkMade base netlist.special patterns stock image job when_one f at to other
+      → counter_width base ≤ 64 → at + f.words + 1 < 2 ^ counter_width base → at + f.words ≤ 2 ^ 64 → (f.long ≡ true → at + f.words + 2 < 2 ^ counter_width base)
       → DoesFork netlist image stock.temps job when_one f at to other
   fork_does job when_one f at to other made few b le far =
       let used : Term = tree_used (test_of job) made.choice in
       let setting : ℕ = branch_setting stock used made.choice.plan in
       let i : ℕ = image_word image (at + f.words) in
       let e : bit_and setting (fields made.form.condition) ≡ setting = test_setting job made.choice at f.words when_one made.way made.form made.operands in
-      let p : BranchParts netlist order keeps patterns (plan_rule stock made.choice.plan) when_one made.way made.form i setting made.bits =
-      branch_parts netlist order keeps patterns (plan_rule stock made.choice.plan) when_one made.way made.form i setting made.bits e
-      (way_bits netlist made.way made.form.target (at + f.words) to f.long made.bits made.form.goes made.shown) made.word in
+      let p : BranchParts base order keeps patterns (plan_rule stock made.choice.plan) when_one made.way made.form i setting made.bits =
+      branch_parts base order keeps patterns (plan_rule stock made.choice.plan) when_one made.way made.form i setting made.bits e
+      (way_bits base made.way made.form.target (at + f.words) to f.long made.bits made.form.goes made.shown) made.word in
       record {
         condition = made.form.condition;
         operands = operands_do job made.choice at f.words when_one made.way made.form i made.bits made.operands p (omega (arith, b));
-        branch = branch_does netlist order keeps patterns (plan_rule stock made.choice.plan) when_one made.way made.form i setting made.bits (at + f.words) (if f.long then at + f.words + 2 else to) p
-            (λ s here. way_leads netlist made.way made.form.target (at + f.words) to f.long made.bits i s made.form.goes made.shown p.target_fits p.target few (omega (arith, b)) le far here) b;
+        branch = branches netlist image base basis (sound_of base order keeps) made.form.condition when_one (at + f.words) (if f.long then at + f.words + 2 else to)
+            (branch_does base order keeps patterns (plan_rule stock made.choice.plan) when_one made.way made.form i setting made.bits (at + f.words) (if f.long then at + f.words + 2 else to) p
+            (λ s here. way_leads base made.way made.form.target (at + f.words) to f.long made.bits i s made.form.goes made.shown p.target_fits p.target few (omega (arith, b)) le far here) b netlist.special made.mode);
         behind = behind_does f.next f.long (at + f.words) to other made.behind;
       }

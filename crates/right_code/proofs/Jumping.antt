@@ -1,13 +1,12 @@
 -- Each jump and branch word of a layout is there.
-use Rattle.std.proofs.Common.{ℕ, zero, suc, ◌≡◌, ◌<◌, ◌+◌, min, unwrap_or, bit_and, bit_or, Bool, true, false, List, [], ◌∷◌, ◌++◌, length, Option, Some, slice_get, slice_index, refl, sym, ◌∙◌, ap, arith, subst}
+use Rattle.std.proofs.Common.{ℕ, zero, suc, ◌≡◌, ◌≤◌, ◌<◌, ◌+◌, min, unwrap_or, bit_and, bit_or, Bool, true, false, List, [], ◌∷◌, ◌++◌, length, Option, Some, slice_get, slice_index, refl, sym, ◌∙◌, ap, arith, subst}
 use Rattle.std.specs.Int.{bit_at}
 use Rattle.std.proofs.lemmas.Nat.Bits.{bit_at_and, bit_at_or}
 use Rattle.net_model.specs.declared.hardware.Netlist.{Netlist}
 use Rattle.net_model.specs.CheckedRules.{KeepsRules}
 use Rattle.net_model.specs.Fields.{fields, move_fields}
-use Rattle.net_model.specs.Nets.{word_width}
-use Rattle.net_model.specs.Patterns.{Pattern}
-use Rattle.net_model.specs.Terms.{Term, select}
+use Rattle.net_model.specs.Patterns.{IsPattern, IsWordOf, Pattern}
+use Rattle.net_model.specs.Terms.{Term, keep, select}
 use Rattle.form_model.specs.declared.flow.Flow.{Flow}
 use Rattle.form_model.specs.declared.forms.Step.{Step}
 use Rattle.form_model.specs.Covers.{IsOrderly, Stock}
@@ -16,11 +15,10 @@ use Rattle.form_model.specs.Plans.{Plan}
 use Rattle.form_model.specs.Rules.{Rule, tested}
 use Rattle.form_model.specs.Shapes.{shape_setting}
 use Rattle.form_model.specs.Steps.{branch_setting}
-use Rattle.form_set.specs.Listing.{AreForms}
+use Rattle.form_set.specs.Listing.{greatest_reach}
 use Rattle.form_set.specs.Promises.{is_control_goal}
-use Rattle.form_set.specs.Words.{IsSetting}
-use Rattle.word_fit.specs.Fits.{FitsJump}
-use Rattle.block_words.proofs.Worded.{jump_has_word}
+use Rattle.form_set.specs.Words.{ForEachSetting, IsSetting}
+use Rattle.block_words.proofs.Worded.{jump_fits}
 use Rattle.branch_fix.specs.Inner.Flowing.{IsFlow}
 use Rattle.branch_fix.specs.Items.{behind, branch_step, groups, items_from, jump_form, jump_step, part_items}
 use Rattle.branch_fix.specs.Parts.{address, room, starts}
@@ -31,7 +29,6 @@ use Rattle.branch_fix.specs.declared.part.Part.{Part}
 use Rattle.branch_fix.specs.declared.part.Part.TheVariants.{Block, Inner, Test, Jump, End}
 use Rattle.right_code.specs.Forks.{plan_rule}
 use Rattle.right_code.specs.Inner.Forks.{IsBranchForm, one_side}
-use Rattle.right_code.specs.Inner.Known.{AreKnown}
 use Rattle.right_code.specs.Laid.{IsLayout}
 use Rattle.right_code.specs.Inner.Laid.{AreTurns}
 use Rattle.right_code.proofs.Coded.{there}
@@ -41,7 +38,10 @@ use Rattle.right_code.proofs.Masks.{shape_bits, within_mask}
 use Rattle.branch_fix.proofs.Addresses.{address_is}
 use Rattle.right_code.proofs.Layouts.{IsBranchStep, branch_step_is, goals, near, ways}
 use Rattle.right_code.proofs.Standing.{shown_some}
-use Rattle.right_code.proofs.Turns.{CanTurn, jump_can, turn_can}
+use Rattle.right_code.proofs.Turns.{first_jump}
+use Rattle.mode_set.specs.Words.{FitsTurn}
+use Rattle.code_model.specs.Words.{KeepsMode}
+use Rattle.net_model.specs.Transfers.{memory_move}
 use Rattle.right_code.proofs.Ways.{way_bits}
 
 -- ---- bits of a part of a mask
@@ -73,32 +73,61 @@ branch_fields false c x y s b p q = within_mask (bit_or s b) (bit_or (bit_or (fi
         let n = in_mask b (fields x) k q (omega (arith, u, z)) in
         omega (arith, bit_at_or s b k, m, n)
 
-module _ (netlist : Netlist) (order : List ℕ) (keeps : KeepsRules netlist order) (some : 0 < word_width netlist) (patterns : List Pattern) (known : AreKnown netlist patterns) (reach : ℕ) (stock : Stock)
-    (forms : AreForms netlist patterns stock.rules reach) (turns : AreTurns netlist patterns stock.rules reach) where
+-- the word is of the pattern's set, and keeps the data memory and the mode
+pub record TurnsWith (netlist : Netlist) (o : Option ℕ) (pattern : Pattern) (word : ℕ) : Type 0 where
+  pub given : IsWordOf netlist pattern word
+  pub memory : memory_move netlist word ≡ keep
+  pub mode : KeepsMode o netlist word
+
+-- the form's pattern has such a word for each setting
+pub record CanTurnWith (netlist : Netlist) (o : Option ℕ) (patterns : List Pattern) (rule : Rule) : Type 0 where
+  pub pattern : Pattern
+  pub at : slice_get patterns rule.pattern ≡ Some pattern
+  pub is : IsPattern netlist pattern
+  pub can : ForEachSetting (move_fields pattern.move) (TurnsWith netlist o pattern)
+
+-- each jump and branch form has
+abbrev pub AllTurn : Netlist → Option ℕ → List Pattern → List Rule → Type 0
+AllTurn netlist o patterns rules = (k : ℕ) (rule : Rule) → slice_get rules k ≡ Some rule → is_control_goal rule.goal ≡ true → CanTurnWith netlist o patterns rule
+
+module _ (netlist : Netlist) (order : List ℕ) (keeps : KeepsRules netlist order) (o : Option ℕ) (patterns : List Pattern) (reach : ℕ) (stock : Stock) (turning : AllTurn netlist o patterns stock.rules) (far : reach ≡ greatest_reach stock.rules)
+    (turns : AreTurns netlist patterns stock.rules reach) where
   -- a step has a word that does its jump
   abbrev pub HasWord : Step → Type 0
-  HasWord step = (word : ℕ) × FitsJump netlist word (operation_in netlist patterns step)
+  HasWord step = (word : ℕ) × FitsTurn netlist o word (operation_in netlist patterns step)
 
   same_pattern : (p q : Pattern) → Some p ≡ Some q → p ≡ q
   same_pattern p q e = cc
 
   -- a step of such a form with bits of its pattern
-  turn_word : (rule : Rule) (p : Pattern) (setting : ℕ) → CanTurn netlist order keeps some patterns known reach stock.rules forms rule → slice_get patterns rule.pattern ≡ Some p → IsSetting (move_fields p.move) setting
+  turn_word : (rule : Rule) (p : Pattern) (setting : ℕ) → CanTurnWith netlist o patterns rule → slice_get patterns rule.pattern ≡ Some p → IsSetting (move_fields p.move) setting
       → HasWord (record { pattern = rule.pattern; setting = setting })
   turn_word rule p setting can at within =
-      jump_has_word netlist patterns (record { pattern = rule.pattern; setting = setting })
-      (record {
-        of = record { pattern = can.pattern; at = can.at; is = can.is; setting = subst (λ (q : Pattern). IsSetting (move_fields q.move) setting) (same_pattern p can.pattern (sym at ∙ can.at)) within };
-        words = can.can;
-      })
+      let own : IsSetting (move_fields can.pattern.move) setting = subst (λ (q : Pattern). IsSetting (move_fields q.move) setting) (same_pattern p can.pattern (sym at ∙ can.at)) within in
+      let w = can.can setting own in (
+        w.0,
+        record {
+          fits = jump_fits netlist patterns (record { pattern = rule.pattern; setting = setting }) (record { pattern = can.pattern; at = can.at; is = can.is; setting = own }) w.0 w.2.given w.1 w.2.memory;
+          mode = w.2.mode;
+        },
+      )
+
+  same_rule : (a b : Rule) → Some a ≡ Some b → a ≡ b
+  same_rule a b e = cc
+
+  first_turns : 1 ≤ reach → CanTurnWith netlist o patterns turns.rule
+  first_turns l =
+      let f = first_jump stock.rules reach l far in
+      let same : turns.rule ≡ f.rule = same_rule turns.rule f.rule (sym turns.first ∙ f.first) in
+      turning f.place turns.rule (f.at ∙ ap Some (sym same)) (ap (λ (r : Rule). is_control_goal r.goal) same ∙ ap is_control_goal f.goal)
 
   -- a jump to an address below the reach
   jump_word : (to : ℕ) → to < reach → HasWord (jump_step (jump_form stock.rules reach) to)
   jump_word to lt =
       let bits : ℕ = unwrap_or (shape_setting turns.rule.value to) 0 in
       let shown : shape_setting turns.rule.value to ≡ Some bits = shown_some (shape_setting turns.rule.value to) (turns.shown to lt) in
-      subst (λ o. HasWord (jump_step o to)) (sym turns.first)
-      (turn_word turns.rule _ bits (jump_can netlist order keeps some patterns known reach stock.rules forms (omega (arith, lt)) turns.rule turns.first) turns.jump.is (shape_bits turns.rule.value to bits shown))
+      subst (λ p. HasWord (jump_step p to)) (sym turns.first)
+      (turn_word turns.rule _ bits (first_turns (omega (arith, lt))) turns.jump.is (shape_bits turns.rule.value to bits shown))
 
   -- ---- the words of items
 
@@ -162,7 +191,7 @@ module _ (netlist : Netlist) (order : List ℕ) (keeps : KeepsRules netlist orde
         let own : bit_and setting (fields form.condition) ≡ setting = subst (λ k. bit_and setting k ≡ setting) form.same_fields (setting_within stock asked.tree asked.plan asked.orderly) in
         let bits : bit_and s.bits (fields form.target) ≡ s.bits = way_bits netlist s.way form.target (address parts at + g.words) (address parts g.to) g.long s.bits form.goes s.shown in
         subst HasWord (sym s.step)
-        (turn_word rule _ (bit_or setting s.bits) (turn_can netlist order keeps some patterns known reach stock.rules forms g.form rule asked.form (ap is_control_goal s.goal)) form.is
+        (turn_word rule _ (bit_or setting s.bits) (turning g.form rule asked.form (ap is_control_goal s.goal)) form.is
         (branch_fields s.when_one form.condition form.target form.step setting s.bits own bits))
 
     part_have : ((at : ℕ) (g : Fork) → slice_get parts at ≡ Some (Test g) → IsAsked g) → (k : ℕ) (p : Part) → slice_get parts k ≡ Some p

@@ -10,11 +10,15 @@ pub mod Forked
 pub mod Inside
 pub mod Jobs
 pub mod Jumping
+pub mod Kept
 pub mod Known
 pub mod Layouts
 pub mod Listed
 pub mod Masks
 pub mod Meant
+pub mod ModeKept
+pub mod Made
+pub mod Given
 pub mod Narrow
 pub mod Once
 pub mod OneBound

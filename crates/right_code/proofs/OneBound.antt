@@ -5,13 +5,16 @@ use Rattle.code_model.specs.Places.{words_of}
 use Rattle.form_model.specs.Covers.{Choice, ChoiceBefore, IsChosen, Stock, job_cost, parts_cost}
 use Rattle.form_model.specs.Plans.{Plan, use_form, cost}
 use Rattle.form_model.specs.Rules.{Destination, Rule, into, cell, filed, stored, temporary, tested}
+use Rattle.form_set.specs.Listing.{greatest_reach}
+use Rattle.mode_set.specs.Costs.{CoversIn, IsPlanned, Planned, mode_cost}
+use Rattle.mode_set.specs.Keeping.{CanUse, Isas, IsUsable}
 use Rattle.src_trees.specs.Lowered.{Work}
 use Rattle.branch_fix.specs.Bounds.{program_bound}
 use Rattle.right_code.specs.Bounded.{HasBound}
-use Rattle.right_code.specs.Covered.{AllChosen, AreCosts, job_costs, numbered}
+use Rattle.right_code.specs.Covered.{AllPlanned, AreCosts, ArePlans, mode_stock, numbered, plan_costs}
 use Rattle.right_code.specs.Images.{IsMadeFor}
 use Rattle.right_code.specs.Tasks.{Task, task_stock, task_works}
-use Rattle.right_code.proofs.OneForms.{forms_of_one}
+use Rattle.right_code.proofs.OneForms.{all_one, rules_one}
 
 -- ---- a job has one cost
 
@@ -33,40 +36,73 @@ same_cost (stored address) p q e = e
 same_cost temporary p q e = e
 same_cost filed p q e = e
 
-pub costs_one : (stock : Stock) (jobs : List Work) (a b : List Choice) → AllChosen stock jobs a → AllChosen stock jobs b → job_costs jobs a ≡ job_costs jobs b
-costs_one stock [] [] [] h k = refl
-costs_one stock [] [] (d ∷ b) h k = absurd k
-costs_one stock [] (c ∷ a) b h k = absurd h
-costs_one stock (job ∷ jobs) [] b h k = absurd h
-costs_one stock (job ∷ jobs) (c ∷ a) [] h k = absurd k
-costs_one stock (job ∷ jobs) (c ∷ a) (d ∷ b) h k =
-    let l = least_cost stock job c d h.0 k.0 in
-    let m = least_cost stock job d c k.0 h.0 in
-    let one : job_cost job.destination c.plan ≡ job_cost job.destination d.plan = same_cost job.destination c.plan d.plan (omega (arith, l, m)) in
-    let rest = costs_one stock jobs a b h.1 k.1 in
-    (λ j. one j ∷ rest j)
+-- by the forms of one mode
+pub chosen_cost_one : (stock : Stock) (job : Work) (a b : Choice) → IsChosen stock job.destination job.trees a → IsChosen stock job.destination job.trees b → job_cost job.destination a.plan ≡ job_cost job.destination b.plan
+chosen_cost_one stock job a b h k =
+    let l = least_cost stock job a b h k in
+    let m = least_cost stock job b a k h in
+    same_cost job.destination a.plan b.plan (omega (arith, l, m))
+
+-- and over all modes
+module _ (stock : ℕ → Stock) (Usable : ℕ → Type 0) where
+  covers_in : (job : Work) (planned : Planned) → IsPlanned stock Usable job.destination job.trees planned → CoversIn stock Usable job.destination job.trees planned.mode planned.choice
+  covers_in job planned h = record { can = h.can; may = h.may; covers = h.chosen.covers }
+
+  abbrev own_cost : Work → Planned → ℕ
+  own_cost job planned = mode_cost planned.mode job.destination planned.choice.plan
+
+  no_less : (job : Work) (a b : Planned) → IsPlanned stock Usable job.destination job.trees a → IsPlanned stock Usable job.destination job.trees b → own_cost job a ≤ own_cost job b
+  no_less job a b h k = by (h.least b.mode b.choice (covers_in job b k))
+    where
+      by : (own_cost job a < own_cost job b) ⊎ ((own_cost job a ≡ own_cost job b) × (a.mode ≤ b.mode)) → own_cost job a ≤ own_cost job b
+      by (inl l) = omega (arith, l)
+      by (inr e) = let s = e.0 in omega (arith, s)
+
+  pub costs_one : (jobs : List Work) (a b : List Planned) → AllPlanned stock Usable jobs a → AllPlanned stock Usable jobs b → plan_costs jobs a ≡ plan_costs jobs b
+  costs_one [] [] [] h k = refl
+  costs_one [] [] (d ∷ b) h k = absurd k
+  costs_one [] (c ∷ a) b h k = absurd h
+  costs_one (job ∷ jobs) [] b h k = absurd h
+  costs_one (job ∷ jobs) (c ∷ a) [] h k = absurd k
+  costs_one (job ∷ jobs) (c ∷ a) (d ∷ b) h k =
+      let l = no_less job c d h.0 k.0 in
+      let m = no_less job d c k.0 h.0 in
+      let one : own_cost job c ≡ own_cost job d = omega (arith, l, m) in
+      let rest = costs_one jobs a b h.1 k.1 in
+      (λ j. one j ∷ rest j)
 
 -- ---- a task has one bound
 
+stock_one : (task : Task) (a b : Isas task.netlist) → mode_stock task a ≡ mode_stock task b
+stock_one task a b = λ j v. task_stock (rules_one task.netlist a b v j) task
+
+-- what holds of plans for one family of instruction sets holds for each
+pub plans_alike : (task : Task) (a b : Isas task.netlist) (P : (ℕ → Stock) → (ℕ → Type 0) → Type 0) → P (mode_stock task a) (IsUsable task.netlist a) → P (mode_stock task b) (IsUsable task.netlist b)
+plans_alike task a b P h =
+    subst (λ (all : ℕ → List Rule). P (mode_stock task b) (CanUse task.netlist all)) (all_one task.netlist a b)
+    (subst (λ (stock : ℕ → Stock). P stock (IsUsable task.netlist a)) (stock_one task a b) h)
+
 -- a task has one list of costs
+pub task_plan_costs_one : (task : Task) (a b : Isas task.netlist) (plans others : List Planned) → ArePlans task a plans → ArePlans task b others → plan_costs (task_works task) plans ≡ plan_costs (task_works task) others
+task_plan_costs_one task a b plans others p q =
+    costs_one (mode_stock task b) (IsUsable task.netlist b) (task_works task) plans others (plans_alike task a b (λ stock Usable. AllPlanned stock Usable (task_works task) plans) p) q
+
 pub task_costs_one : (task : Task) (costs others : List (ℕ × ℕ)) → AreCosts task costs → AreCosts task others → costs ≡ others
 task_costs_one task costs others a b =
-    let same = forms_of_one task.netlist a.rules b.rules a.reach b.reach a.forms b.forms in
-    let chosen = subst (λ (rules : List Rule). AllChosen (task_stock rules task) (task_works task) a.choices) same.0 a.chosen in
-    a.are ∙ ap (numbered 0) (costs_one (task_stock b.rules task) (task_works task) a.choices b.choices chosen b.chosen) ∙ sym b.are
+    a.are ∙ ap (numbered 0) (task_plan_costs_one task a.isas b.isas a.plans b.plans a.planned b.planned) ∙ sym b.are
 
 pub bound_one : (task : Task) (a b c d : ℕ) → HasBound task a b → HasBound task c d → (a ≡ c) × (b ≡ d)
-bound_one task a b c d p q =
-    let same = forms_of_one task.netlist p.rules q.rules b d p.forms q.forms in
-    let chosen = subst (λ (rules : List Rule). AllChosen (task_stock rules task) (task_works task) p.choices) same.0 p.chosen in
-    (p.is ∙ ap (program_bound task.listing) (costs_one (task_stock q.rules task) (task_works task) p.choices q.choices chosen q.chosen) ∙ sym q.is, same.1)
+bound_one task a b c d p q = (
+  p.is ∙ ap (program_bound task.listing) (task_plan_costs_one task p.isas q.isas p.plans q.plans p.planned q.planned) ∙ sym q.is,
+  p.far ∙ ap greatest_reach (rules_one task.netlist p.isas q.isas 0) ∙ sym q.far,
+)
 
 -- where the bound is within the reach, so are the words of an image
-pub made_reached : (task : Task) (image : Image) (made : IsMadeFor task image) (bound reach : ℕ) → HasBound task bound reach → bound ≤ reach → length (words_of image) ≤ made.reach
+pub made_reached : (task : Task) (image : Image) (made : IsMadeFor task image) (bound reach : ℕ) → HasBound task bound reach → bound ≤ reach → length (words_of image) ≤ greatest_reach (made.isas 0).rules
 made_reached task image made bound reach has within =
-    let own : HasBound task (program_bound task.listing (job_costs (task_works task) made.choices)) made.reach =
-    record { rules = made.rules; forms = record { patterns = made.patterns; are = made.are; forms = made.forms }; choices = made.choices; chosen = made.chosen; is = refl } in
-    let same = bound_one task bound reach _ made.reach has own in
+    let own : HasBound task (program_bound task.listing (plan_costs (task_works task) made.plans)) (greatest_reach (made.isas 0).rules) =
+    record { isas = made.isas; plans = made.plans; planned = made.planned; is = refl; far = refl } in
+    let same = bound_one task bound reach _ _ has own in
     let a = same.0 in
     let b = same.1 in
     let m = made.most in

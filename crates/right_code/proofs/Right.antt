@@ -1,67 +1,75 @@
 -- An image that is made for a task traces its program.
-use Rattle.std.proofs.Common.{◌≡◌, zero, suc, [], ◌∷◌, Some, slice_get, true, ℕ, ◌≤◌, ◌<◌, List, length, slice_index, refl, ◌∙◌, ap, arith, subst}
-use Rattle.net_model.specs.declared.hardware.Space.TheVariants.{Memory as InMemory, File as InFile}
-use Rattle.net_model.specs.CheckedRules.{code_size, memory_addr_width}
-use Rattle.net_model.specs.Nets.{file_place, size_in, word_width}
-use Rattle.net_model.specs.Patterns.{ArePatterns, Pattern}
+use Rattle.std.proofs.lemmas.Bool.{ltb-true}
+use Rattle.net_model.specs.Nets.{storage_bits, memory_size, memory_width, size_in}
+use Rattle.std.proofs.Common.{◌≡◌, zero, suc, [], ◌∷◌, Option, Some, None, slice_get, nat_lt, if◌then◌else◌, Bool, true, false, ℕ, ◌≤◌, ◌<◌, ◌^◌, List, length, slice_index, refl, sym, ◌∙◌, ap, arith, subst}
+use Rattle.net_model.specs.declared.hardware.Space.TheVariants.{File as InFile}
+use Rattle.net_model.specs.declared.hardware.Storage.{Storage}
+use Rattle.net_model.specs.CheckedRules.{code_size, memory_addr_width, IsMode}
 use Rattle.net_model.specs.Widths.{WordFits}
-use Rattle.net_model.proofs.WordWidths.{has_bits}
 use Rattle.src_model.specs.Written.{acts_of}
 use Rattle.src_model.specs.Rules.{temp_count}
 use Rattle.src_model.specs.Trace.{strace}
 use Rattle.code_model.specs.declared.image.Image.{Image}
-use Rattle.code_model.specs.Layout.{variables_of}
-use Rattle.code_model.specs.Places.{places_from, words_of}
+use Rattle.code_model.specs.Layout.{need_of}
+use Rattle.code_model.specs.Places.{words_of}
 use Rattle.code_model.specs.Right.{TracesRight}
+use Rattle.form_model.specs.Covers.{Choice, IsChosen}
 use Rattle.form_model.specs.Rules.{Rule, tested}
-use Rattle.form_set.specs.Listing.{AreForms}
-use Rattle.emit_seq.specs.ReadWords.{AllReadWords}
-use Rattle.emit_seq.specs.Formed.{AreFormed}
+use Rattle.form_model.specs.declared.forms.Step.{Step}
+use Rattle.form_model.specs.Live.{Regs, no_regs, singles}
+use Rattle.form_model.specs.Steps.{branch_setting}
+use Rattle.block_words.specs.Laws.{operation_in}
+use Rattle.emit_seq.specs.Spares.{wanted}
+use Rattle.word_fit.specs.Fits.{fits_over}
+use Rattle.word_fit.specs.Groups.{AllHaveWords}
+use Rattle.net_model.proofs.WordWidths.{has_bits}
+use Rattle.form_set.specs.Listing.{greatest_reach}
+use Rattle.net_model.proofs.Bases.{base_of}
+use Rattle.mode_set.specs.Costs.{Planned}
+use Rattle.mode_set.specs.Keeping.{IsModeRegister, Isas, held}
+use Rattle.net_model.specs.Fixed.{mode_count}
+use Rattle.net_model.specs.ModeRules.{KeepsInOrder, base_at, modes_in}
+use Rattle.src_trees.specs.Blocks.{jobs_at}
 use Rattle.src_trees.specs.Flows.{places_in, program_flow}
+use Rattle.src_trees.specs.Lowered.{Work}
 use Rattle.src_trees.specs.Measures.{AllSmall, IsSmall}
 use Rattle.src_trees.specs.Seen.{InReach}
 use Rattle.src_trees.proofs.Measured.{program_small}
 use Rattle.branch_fix.specs.Inner.Flowing.{IsFlow}
+use Rattle.branch_fix.specs.Items.{items_from, jump_form}
 use Rattle.branch_fix.specs.Parts.{PartsFit, address, starts, total}
+use Rattle.branch_fix.specs.declared.laid.Item.TheVariants.{Jump}
+use Rattle.branch_fix.specs.declared.part.Fork.{Fork}
+use Rattle.branch_fix.specs.declared.part.Part.TheVariants.{Test}
+use Rattle.branch_fix.specs.declared.part.Part.{Part}
 use Rattle.branch_fix.proofs.Addresses.{fit_length}
 use Rattle.branch_fix.proofs.Laying.{settled_fit}
 use Rattle.branch_fix.proofs.Shapes.{program_is_flow}
-use Rattle.right_code.specs.Images.{IsBranchOf, IsMadeFor, IsRightImage, choices_at}
-use Rattle.form_model.specs.declared.forms.Step.{Step}
-use Rattle.form_model.specs.Covers.{Choice, IsChosen}
-use Rattle.block_words.specs.Laws.{operation_in}
-use Rattle.form_model.specs.Live.{Regs, regs_of, singles}
-use Rattle.form_model.specs.Steps.{branch_setting}
-use Rattle.emit_seq.specs.Spares.{wanted}
-use Rattle.src_trees.specs.Blocks.{jobs_at}
-use Rattle.src_trees.specs.Lowered.{Work}
-use Rattle.word_fit.specs.Fits.{FitsJump, fits_over}
-use Rattle.word_fit.specs.Groups.{AllHaveWords}
-use Rattle.branch_fix.specs.Items.{items_from, jump_form}
-use Rattle.branch_fix.specs.declared.laid.Item.TheVariants.{Jump}
-use Rattle.branch_fix.specs.declared.part.Fork.{Fork}
-use Rattle.branch_fix.specs.declared.part.Part.{Part}
-use Rattle.branch_fix.specs.declared.part.Part.TheVariants.{Test}
 use Rattle.right_code.specs.Bounded.{HasBound}
-use Rattle.right_code.specs.Covered.{AllChosen}
+use Rattle.right_code.specs.Covered.{ArePlans, mode_stock}
+use Rattle.right_code.specs.Cuts.{Cut, cuts_of, plan_choices, plans_at, with_mode}
 use Rattle.right_code.specs.Inner.Forks.{test_of}
-use Rattle.right_code.specs.Jobs.{IsCovered, job_steps, jobs_steps, tree_or_none, tree_used}
-use Rattle.right_code.specs.Inner.Known.{AreKnown}
+use Rattle.right_code.specs.Inner.Jobs.{AreCovered}
 use Rattle.right_code.specs.Laid.{IsLayout}
-use Rattle.right_code.specs.Inner.Laid.{AreTurns}
-use Rattle.right_code.specs.Tasks.{IsChecked, Task, task_memory, task_stock, task_works}
-use Rattle.right_code.proofs.Chosen.{as_test, choice_there, covered_block, covered_test, in_reach, made_laid}
+use Rattle.mode_set.specs.Words.{FitsTurn}
+use Rattle.right_code.specs.Images.{IsBranchOf, IsMadeFor, IsRightImage}
+use Rattle.right_code.specs.Inner.Blocks.{IsKit}
+use Rattle.right_code.specs.Inner.Laid.{AreTurns, IsLaidCode}
+use Rattle.right_code.specs.Jobs.{IsCovered, job_steps, jobs_steps, tree_or_none, tree_used}
+use Rattle.right_code.specs.Tasks.{IsChecked, Task, task_memory, task_works}
+use Rattle.right_code.proofs.Chosen.{AllMode, CutsCovered, as_test, block_covered, cuts_covered, in_reach, own_net, run_covered, test_plan}
 use Rattle.right_code.proofs.Covered.{covered_of}
+use Rattle.right_code.proofs.Fitting.{code_fits, word_in}
+use Rattle.right_code.proofs.Given.{given_forms, given_turns, given_words}
 use Rattle.right_code.proofs.Inside.{program_upto}
-use Rattle.right_code.proofs.Jumping.{IsAsked, layout_words}
-use Rattle.right_code.proofs.Worded.{block_words, test_words}
-use Rattle.right_code.proofs.Fitting.{code_fits, laid_traces}
+use Rattle.right_code.proofs.Jumping.{AllTurn, IsAsked, layout_words}
+use Rattle.right_code.proofs.Kept.{forms_keep, part_of}
 use Rattle.right_code.proofs.Known.{known_of}
-use Rattle.right_code.proofs.OneBound.{made_reached}
-use Rattle.right_code.proofs.Listed.{all_read, are_formed}
+use Rattle.right_code.proofs.Worded.{block_words, test_words}
 use Rattle.right_code.proofs.Layouts.{within_code}
+use Rattle.right_code.proofs.Made.{FormsGive, has_in, is_kit, kit_in, machine, made_laid, made_traces}
+use Rattle.right_code.proofs.OneBound.{made_reached}
 use Rattle.right_code.proofs.Tasks.{AllOne, IsTestWork, program_tests, test_work_of, works_one}
-use Rattle.right_code.proofs.Turns.{are_turns}
 
 -- a job of small jobs is small
 small_at : (bits temps most : ℕ) (works : List Work) (k : ℕ) (job : Work) → AllSmall bits temps most works → slice_get works k ≡ Some job → IsSmall bits temps most job
@@ -72,10 +80,51 @@ small_at bits temps most (w ∷ works) zero job h e = subst (IsSmall bits temps 
     same x y e = cc
 small_at bits temps most (w ∷ works) (suc k) job h e = small_at bits temps most works k job h.1 e
 
-module _ (order : List ℕ) (task : Task) (checked : IsChecked order task) where
+some_pow : (n : ℕ) → 0 < 2 ^ n
+some_pow zero = omega arith
+some_pow (suc n) = let h = some_pow n in omega (arith, h)
+
+module _ (task : Task) (checked : IsChecked task) where
+  -- a number that stands for a mode is one
+  held_within : (v : ℕ) → held task.netlist v < modes_in task.netlist
+  held_within v = by_number v (some_modes task.netlist.special)
+    where
+      some_modes : (o : Option ℕ) → 0 < mode_count o task.netlist
+      some_modes None = omega arith
+      some_modes (Some mode) = some_pow (storage_bits (slice_get task.netlist.storages mode))
+
+      by_number : (v : ℕ) → 0 < modes_in task.netlist → held task.netlist v < modes_in task.netlist
+      by_number zero some = some
+      by_number (suc v) some = by_bool (nat_lt (suc v) (modes_in task.netlist)) refl
+        where
+          by_bool : (b : Bool) → nat_lt (suc v) (modes_in task.netlist) ≡ b → (if b then suc v else 0) < modes_in task.netlist
+          by_bool true e = ltb-true (suc v) (modes_in task.netlist) e
+          by_bool false e = some
+
+  keeps : (v : ℕ) → KeepsInOrder (base_at task.netlist (held task.netlist v))
+  keeps v = checked.netlist.each (held task.netlist v) (held_within v)
+
+  register : IsModeRegister task.netlist.special task.netlist
+  register = of_mode task.netlist.special checked.netlist.special
+    where
+      of_mode : (o : Option ℕ) → IsMode task.netlist o → IsModeRegister o task.netlist
+      of_mode None h = tt
+      of_mode (Some mode) h = h.0
+
+  -- ---- what the netlist is in a mode has its storages and codes
+
+  same_storages : (v : ℕ) → (base_at task.netlist (held task.netlist v)).storages ≡ task.netlist.storages
+  same_storages v = (base_of task.netlist task.netlist.special (held task.netlist v)).storages
+
+  same_codes : (v : ℕ) → (base_at task.netlist (held task.netlist v)).codes ≡ task.netlist.codes
+  same_codes v = (base_of task.netlist task.netlist.special (held task.netlist v)).codes
+
   -- the variables are in reach of addresses, and the trees are small
   pub near : InReach task.width (memory_addr_width task.netlist.storages) (temp_count task.width task.listing) task.listing.vars
-  near = in_reach task.netlist order checked.netlist task.width task.listing checked.words checked.cells
+  near =
+      let e = same_storages 0 in
+      subst (λ (list : List Storage). InReach task.width (memory_addr_width list) (temp_count task.width task.listing) task.listing.vars) e
+      (in_reach (base_at task.netlist 0) (keeps 0).order (keeps 0).rules task.width task.listing (ap memory_width e ∙ checked.words) (subst (λ (list : List Storage). need_of task.width task.listing ≤ memory_size list) (sym e) checked.cells))
 
   pub small : AllSmall task.width (temp_count task.width task.listing) 510 (task_works task)
   small = program_small task.width (memory_addr_width task.netlist.storages) (temp_count task.width task.listing) task.listing checked.program near
@@ -91,102 +140,152 @@ module _ (order : List ℕ) (task : Task) (checked : IsChecked order task) where
 
   -- ---- the forms
 
-  some : 0 < word_width task.netlist
-  some = has_bits task.netlist order checked.netlist
+  module _ (isas : Isas task.netlist) where
+    pub give : (v : ℕ) → FormsGive (own_net task isas v) (isas v).patterns task.width (size_in InFile task.netlist.storages) (isas v).rules
+    give v =
+        let e = same_storages v in
+        subst (λ n. FormsGive (own_net task isas v) (isas v).patterns task.width n (isas v).rules) (ap (size_in InFile) e)
+        (subst (λ n. FormsGive (own_net task isas v) (isas v).patterns n (size_in InFile (own_net task isas v).storages) (isas v).rules) (ap memory_width e ∙ checked.words)
+        (given_forms (own_net task isas v) (keeps v).order (keeps v).rules (isas v).patterns (isas v).are (isas v).all (isas v).most (isas v).forms task.netlist.special (isas v).rules (isas v).kept))
 
-  module _ (patterns : List Pattern) (are : ArePatterns task.netlist patterns) (rules : List Rule) (reach : ℕ) (forms : AreForms task.netlist patterns rules reach) where
-    pub known : AreKnown task.netlist patterns
-    known = known_of task.netlist order checked.netlist patterns are
+    pub turns : 1 ≤ greatest_reach (isas 0).rules → AreTurns (base_at task.netlist 0) (isas 0).patterns (isas 0).rules (greatest_reach (isas 0).rules)
+    turns some =
+        given_turns (base_at task.netlist 0) (keeps 0).order (keeps 0).rules (isas 0).patterns (isas 0).are (isas 0).all (isas 0).most (isas 0).forms task.netlist.special (isas 0).rules (isas 0).kept some
 
-    pub formed : AreFormed (file_place task.netlist.storages) patterns (length task.netlist.storages) (size_in InFile task.netlist.storages) rules
-    formed = are_formed task.netlist order checked.netlist some patterns known reach rules forms.list
+    pub job_covered : (v number : ℕ) (job : Work) → slice_get (task_works task) number ≡ Some job → (choice : Choice) → IsChosen (mode_stock task isas v) job.destination job.trees choice → IsCovered (mode_stock task isas v) job choice
+    job_covered v number job at choice c = covered_of task.width (mode_stock task isas v) (give v).reads 510 job choice (small_at task.width (temp_count task.width task.listing) 510 (task_works task) number job small at) c
 
-    pub reads : AllReadWords task.width rules
-    reads = subst (λ n. AllReadWords n rules) checked.words (all_read task.netlist order checked.netlist some patterns known reach rules forms.list)
+    -- ---- words of steps
 
-    -- a layout has words
-    some_reach : (parts : List Part) → IsLayout rules (program_flow task.listing) parts reach → 1 ≤ reach
-    some_reach parts layout =
-        let fits : PartsFit rules (program_flow task.listing) 0 (program_flow task.listing) parts = settled_fit rules (program_flow task.listing) layout.sizes layout.settings parts layout.settled in
-        let a = some_total rules parts fits in
-        let r = layout.reached in
-        omega (arith, a, r)
+    sized : (v : ℕ) → size_in InFile task.netlist.storages ≡ size_in InFile (own_net task isas v).storages
+    sized v = ap (size_in InFile) (sym (same_storages v))
 
-    pub turns : 1 ≤ reach → AreTurns task.netlist patterns rules reach
-    turns = are_turns task.netlist order checked.netlist some patterns known reach rules forms
+    register_in : (v : ℕ) → IsModeRegister task.netlist.special (own_net task isas v)
+    register_in v = has_in task.netlist.special task.netlist (own_net task isas v) (sym (same_storages v)) register
 
-    -- ---- the covers
+    one : AllOne (task_works task)
+    one = works_one (task_memory task) (acts_of task.listing.body)
 
-    pub job_covered : (number : ℕ) (job : Work) → slice_get (task_works task) number ≡ Some job → (choice : Choice) → IsChosen (task_stock rules task) job.destination job.trees choice → IsCovered (task_stock rules task) job choice
-    job_covered number job at choice c = covered_of task.width (task_stock rules task) reads 510 job choice (small_at task.width (temp_count task.width task.listing) 510 (task_works task) number job small at) c
+    covers_at : (cuts : List Cut) (k : ℕ) (x : Cut) → CutsCovered task isas cuts → slice_get cuts k ≡ Some x → AreCovered (mode_stock task isas x.mode) x.jobs x.choices
+    covers_at [] k x c e = absurd (cc e)
+    covers_at (y ∷ cuts) zero x c e = subst (λ (z : Cut). AreCovered (mode_stock task isas z.mode) z.jobs z.choices) (same y x e) c.0
+      where
+        same : (a b : Cut) → Some a ≡ Some b → a ≡ b
+        same a b e = cc
+    covers_at (y ∷ cuts) (suc k) x c e = covers_at cuts k x c.1 e
 
-    module _ (choices : List Choice) (chosen : AllChosen (task_stock rules task) (task_works task) choices) where
-      one : AllOne (task_works task)
-      one = works_one (task_memory task) (acts_of task.listing.body)
+    -- the steps of covers by the forms of a mode have words
+    steps_words : (v : ℕ) (jobs : List Work) (choices : List Choice) (live : Regs) → AreCovered (mode_stock task isas v) jobs choices → ((r : ℕ) → live r ≡ true → with_mode task.netlist.special no_regs r ≡ true)
+        → AllHaveWords (operation_in (own_net task isas v) (isas v).patterns) (fits_over (own_net task isas v) (operation_in (own_net task isas v) (isas v).patterns)) (singles (jobs_steps (mode_stock task isas v) jobs choices)) live
+    steps_words v jobs choices live c f =
+        block_words (own_net task isas v) (keeps v).order (keeps v).rules (has_bits (own_net task isas v) (keeps v).order (keeps v).rules) (isas v).patterns (known_of (own_net task isas v) (keeps v).order (keeps v).rules (isas v).patterns (isas v).are) (isas v).most (isas v).all (isas v).forms.list
+        (mode_stock task isas v) (sized v) (part_of (own_net task isas v) (isas v).patterns task.netlist.special (isas v).all (isas v).rules (isas v).kept) task.netlist.special
+        (forms_keep (own_net task isas v) (isas v).patterns task.netlist.special (isas v).all (isas v).rules (isas v).kept) jobs choices live c f
 
-      -- each step of a block has a word
-      pub block_words_of : (at n : ℕ) → AllHaveWords (operation_in task.netlist patterns) (fits_over task.netlist (operation_in task.netlist patterns))
-          (singles (jobs_steps (task_stock rules task) (jobs_at (program_flow task.listing) (task_works task) at n) (choices_at (program_flow task.listing) choices at n))) (regs_of 0)
-      block_words_of at n =
-          block_words task.netlist order checked.netlist some patterns known reach (task_stock rules task) refl forms.list (jobs_at (program_flow task.listing) (task_works task) at n) (choices_at (program_flow task.listing) choices at n)
-          (covered_block task.width (task_stock rules task) reads 510 (task_works task) choices small one chosen (program_flow task.listing) at n)
+    module _ (plans : List Planned) (planned : ArePlans task isas plans) where
+      pub cut_words_of : (at n k : ℕ) (x : Cut) → slice_get (cuts_of (jobs_at (program_flow task.listing) (task_works task) at n) (plans_at (program_flow task.listing) plans at n)) k ≡ Some x
+          → (live : Regs) → ((r : ℕ) → live r ≡ true → with_mode task.netlist.special no_regs r ≡ true)
+          → AllHaveWords (operation_in (own_net task isas x.mode) (isas x.mode).patterns) (fits_over (own_net task isas x.mode) (operation_in (own_net task isas x.mode) (isas x.mode).patterns)) (singles (jobs_steps (mode_stock task isas x.mode) x.jobs x.choices)) live
+      cut_words_of at n k x e live less =
+          steps_words x.mode x.jobs x.choices live
+          (covers_at (cuts_of (jobs_at (program_flow task.listing) (task_works task) at n) (plans_at (program_flow task.listing) plans at n)) k x
+          (cuts_covered task isas (jobs_at (program_flow task.listing) (task_works task) at n) (plans_at (program_flow task.listing) plans at n)
+          (block_covered task isas (λ v. (give v).reads) 510 small one plans planned (program_flow task.listing) at n)) e) less
+
+      -- and each step of neighbouring jobs whose plans are of one mode
+      pub run_words_of : (v at n : ℕ) → AllMode v (plans_at (program_flow task.listing) plans at n) → (live : Regs) → ((r : ℕ) → live r ≡ true → with_mode task.netlist.special no_regs r ≡ true)
+          → AllHaveWords (operation_in (own_net task isas v) (isas v).patterns) (fits_over (own_net task isas v) (operation_in (own_net task isas v) (isas v).patterns))
+          (singles (jobs_steps (mode_stock task isas v) (jobs_at (program_flow task.listing) (task_works task) at n) (plan_choices (plans_at (program_flow task.listing) plans at n)))) live
+      run_words_of v at n all live less =
+          steps_words v (jobs_at (program_flow task.listing) (task_works task) at n) (plan_choices (plans_at (program_flow task.listing) plans at n)) live
+          (run_covered task isas v (jobs_at (program_flow task.listing) (task_works task) at n) (plans_at (program_flow task.listing) plans at n) all
+          (block_covered task isas (λ v. (give v).reads) 510 small one plans planned (program_flow task.listing) at n)) less
+
+      test_covered : (number : ℕ) (job : Work) (own : Planned) → slice_get (task_works task) number ≡ Some job → slice_get plans number ≡ Some own → job.destination ≡ tested → IsCovered (mode_stock task isas 0) (test_of job) own.choice
+      test_covered number job own at there e =
+          let d = test_plan task isas (λ v. (give v).reads) 510 small one plans planned (task_works task) plans number job small planned at e in
+          let same : d.0 ≡ own = one_plan d.0 own (sym d.1 ∙ there) in
+          subst (λ (x : Work). IsCovered (mode_stock task isas 0) x own.choice) (sym (as_test job e)) (subst (λ (p : Planned). IsCovered (mode_stock task isas 0) job p.choice) same d.2)
+        where
+          one_plan : (a b : Planned) → Some a ≡ Some b → a ≡ b
+          one_plan a b e = cc
 
       -- and each step of a test
-      pub test_words_of : (number : ℕ) (job : Work) (choice : Choice) → slice_get (task_works task) number ≡ Some job → slice_get choices number ≡ Some choice → job.destination ≡ tested
-          → (live : Regs) → ((r : ℕ) → live r ≡ true → wanted (task_stock rules task) tested (tree_used job choice) choice.plan r ≡ true)
-          → AllHaveWords (operation_in task.netlist patterns) (fits_over task.netlist (operation_in task.netlist patterns)) (singles (job_steps (task_stock rules task) job choice)) live
-      test_words_of number job choice at there e live less =
-          subst (λ (x : Work). AllHaveWords (operation_in task.netlist patterns) (fits_over task.netlist (operation_in task.netlist patterns)) (singles (job_steps (task_stock rules task) x choice)) live) (as_test job e)
-          (test_words task.netlist order checked.netlist some patterns known reach (task_stock rules task) refl forms.list job choice live
-          (covered_test task.width (task_stock rules task) reads 510 (task_works task) choices small one chosen number job choice at there e) less)
+      pub test_words_of : (number : ℕ) (job : Work) (own : Planned) → slice_get (task_works task) number ≡ Some job → slice_get plans number ≡ Some own → job.destination ≡ tested
+          → (live : Regs) → ((r : ℕ) → live r ≡ true → with_mode task.netlist.special (wanted (mode_stock task isas 0) tested (tree_used job own.choice) own.choice.plan) r ≡ true)
+          → AllHaveWords (operation_in (own_net task isas 0) (isas 0).patterns) (fits_over (own_net task isas 0) (operation_in (own_net task isas 0) (isas 0).patterns)) (singles (job_steps (mode_stock task isas 0) job own.choice)) live
+      test_words_of number job own at there e live less =
+          subst (λ (x : Work). AllHaveWords (operation_in (own_net task isas 0) (isas 0).patterns) (fits_over (own_net task isas 0) (operation_in (own_net task isas 0) (isas 0).patterns)) (singles (job_steps (mode_stock task isas 0) x own.choice)) live) (as_test job e)
+          (test_words (own_net task isas 0) (keeps 0).order (keeps 0).rules (has_bits (own_net task isas 0) (keeps 0).order (keeps 0).rules) (isas 0).patterns (known_of (own_net task isas 0) (keeps 0).order (keeps 0).rules (isas 0).patterns (isas 0).are) (isas 0).most (isas 0).all (isas 0).forms.list
+          (mode_stock task isas 0) (sized 0) (part_of (own_net task isas 0) (isas 0).patterns task.netlist.special (isas 0).all (isas 0).rules (isas 0).kept) task.netlist.special
+          (forms_keep (own_net task isas 0) (isas 0).patterns task.netlist.special (isas 0).all (isas 0).rules (isas 0).kept) job own.choice live (test_covered number job own at there e) less)
 
       -- and each jump and branch of a layout
-      pub jump_words_of : (parts : List Part) → IsLayout rules (program_flow task.listing) parts reach
-          → ((at : ℕ) (f : Fork) → slice_get parts at ≡ Some (Test f) → (job : Work) → slice_get (task_works task) f.tree ≡ Some job → (choice : Choice) → slice_get choices f.tree ≡ Some choice → IsBranchOf (task_stock rules task) job choice f)
-          → (k : ℕ) (step : Step) → slice_get (items_from rules (jump_form rules reach) (starts parts) 0 parts) k ≡ Some (Jump step) → (word : ℕ) × FitsJump task.netlist word (operation_in task.netlist patterns step)
+      some_reach : (parts : List Part) → IsLayout (isas 0).rules (program_flow task.listing) parts (greatest_reach (isas 0).rules) → 1 ≤ greatest_reach (isas 0).rules
+      some_reach parts layout =
+          let fits : PartsFit (isas 0).rules (program_flow task.listing) 0 (program_flow task.listing) parts = settled_fit (isas 0).rules (program_flow task.listing) layout.sizes layout.settings parts layout.settled in
+          let a = some_total (isas 0).rules parts fits in
+          let r = layout.reached in
+          omega (arith, a, r)
+
+      pub jump_words_of : (parts : List Part) → IsLayout (isas 0).rules (program_flow task.listing) parts (greatest_reach (isas 0).rules)
+          → ((at : ℕ) (f : Fork) → slice_get parts at ≡ Some (Test f) → (job : Work) → slice_get (task_works task) f.tree ≡ Some job → (own : Planned) → slice_get plans f.tree ≡ Some own → IsBranchOf (mode_stock task isas 0) job own.choice f)
+          → (k : ℕ) (step : Step) → slice_get (items_from (isas 0).rules (jump_form (isas 0).rules (greatest_reach (isas 0).rules)) (starts parts) 0 parts) k ≡ Some (Jump step)
+          → (word : ℕ) × FitsTurn (own_net task isas 0) task.netlist.special word (operation_in (own_net task isas 0) (isas 0).patterns step)
       jump_words_of parts layout branch k step e =
-          layout_words task.netlist order checked.netlist some patterns known reach (task_stock rules task) forms (turns (some_reach parts layout)) (program_flow task.listing) parts (places_in (acts_of task.listing.body))
+          layout_words (own_net task isas 0) (keeps 0).order (keeps 0).rules task.netlist.special (isas 0).patterns (greatest_reach (isas 0).rules) (mode_stock task isas 0) turning refl (turns (some_reach parts layout)) (program_flow task.listing) parts (places_in (acts_of task.listing.body))
           (program_is_flow task.listing) (program_upto task.listing) layout asked k step e
         where
-          fits : PartsFit rules (program_flow task.listing) 0 (program_flow task.listing) parts
-          fits = settled_fit rules (program_flow task.listing) layout.sizes layout.settings parts layout.settled
+          turning : AllTurn (own_net task isas 0) task.netlist.special (isas 0).patterns (isas 0).rules
+          turning = given_words (own_net task isas 0) (keeps 0).order (keeps 0).rules (isas 0).patterns (isas 0).are (isas 0).all (isas 0).most (isas 0).forms task.netlist.special (isas 0).rules (isas 0).kept (register_in 0)
+
+          fits : PartsFit (isas 0).rules (program_flow task.listing) 0 (program_flow task.listing) parts
+          fits = settled_fit (isas 0).rules (program_flow task.listing) layout.sizes layout.settings parts layout.settled
 
           asked : (at : ℕ) (f : Fork) → slice_get parts at ≡ Some (Test f)
-              → IsAsked task.netlist order checked.netlist some patterns known reach (task_stock rules task) forms (turns (some_reach parts layout)) (program_flow task.listing) parts (places_in (acts_of task.listing.body)) (program_is_flow task.listing) (program_upto task.listing) layout f
+              → IsAsked (own_net task isas 0) (keeps 0).order (keeps 0).rules task.netlist.special (isas 0).patterns (greatest_reach (isas 0).rules) (mode_stock task isas 0) turning refl (turns (some_reach parts layout)) (program_flow task.listing) parts (places_in (acts_of task.listing.body)) (program_is_flow task.listing) (program_upto task.listing) layout f
           asked at f e =
-              let t : IsTestWork (task_works task) f.tree = test_work_of (task_works task) rules (program_flow task.listing) parts at f fits (program_tests (task_memory task) task.listing) e in
-              let d = choice_there task.width (task_stock rules task) reads (task_works task) choices f.tree t.work chosen t.at in
-              let c : IsCovered (task_stock rules task) (test_of t.work) d.0 = covered_test task.width (task_stock rules task) reads 510 (task_works task) choices small one chosen f.tree t.work d.0 t.at d.1 t.destination in
-              let b : IsBranchOf (task_stock rules task) t.work d.0 f = branch at f e t.work t.at d.0 d.1 in
-              let is : tree_used t.work d.0 ≡ c.covers.tree = ap tree_or_none c.covers.used in
-              record { tree = c.covers.tree; plan = d.0.plan; orderly = c.covers.orderly; form = b.form; setting = b.setting ∙ ap (λ x. branch_setting (task_stock rules task) x d.0.plan) is }
+              let t : IsTestWork (task_works task) f.tree = test_work_of (task_works task) (isas 0).rules (program_flow task.listing) parts at f fits (program_tests (task_memory task) task.listing) e in
+              let d = test_plan task isas (λ v. (give v).reads) 510 small one plans planned (task_works task) plans f.tree t.work small planned t.at t.destination in
+              let c : IsCovered (mode_stock task isas 0) (test_of t.work) d.0.choice = test_covered f.tree t.work d.0 t.at d.1 t.destination in
+              let b : IsBranchOf (mode_stock task isas 0) t.work d.0.choice f = branch at f e t.work t.at d.0 d.1 in
+              let is : tree_used t.work d.0.choice ≡ c.covers.tree = ap tree_or_none c.covers.used in
+              record { tree = c.covers.tree; plan = d.0.choice.plan; orderly = c.covers.orderly; form = b.form; setting = b.setting ∙ ap (λ x. branch_setting (mode_stock task isas 0) x d.0.choice.plan) is }
 
   -- ---- the image
 
   module _ (image : Image) (made : IsMadeFor task image) where
-    fit : PartsFit made.rules (program_flow task.listing) 0 (program_flow task.listing) made.parts
-    fit = settled_fit made.rules (program_flow task.listing) made.sizes made.settings made.parts made.settled
-
-    pub made_traces : length (words_of image) ≤ code_size task.netlist.codes → length (words_of image) ≤ made.reach → TracesRight task.netlist image (strace task.width task.listing)
-    made_traces room reached =
-        let s = some_total made.rules made.parts fit in
+    -- it has words
+    some_words : 1 ≤ length (words_of image)
+    some_words =
+        let s = some_total (made.isas 0).rules made.parts (settled_fit (made.isas 0).rules (program_flow task.listing) made.sizes made.settings made.parts made.settled) in
         let m = made.long in
-        laid_traces task.netlist order checked.netlist image made.patterns (task_stock made.rules task) refl (formed made.patterns made.are made.rules made.reach made.forms) made.reach
-        (turns made.patterns made.are made.rules made.reach made.forms (omega (arith, s, m, reached))) task.width (memory_addr_width task.netlist.storages) task.listing made.parts checked.program
-        checked.words near checked.cells (made.layout.places ∙ ap (λ n. places_from n (variables_of task.listing.vars)) made.layout.temps)
-        (made_laid task image made 510 (reads made.patterns made.are made.rules made.reach made.forms) small (works_one (task_memory task) (acts_of task.listing.body)) (program_tests (task_memory task) task.listing) room reached)
+        omega (arith, s, m)
+
+    kit : IsKit (machine task image made) 0 (kit_in task image made 0)
+    kit = is_kit task image made keeps (give made.isas) register 510 small (works_one (task_memory task) (acts_of task.listing.body)) (program_tests (task_memory task) task.listing) 0 refl
+
+    laid : length (words_of image) ≤ code_size task.netlist.codes → length (words_of image) ≤ greatest_reach (made.isas 0).rules
+        → IsLaidCode (machine task image made) (kit_in task image made 0) image (program_flow task.listing) (task_works task) made.parts (greatest_reach (made.isas 0).rules)
+    laid room reached =
+        made_laid task image made keeps (give made.isas) register 510 small (works_one (task_memory task) (acts_of task.listing.body)) (program_tests (task_memory task) task.listing) room reached
+
+    traces : length (words_of image) ≤ code_size task.netlist.codes → length (words_of image) ≤ greatest_reach (made.isas 0).rules → TracesRight task.netlist image (strace task.width task.listing)
+    traces room reached =
+        let s = some_words in
+        made_traces task image made keeps (give made.isas) register 510 small (works_one (task_memory task) (acts_of task.listing.body)) (program_tests (task_memory task) task.listing) room reached
+        (turns made.isas (omega (arith, s, reached))) checked.program checked.words near checked.cells
 
     -- its words have the width of the netlist's words
-    pub image_fits : length (words_of image) ≤ code_size task.netlist.codes → length (words_of image) ≤ made.reach → (a : ℕ) → WordFits task.netlist (slice_index (words_of image) a)
+    pub image_fits : length (words_of image) ≤ code_size task.netlist.codes → length (words_of image) ≤ greatest_reach (made.isas 0).rules → (a : ℕ) → WordFits task.netlist (slice_index (words_of image) a)
     image_fits room reached a =
-        let s = some_total made.rules made.parts fit in
+        let s = some_words in
         let m = made.long in
-        code_fits task.netlist made.patterns (task_stock made.rules task) image (program_flow task.listing) (task_works task) made.parts made.reach (program_tests (task_memory task) task.listing)
-        (made_laid task image made 510 (reads made.patterns made.are made.rules made.reach made.forms) small (works_one (task_memory task) (acts_of task.listing.body)) (program_tests (task_memory task) task.listing) room reached)
-        (omega (arith, s, m)) a
+        word_in (base_at task.netlist 0) task.netlist (slice_index (words_of image) a) (same_codes 0)
+        (code_fits (machine task image made) (kit_in task image made 0) kit image (program_flow task.listing) (task_works task) made.parts (greatest_reach (made.isas 0).rules) (program_tests (task_memory task) task.listing) (laid room reached) (omega (arith, s, m)) a)
 
-    pub right_image : length (words_of image) ≤ code_size task.netlist.codes → length (words_of image) ≤ made.reach → IsRightImage task image
-    right_image room reached = record { made = made; traces = made_traces room reached }
+    pub right_image : length (words_of image) ≤ code_size task.netlist.codes → length (words_of image) ≤ greatest_reach (made.isas 0).rules → IsRightImage task image
+    right_image room reached = record { made = made; traces = traces room reached }
 
     pub bounded_image : (bound reach : ℕ) → HasBound task bound reach → bound ≤ reach → length (words_of image) ≤ code_size task.netlist.codes → IsRightImage task image
     bounded_image bound reach has within room = right_image room (made_reached task image made bound reach has within)

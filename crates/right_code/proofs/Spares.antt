@@ -1,5 +1,7 @@
 -- The steps of jobs one after the other spare what is still needed.
-use Rattle.std.proofs.Common.{ℕ, ◌≡◌, ◌||◌, ◌&&◌, Bool, true, false, not, List, [], ◌∷◌, Option, refl, sym, ◌∙◌, ap, subst}
+use Rattle.std.specs.List.{AllByRecursion}
+use Rattle.std.proofs.lemmas.Bool.{eqb-true}
+use Rattle.std.proofs.Common.{ℕ, ◌≡◌, ◌==◌, ◌||◌, ◌&&◌, Bool, true, false, not, List, [], ◌∷◌, Option, refl, sym, ◌∙◌, ap, subst}
 use Rattle.net_model.specs.Patterns.{Pattern}
 use Rattle.form_model.specs.declared.forms.Step.{Step}
 use Rattle.form_model.specs.Covers.{Stock, Choice}
@@ -41,6 +43,24 @@ module _ {A : Type 0} (m : A → Operation) (clobbers : A → Regs) where
   pub spare_less : (xs : List A) (k l : Regs) → ((r : ℕ) → l r ≡ true → k r ≡ true) → AllSpare m clobbers xs k → AllSpare m clobbers xs l
   spare_less [] k l f h = tt
   spare_less (x ∷ xs) k l f h = (λ r c w. not_live (live_before m (singles xs) l r) (live_before m (singles xs) k r) (live_less (singles xs) k l f r) (h.0 r c w), spare_less xs k l f h.1)
+
+  -- one more register is live before steps where it is live behind them
+  live_with : (mode : ℕ) (gs : List (List A)) (after : Regs) (r : ℕ) → (r == mode) ≡ false → live_before m gs (λ q. after q || (q == mode)) r ≡ live_before m gs after r
+  live_with mode [] after r e = by (after r)
+    where
+      by : (b : Bool) → (b || (r == mode)) ≡ b
+      by true = refl
+      by false = e
+  live_with mode (g ∷ gs) after r e = ap (λ b. group_reads m g r || (b && not (group_writes m g r))) (live_with mode gs after r e)
+
+  -- steps that don't clobber it spare it, too
+  pub spare_with : (mode : ℕ) (xs : List A) (after : Regs) → AllByRecursion (λ x. clobbers x mode ≡ false) xs → AllSpare m clobbers xs after → AllSpare m clobbers xs (λ q. after q || (q == mode))
+  spare_with mode [] after k h = tt
+  spare_with mode (x ∷ xs) after k h = (λ r c w. by r c w (r == mode) refl, spare_with mode xs after k.1 h.1)
+    where
+      by : (r : ℕ) → clobbers x r ≡ true → writes (m x) r ≡ false → (b : Bool) → (r == mode) ≡ b → live_before m (singles xs) (λ q. after q || (q == mode)) r ≡ false
+      by r c w true e = let same : r ≡ mode = eqb-true r mode e in absurd (cc (c, k.0, same))
+      by r c w false e = live_with mode (singles xs) after r e ∙ h.0 r c w
 
   pub given_less : (known : Regs) (xs : List A) (k l : Regs) → ((r : ℕ) → l r ≡ true → k r ≡ true) → AreDefined m known xs k → AreDefined m known xs l
   given_less known [] k l f h = λ r e. h r (f r e)

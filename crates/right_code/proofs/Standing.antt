@@ -15,20 +15,20 @@ pub shown_some : (o : Option ℕ) → is_some o ≡ true → o ≡ Some (unwrap_
 shown_some None e = absurd (cc e)
 shown_some (Some n) e = refl
 
-module _ (netlist : Netlist) (patterns : List Pattern) (words : ℕ → List ℕ) (code : List ℕ) where
-  pub stand_split : (xs ys : List Item) (at n : ℕ) → n ≡ at + length xs → StandItems netlist patterns words code at (xs ++ ys)
-      → StandItems netlist patterns words code at xs × StandItems netlist patterns words code n ys
-  stand_split [] ys at n e h = let z : at ≡ n = omega (arith, e) in (tt, subst (λ k. StandItems netlist patterns words code k ys) z h)
+module _ (netlist : Netlist) (special : Option ℕ) (patterns : List Pattern) (words : ℕ → List ℕ) (code : List ℕ) where
+  pub stand_split : (xs ys : List Item) (at n : ℕ) → n ≡ at + length xs → StandItems netlist special patterns words code at (xs ++ ys)
+      → StandItems netlist special patterns words code at xs × StandItems netlist special patterns words code n ys
+  stand_split [] ys at n e h = let z : at ≡ n = omega (arith, e) in (tt, subst (λ k. StandItems netlist special patterns words code k ys) z h)
   stand_split (x ∷ xs) ys at n e h = let r = stand_split xs ys (at + 1) n (omega (arith, e)) h.1 in ((h.0, r.0), r.1)
 
   -- the words of a part
   pub part_stands : (rules : List Rule) (jump : Option Rule) (addresses : List ℕ) (at : ℕ) (parts : List Part) (k : ℕ) (p : Part) (n : ℕ) → slice_get parts k ≡ Some p → n ≡ at + address parts k
-      → StandItems netlist patterns words code at (items_from rules jump addresses at parts) → StandItems netlist patterns words code n (part_items rules jump addresses n p)
+      → StandItems netlist special patterns words code at (items_from rules jump addresses at parts) → StandItems netlist special patterns words code n (part_items rules jump addresses n p)
   part_stands rules jump addresses at [] k p n e z h = absurd (cc e)
   part_stands rules jump addresses at (q ∷ parts) zero p n e z h =
       let same : at ≡ n = omega (arith, z) in
       let s = stand_split (part_items rules jump addresses at q) (items_from rules jump addresses (at + room q) parts) at (at + length (part_items rules jump addresses at q)) refl h in
-      subst (λ a. StandItems netlist patterns words code a (part_items rules jump addresses a p)) same (subst (λ r. StandItems netlist patterns words code at (part_items rules jump addresses at r)) (one q p e) s.0)
+      subst (λ a. StandItems netlist special patterns words code a (part_items rules jump addresses a p)) same (subst (λ r. StandItems netlist special patterns words code at (part_items rules jump addresses at r)) (one q p e) s.0)
     where
       one : (q p : Part) → Some q ≡ Some p → q ≡ p
       one q p e = cc
@@ -38,7 +38,7 @@ module _ (netlist : Netlist) (patterns : List Pattern) (words : ℕ → List ℕ
       part_stands rules jump addresses (at + room q) parts k p n e (omega (arith, z)) s.1
 
   -- the groups of a block
-  pub groups_stand : (block : ℕ) (xs : List ℕ) (i at : ℕ) → ((j : ℕ) → slice_index (words block) (i + j) ≡ slice_index xs j) → StandItems netlist patterns words code at (groups block i (length xs)) → StandAt code at xs
+  pub groups_stand : (block : ℕ) (xs : List ℕ) (i at : ℕ) → ((j : ℕ) → slice_index (words block) (i + j) ≡ slice_index xs j) → StandItems netlist special patterns words code at (groups block i (length xs)) → StandAt code at xs
   groups_stand block [] i at f h = tt
   groups_stand block (x ∷ xs) i at f h =
       let z : i + 0 ≡ i = omega arith in

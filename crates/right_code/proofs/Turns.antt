@@ -5,7 +5,7 @@ use Rattle.net_model.specs.declared.hardware.Netlist.{Netlist}
 use Rattle.net_model.specs.CheckedRules.{KeepsRules}
 use Rattle.net_model.specs.Nets.{counter_width, memory_id, word_width}
 use Rattle.net_model.specs.Patterns.{IsPattern, Pattern}
-use Rattle.form_model.specs.Rules.{BranchTarget, Kind, Rule, into_file, into_memory, into_reg, jumps, branches}
+use Rattle.form_model.specs.Rules.{BranchTarget, absolute, relative, Kind, Rule, into_file, into_memory, into_reg, jumps, branches}
 use Rattle.form_set.specs.Static.{is_file_at}
 use Rattle.form_model.specs.Shapes.{reach_of, shows}
 use Rattle.form_set.specs.Listing.{AreForms, goal_at, goal_reach, greatest_reach}
@@ -13,18 +13,19 @@ use Rattle.form_set.specs.Words.{CanJump}
 use Rattle.form_set.specs.Promises.{IsFormOf, is_control_goal, of_branch, of_jump, of_plain}
 use Rattle.branch_fix.specs.Items.{jump_form, reaches}
 use Rattle.right_code.specs.Inner.Forks.{IsBranchForm, IsJumpForm}
+use Rattle.right_code.proofs.Kept.{ArePart}
 use Rattle.right_code.specs.Inner.Known.{AreKnown}
 use Rattle.right_code.specs.Inner.Laid.{AreTurns, TargetReaches}
 use Rattle.right_code.proofs.Listed.{placed}
 use Rattle.right_code.proofs.Turning.{branch_made, branch_reaches, jump_made, jump_narrow, jump_shows}
 
 -- the first jump form of a reach
-record IsFirstJump (rules : List Rule) (reach : ℕ) : Type 0 where
-  rule : Rule
-  first : jump_form rules reach ≡ Some rule
-  place : ℕ
-  at : slice_get rules place ≡ Some rule
-  goal : rule.goal ≡ jumps reach
+pub record IsFirstJump (rules : List Rule) (reach : ℕ) : Type 0 where
+  pub rule : Rule
+  pub first : jump_form rules reach ≡ Some rule
+  pub place : ℕ
+  pub at : slice_get rules place ≡ Some rule
+  pub goal : rule.goal ≡ jumps reach
 
 reached : (k : Kind) (reach : ℕ) → reaches k reach ≡ true → k ≡ jumps reach
 reached (jumps r) reach e = ap jumps (eqb-true r reach e)
@@ -40,7 +41,7 @@ unreached into_memory reach l e g = omega (arith, l, g)
 unreached into_file reach l e g = omega (arith, l, g)
 unreached (branches b to) reach l e g = omega (arith, l, g)
 
-first_jump : (rules : List Rule) (reach : ℕ) → 1 ≤ reach → reach ≡ greatest_reach rules → IsFirstJump rules reach
+pub first_jump : (rules : List Rule) (reach : ℕ) → 1 ≤ reach → reach ≡ greatest_reach rules → IsFirstJump rules reach
 first_jump [] reach l e = absurd (omega (arith, l, e))
 first_jump (rule ∷ rules) reach l e = by (reaches rule.goal reach) refl (first_jump rules reach l)
   where
@@ -67,16 +68,16 @@ plain_goal netlist storage k e h = true≢false (sym h ∙ ap is_control_goal e 
     by false false = refl
 
 module _ (netlist : Netlist) (order : List ℕ) (keeps : KeepsRules netlist order) (some : 0 < word_width netlist) (patterns : List Pattern) (known : AreKnown netlist patterns) (reach : ℕ) (rules : List Rule) (forms : AreForms netlist patterns rules reach) where
-  record IsJumping (rule : Rule) : Type 0 where
+  record IsJumping (far : ℕ) (rule : Rule) : Type 0 where
     form : IsJumpForm netlist patterns rule
-    shown : (v : ℕ) → v < reach → shows rule.value v ≡ true
-    narrow : reach ≤ 2 ^ counter_width netlist
+    shown : (v : ℕ) → v < far → shows rule.value v ≡ true
+    narrow : far ≤ 2 ^ counter_width netlist
 
-  jumping : (number : ℕ) (p : Pattern) (rule : Rule) → slice_get patterns number ≡ Some p → IsFormOf netlist reach number p rule → rule.goal ≡ jumps reach → IsJumping rule
-  jumping number p rule at (of_plain choice clobbers plain are e) g =
+  jumping : (far number : ℕ) (p : Pattern) (rule : Rule) → slice_get patterns number ≡ Some p → IsFormOf netlist reach number p rule → rule.goal ≡ jumps far → IsJumping far rule
+  jumping far number p rule at (of_plain choice clobbers plain are e) g =
       absurd (plain_goal netlist p.storage rule.goal (ap (λ (r : Rule). r.goal) e) (ap is_control_goal g))
-  jumping number p rule at (of_jump h e) g =
-      subst IsJumping (sym e)
+  jumping far number p rule at (of_jump h e) g =
+      subst (IsJumping far) (sym e)
       (record {
         form = jump_made netlist some patterns known number p at h _;
         shown = λ v lt. jump_shows netlist some patterns known number p at h v (omega (arith, lt, is_reach));
@@ -86,9 +87,9 @@ module _ (netlist : Netlist) (order : List ℕ) (keeps : KeepsRules netlist orde
       same : (a b : ℕ) → jumps a ≡ jumps b → a ≡ b
       same a b e = cc
 
-      is_reach : reach_of h.target ≡ reach
-      is_reach = same (reach_of h.target) reach (sym (ap (λ (r : Rule). r.goal) e) ∙ g)
-  jumping number p rule at (of_branch choice parts b e) g = let x : branches parts.when_one parts.to ≡ jumps reach = sym (ap (λ (r : Rule). r.goal) e) ∙ g in absurd (cc)
+      is_reach : reach_of h.target ≡ far
+      is_reach = same (reach_of h.target) far (sym (ap (λ (r : Rule). r.goal) e) ∙ g)
+  jumping far number p rule at (of_branch choice parts b e) g = let x : branches parts.when_one parts.to ≡ jumps far = sym (ap (λ (r : Rule). r.goal) e) ∙ g in absurd (cc)
 
   record IsTurning (rule : Rule) (when_one : Bool) (way : BranchTarget) : Type 0 where
     form : IsBranchForm netlist patterns rule when_one way
@@ -114,21 +115,45 @@ module _ (netlist : Netlist) (order : List ℕ) (keeps : KeepsRules netlist orde
       let r = placed netlist order keeps some patterns known reach rules forms.list k turn at in
       (turning r.number r.pattern turn when_one way r.at r.of g).form
 
-  -- where there is a jump form
-  pub are_turns : 1 ≤ reach → AreTurns netlist patterns rules reach
-  are_turns l =
-      let f = first_jump rules reach l forms.greatest_is in
-      let q = placed netlist order keeps some patterns known reach rules forms.list f.place f.rule f.at in
-      let j = jumping q.number q.pattern f.rule q.at q.of f.goal in
+  reach_in : (list : List Rule) (k : ℕ) (rule : Rule) → slice_get list k ≡ Some rule → goal_reach rule.goal ≤ greatest_reach list
+  reach_in [] k rule e = absurd (cc e)
+  reach_in (x ∷ list) zero rule e = let same : goal_reach x.goal ≡ goal_reach rule.goal = ap (λ (r : Rule). goal_reach r.goal) (one x rule e) in omega (arith, same)
+    where
+      one : (a b : Rule) → Some a ≡ Some b → a ≡ b
+      one a b e = cc
+  reach_in (x ∷ list) (suc k) rule e = let h = reach_in list k rule e in omega (arith, h)
+
+  less_reaches : (way : BranchTarget) (far : ℕ) → far ≤ reach → TargetReaches reach way → TargetReaches far way
+  less_reaches (absolute shape) far le h = λ v lt. h v (omega (arith, lt, le))
+  less_reaches (relative shape) far le h = h
+
+  -- some of the forms, among them a jump form
+  pub turns_of : (kept : List Rule) (far : ℕ) → ArePart kept rules → far ≡ greatest_reach kept → 1 ≤ far → AreTurns netlist patterns kept far
+  turns_of kept far of is l =
+      let f = first_jump kept far l is in
+      let p = of f.place f.rule f.at in
+      let q = placed netlist order keeps some patterns known reach rules forms.list p.0 f.rule p.1 in
+      let j : IsJumping far f.rule = jumping far q.number q.pattern f.rule q.at q.of f.goal in
+      let most : goal_reach f.rule.goal ≤ greatest_reach rules = reach_in rules p.0 f.rule p.1 in
+      let own : goal_reach f.rule.goal ≡ far = ap goal_reach f.goal in
+      let all : reach ≡ greatest_reach rules = forms.greatest_is in
+      let le : far ≤ reach = omega (arith, most, own, all) in
       record {
         rule = f.rule;
         first = f.first;
         jump = j.form;
         shown = j.shown;
         narrow = j.narrow;
-        forks = fork_form;
-        reaches = λ k turn when_one way at g. (let r = placed netlist order keeps some patterns known reach rules forms.list k turn at in (turning r.number r.pattern turn when_one way r.at r.of g).reached);
+        forks = λ k turn when_one way at g. (let r = of k turn at in fork_form r.0 turn when_one way r.1 g);
+        reaches = λ k turn when_one way at g.
+            (let r = of k turn at in
+            let x = placed netlist order keeps some patterns known reach rules forms.list r.0 turn r.1 in
+            less_reaches way far le (turning x.number x.pattern turn when_one way x.at x.of g).reached);
       }
+
+  -- all of them
+  pub are_turns : 1 ≤ reach → AreTurns netlist patterns rules reach
+  are_turns l = turns_of rules reach (λ k rule at. (k, at)) forms.greatest_is l
 
   -- ---- words of jumps and branches
 
@@ -146,11 +171,3 @@ module _ (netlist : Netlist) (order : List ℕ) (keeps : KeepsRules netlist orde
 
   pub turn_can : (k : ℕ) (rule : Rule) → slice_get rules k ≡ Some rule → is_control_goal rule.goal ≡ true → CanTurn rule
   turn_can k rule at g = let r = placed netlist order keeps some patterns known reach rules forms.list k rule at in can_turn r.number r.pattern rule r.at r.of g
-
-  pub jump_can : 1 ≤ reach → (rule : Rule) → jump_form rules reach ≡ Some rule → CanTurn rule
-  jump_can l rule e =
-      let f = first_jump rules reach l forms.greatest_is in
-      turn_can f.place rule (f.at ∙ sym f.first ∙ e) (ap (λ (r : Rule). is_control_goal r.goal) (same rule f.rule (sym e ∙ f.first)) ∙ ap is_control_goal f.goal)
-    where
-      same : (a b : Rule) → Some a ≡ Some b → a ≡ b
-      same a b e = cc

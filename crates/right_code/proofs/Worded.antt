@@ -1,29 +1,29 @@
 -- Each step of a block and of a test has a word that keeps what is still needed.
-use Rattle.std.proofs.Common.{ℕ, ◌≡◌, ◌≢◌, ◌<◌, true, List, [], ◌∷◌, ◌++◌, Option, Some, None, bit_and, bit_or, refl, sym, ◌∙◌, ap, subst, arith, length, slice_get}
+use Rattle.std.specs.List.{AllByRecursion}
+use Rattle.std.specs.Int.{bit_at}
+use Rattle.form_model.specs.Live.{AllSpare, Regs, no_regs, regs_of, singles}
+use Rattle.emit_seq.specs.Spares.{AreShared, ReadsCounter, clobbers_of, AreSpare, step_clobbers, wanted}
+use Rattle.std.proofs.Common.{ℕ, ◌≡◌, ◌≢◌, ◌==◌, ◌<◌, true, false, List, [], ◌∷◌, ◌++◌, Option, Some, None, bit_and, bit_or, refl, sym, ◌∙◌, ap, subst, arith, length, slice_get}
 use Rattle.std.specs.Int.Bits.{or_add_and}
 use Rattle.std.proofs.lemmas.Nat.{and_le_l}
-use Rattle.std.proofs.lemmas.Nat.Bits.{bit_at-zero}
 use Rattle.net_model.specs.declared.hardware.Space.TheVariants.{File as InFile}
-use Rattle.net_model.specs.Nets.{file_place, size_in}
+use Rattle.net_model.specs.Nets.{file_place, size_in, counter_of, word_width}
 use Rattle.emit_seq.specs.Formed.{AreFormed}
 use Rattle.net_model.specs.declared.hardware.Netlist.{Netlist}
 use Rattle.net_model.specs.CheckedRules.{KeepsRules}
 use Rattle.net_model.specs.Fields.{fields, move_fields}
-use Rattle.net_model.specs.Nets.{counter_of, word_width}
 use Rattle.net_model.specs.Patterns.{Pattern}
 use Rattle.net_model.specs.Terms.{Term, Move, keep, write, write_at}
 use Rattle.form_model.specs.declared.forms.Step.{Step}
 use Rattle.form_model.specs.Rules.{Kind, Rule, tested}
 use Rattle.form_model.specs.Covers.{Stock, Choice}
 use Rattle.block_words.specs.Laws.{operation_in}
-use Rattle.form_model.specs.Live.{Regs, no_regs, regs_of, singles}
 use Rattle.form_model.specs.Steps.{cover_steps}
 use Rattle.form_set.specs.Listing.{AreRules, sides_of}
 use Rattle.form_set.specs.Promises.{IsFormOf, of_branch, of_jump, of_plain}
 use Rattle.form_set.specs.Swaps.{Sides, swapped}
 use Rattle.form_set.proofs.FormLaws.{plain_words}
 use Rattle.emit_seq.specs.Settles.{AreOfForms, IsOfForm, IsStepping, addr_fields, rule_fields}
-use Rattle.emit_seq.specs.Spares.{AreSpare, step_clobbers, wanted}
 use Rattle.emit_seq.proofs.Settled.{steps_of_forms}
 use Rattle.emit_seq.proofs.Spared.{clobbers_at, steps_spare}
 use Rattle.src_trees.specs.Lowered.{Work}
@@ -36,7 +36,10 @@ use Rattle.right_code.specs.Jobs.{tree_or_none, tree_used, job_steps, jobs_steps
 use Rattle.right_code.specs.Inner.Jobs.{AreCovered}
 use Rattle.right_code.specs.Inner.Known.{AreKnown, IsKnownPattern}
 use Rattle.right_code.proofs.Listed.{Placed, are_formed, are_shared, is_counter, placed}
-use Rattle.right_code.proofs.Spares.{jobs_spare, spare_less}
+use Rattle.right_code.specs.Cuts.{with_mode}
+use Rattle.right_code.proofs.Kept.{ArePart}
+use Rattle.right_code.proofs.ModeKept.{AllKeep, FormsKeep}
+use Rattle.right_code.proofs.Spares.{spare_with, jobs_spare, spare_less}
 use Rattle.right_code.proofs.Swapping.{AreSwapped, swapped_sides}
 
 zero_or : (n : ℕ) → bit_or 0 n ≡ n
@@ -58,8 +61,18 @@ swapped_fields choice (write_at a v) n =
     let x : Sides = record { addr = Some a; value = v } in
     sides_fields (Some a) (swapped choice x).addr v (swapped choice x).value (swapped_sides choice x)
 
-module _ (netlist : Netlist) (order : List ℕ) (keeps : KeepsRules netlist order) (some : 0 < word_width netlist) (patterns : List Pattern) (known : AreKnown netlist patterns) (reach : ℕ) (stock : Stock) (sized : stock.file ≡ size_in InFile netlist.storages)
-    (list : AreRules netlist reach 0 patterns stock.rules) where
+module _ (netlist : Netlist) (order : List ℕ) (keeps : KeepsRules netlist order) (some : 0 < word_width netlist) (patterns : List Pattern) (known : AreKnown netlist patterns) (reach : ℕ) (all : List Rule) (list : AreRules netlist reach 0 patterns all)
+    (stock : Stock) (sized : stock.file ≡ size_in InFile netlist.storages) (of : ArePart stock.rules all) where
+  -- what holds of all forms holds of these
+  shared : AreShared stock.rules
+  shared j k a b ha hb e =
+      let p = of j a ha in
+      let q = of k b hb in
+      are_shared netlist order keeps some patterns known reach all list p.0 q.0 a b p.1 q.1 e
+
+  counts : ReadsCounter stock.rules (counter_of netlist.codes)
+  counts k rule at goal = let p = of k rule at in is_counter netlist order keeps some patterns known reach all list p.0 rule p.1 goal
+
   no_step : (goal other : Kind) → goal ≡ other → IsStepping goal → (IsStepping other → ⊥) → ⊥
   no_step goal other e h n = n (subst IsStepping e h)
 
@@ -80,7 +93,7 @@ module _ (netlist : Netlist) (order : List ℕ) (keeps : KeepsRules netlist orde
         };
         mask = clobbers;
         same = ap (λ n. step_clobbers stock.rules (record { pattern = n; setting = x.setting })) same
-            ∙ ap (λ n. regs_of n) (clobbers_at stock.rules (are_shared netlist order keeps some patterns known reach stock.rules list) k rule listed ∙ ap (λ (r : Rule). r.clobbers) e);
+            ∙ ap (λ n. regs_of n) (clobbers_at stock.rules shared k rule listed ∙ ap (λ (r : Rule). r.clobbers) e);
         words = plain_words netlist p clobbers plain are;
       }
 
@@ -88,7 +101,8 @@ module _ (netlist : Netlist) (order : List ℕ) (keeps : KeepsRules netlist orde
   all_worded [] h = tt
   all_worded (x ∷ xs) h =
       let o : IsOfForm stock.rules x = h.0 in
-      let f : Placed netlist order keeps some patterns known reach stock.rules list o.rule = placed netlist order keeps some patterns known reach stock.rules list o.destination o.rule o.listed in
+      let p = of o.destination o.rule o.listed in
+      let f : Placed netlist order keeps some patterns known reach all list o.rule = placed netlist order keeps some patterns known reach all list p.0 o.rule p.1 in
       (of_form x o.rule o.destination o.listed o.goal o.pattern o.within f.number f.pattern f.at f.of, all_worded xs h.1)
 
   forms_on : (xs ys : List Step) → AreOfForms stock.rules xs → AreOfForms stock.rules ys → AreOfForms stock.rules (xs ++ ys)
@@ -108,27 +122,44 @@ module _ (netlist : Netlist) (order : List ℕ) (keeps : KeepsRules netlist orde
   formed : AreFormed (file_place netlist.storages) patterns (length netlist.storages) stock.file stock.rules
   formed =
       subst (λ n. AreFormed (file_place netlist.storages) patterns (length netlist.storages) n stock.rules) (sym sized)
-      (are_formed netlist order keeps some patterns known reach stock.rules list)
+      (λ k rule at. (let p = of k rule at in are_formed netlist order keeps some patterns known reach all list p.0 rule p.1))
 
-  -- the steps of a block, where nothing is live behind it
-  pub block_words : (jobs : List Work) (choices : List Choice) → AreCovered stock jobs choices
-      → AllHaveWords (operation_in netlist patterns) (fits_over netlist (operation_in netlist patterns)) (singles (jobs_steps stock jobs choices)) (regs_of 0)
-  block_words jobs choices c =
-      let xs : List Step = jobs_steps stock jobs choices in
-      have_words netlist patterns (step_clobbers stock.rules) xs (regs_of 0) (all_worded xs (jobs_forms jobs choices c))
-      (spare_less (operation_in netlist patterns) (step_clobbers stock.rules) xs no_regs (regs_of 0) (λ r e. cc (e, bit_at-zero r))
-      (jobs_spare stock (file_place netlist.storages) patterns (length netlist.storages) (counter_of netlist.codes) formed (are_shared netlist order keeps some patterns known reach stock.rules list)
-      (is_counter netlist order keeps some patterns known reach stock.rules list) jobs choices c).0)
+  -- ---- where the mode is live behind steps, too
 
-  -- the steps of a test, where registers of its condition are live behind it
-  pub test_words : (job : Work) (choice : Choice) (live : Regs) → IsCovered stock (test_of job) choice → ((r : ℕ) → live r ≡ true → wanted stock tested (tree_used (test_of job) choice) choice.plan r ≡ true)
-      → AllHaveWords (operation_in netlist patterns) (fits_over netlist (operation_in netlist patterns)) (singles (job_steps stock (test_of job) choice)) live
-  test_words job choice live c f =
-      let used : Term = tree_used (test_of job) choice in
-      let xs : List Step = job_steps stock (test_of job) choice in
-      let s : AreSpare stock (file_place netlist.storages) patterns (counter_of netlist.codes) tested used choice.plan =
-      subst (λ t. AreSpare stock (file_place netlist.storages) patterns (counter_of netlist.codes) tested t choice.plan) (sym (ap tree_or_none c.covers.used))
-      (steps_spare stock (file_place netlist.storages) patterns (length netlist.storages) (counter_of netlist.codes) formed (are_shared netlist order keeps some patterns known reach stock.rules list)
-      (is_counter netlist order keeps some patterns known reach stock.rules list) tested c.covers.tree choice.plan tt c.covers.orderly) in
-      have_words netlist patterns (step_clobbers stock.rules) xs live (all_worded xs (job_forms (test_of job) choice c))
-      (spare_less (operation_in netlist patterns) (step_clobbers stock.rules) xs (wanted stock tested used choice.plan) live f s.spare)
+  module _ (o : Option ℕ) (keep : FormsKeep o stock.rules) where
+    form_spares : (mode : ℕ) → AllKeep mode stock.rules → (x : Step) → IsOfForm stock.rules x → step_clobbers stock.rules x mode ≡ false
+    form_spares mode k x h =
+        let at : clobbers_of stock.rules x.pattern ≡ h.rule.clobbers = ap (clobbers_of stock.rules) h.pattern ∙ clobbers_at stock.rules shared h.destination h.rule h.listed in
+        ap (λ n. bit_at n mode == 1) at ∙ ap (λ n. n == 1) (k h.destination h.rule h.listed h.goal)
+
+    all_spare : (mode : ℕ) → AllKeep mode stock.rules → (xs : List Step) → AreOfForms stock.rules xs → AllByRecursion (λ x. step_clobbers stock.rules x mode ≡ false) xs
+    all_spare mode k [] h = tt
+    all_spare mode k (x ∷ xs) h = (form_spares mode k x h.0, all_spare mode k xs h.1)
+
+    spare_mode : (p : Option ℕ) → FormsKeep p stock.rules → (xs : List Step) (after : Regs) → AreOfForms stock.rules xs → AllSpare (operation_in netlist patterns) (step_clobbers stock.rules) xs after
+        → AllSpare (operation_in netlist patterns) (step_clobbers stock.rules) xs (with_mode p after)
+    spare_mode None k xs after h s = s
+    spare_mode (Some mode) k xs after h s = spare_with (operation_in netlist patterns) (step_clobbers stock.rules) mode xs after (all_spare mode k xs h) s
+
+    -- the steps of jobs, where at most the mode is live behind them
+    pub block_words : (jobs : List Work) (choices : List Choice) (live : Regs) → AreCovered stock jobs choices → ((r : ℕ) → live r ≡ true → with_mode o no_regs r ≡ true)
+        → AllHaveWords (operation_in netlist patterns) (fits_over netlist (operation_in netlist patterns)) (singles (jobs_steps stock jobs choices)) live
+    block_words jobs choices live c f =
+        let xs : List Step = jobs_steps stock jobs choices in
+        let h : AreOfForms stock.rules xs = jobs_forms jobs choices c in
+        have_words netlist patterns (step_clobbers stock.rules) xs live (all_worded xs h)
+        (spare_less (operation_in netlist patterns) (step_clobbers stock.rules) xs (with_mode o no_regs) live f
+        (spare_mode o keep xs no_regs h (jobs_spare stock (file_place netlist.storages) patterns (length netlist.storages) (counter_of netlist.codes) formed shared counts jobs choices c).0))
+
+    -- the steps of a test, where the mode and registers of its condition are live behind it
+    pub test_words : (job : Work) (choice : Choice) (live : Regs) → IsCovered stock (test_of job) choice → ((r : ℕ) → live r ≡ true → with_mode o (wanted stock tested (tree_used (test_of job) choice) choice.plan) r ≡ true)
+        → AllHaveWords (operation_in netlist patterns) (fits_over netlist (operation_in netlist patterns)) (singles (job_steps stock (test_of job) choice)) live
+    test_words job choice live c f =
+        let used : Term = tree_used (test_of job) choice in
+        let xs : List Step = job_steps stock (test_of job) choice in
+        let h : AreOfForms stock.rules xs = job_forms (test_of job) choice c in
+        let s : AreSpare stock (file_place netlist.storages) patterns (counter_of netlist.codes) tested used choice.plan =
+        subst (λ t. AreSpare stock (file_place netlist.storages) patterns (counter_of netlist.codes) tested t choice.plan) (sym (ap tree_or_none c.covers.used))
+        (steps_spare stock (file_place netlist.storages) patterns (length netlist.storages) (counter_of netlist.codes) formed shared counts tested c.covers.tree choice.plan tt c.covers.orderly) in
+        have_words netlist patterns (step_clobbers stock.rules) xs live (all_worded xs h)
+        (spare_less (operation_in netlist patterns) (step_clobbers stock.rules) xs (with_mode o (wanted stock tested used choice.plan)) live f (spare_mode o keep xs (wanted stock tested used choice.plan) h s.spare))

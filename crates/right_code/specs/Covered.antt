@@ -1,57 +1,67 @@
--- The covers of a program's jobs, and the first job that has none.
+-- The modes and the covers of a program's jobs, and the first job that has none.
 use Rattle.std.specs.Prelude.{ℕ, ◌+◌, ◌<◌, ◌≡◌, List, [], ◌∷◌, Some, slice_get}
-use Rattle.form_model.specs.Covers.{Choice, Covers, HasNoCover, IsChosen, Stock, job_cost}
-use Rattle.form_model.specs.Rules.{Rule}
+use Rattle.form_model.specs.Covers.{Choice, Stock}
+use Rattle.mode_set.specs.Costs.{CoversIn, HasNoPlan, IsPlanned, Planned, mode_cost}
+use Rattle.mode_set.specs.Keeping.{Isas, IsUsable}
 use Rattle.src_trees.specs.Lowered.{Work}
-use Rattle.right_code.specs.Forms.{AreFormsOf}
 use Rattle.right_code.specs.Tasks.{Task, task_stock, task_works}
 
 -- ---- all jobs have covers
 
--- each job has its chosen cover
-abbrev pub AllChosen : Stock → List Work → List Choice → Type 0
-AllChosen stock [] [] = Unit {0}
-AllChosen stock (job ∷ jobs) (choice ∷ choices) =
-    IsChosen stock job.destination job.trees choice × AllChosen stock jobs choices
-AllChosen stock _ _ = ⊥
+-- each job has the least mode of least cost of those that can be used, and the cover that is chosen
+-- by that mode's forms
+abbrev pub AllPlanned : (ℕ → Stock) → (ℕ → Type 0) → List Work → List Planned → Type 0
+AllPlanned stock Usable [] [] = Unit {0}
+AllPlanned stock Usable (job ∷ jobs) (planned ∷ plans) =
+    IsPlanned stock Usable job.destination job.trees planned × AllPlanned stock Usable jobs plans
+AllPlanned stock Usable _ _ = ⊥
 
--- the costs of the jobs' covers
-abbrev pub job_costs : List Work → List Choice → List ℕ
-job_costs (job ∷ jobs) (choice ∷ choices) = job_cost job.destination choice.plan ∷ job_costs jobs choices
-job_costs _ _ = []
+-- the costs of the jobs in their modes
+abbrev pub plan_costs : List Work → List Planned → List ℕ
+plan_costs (job ∷ jobs) (planned ∷ plans) =
+    mode_cost planned.mode job.destination planned.choice.plan ∷ plan_costs jobs plans
+plan_costs _ _ = []
 
 -- each with its number, from one on
 abbrev pub numbered : ℕ → List ℕ → List (ℕ × ℕ)
 numbered number [] = []
 numbered number (cost ∷ costs) = (number, cost) ∷ numbered (number + 1) costs
 
+-- what a task's jobs are covered by in a mode: the forms that keep the mode
+abbrev pub mode_stock : (task : Task) → Isas task.netlist → ℕ → Stock
+mode_stock task isas = λ v. task_stock (isas v).rules task
+
+-- the plans of a program's jobs
+abbrev pub ArePlans : (task : Task) → Isas task.netlist → List Planned → Type 0
+ArePlans task isas plans = AllPlanned (mode_stock task isas) (IsUsable task.netlist isas) (task_works task) plans
+
 -- the least costs of a program's jobs, each with its number, in their order
 pub record AreCosts (task : Task) (costs : List (ℕ × ℕ)) : Type 0 where
-  pub rules : List Rule
-  pub reach : ℕ
-  pub forms : AreFormsOf task.netlist rules reach
-  pub choices : List Choice
-  pub chosen : AllChosen (task_stock rules task) (task_works task) choices
-  pub are : costs ≡ numbered 0 (job_costs (task_works task) choices)
+  pub isas : Isas task.netlist
+  pub plans : List Planned
+  pub planned : ArePlans task isas plans
+  pub are : costs ≡ numbered 0 (plan_costs (task_works task) plans)
 
 -- ---- a job has none
 
-abbrev pub HasCover : Stock → Work → Type 0
-HasCover stock job = (choice : Choice) × Covers stock job.destination job.trees choice
+pub record HasCover (stock : ℕ → Stock) (Usable : ℕ → Type 0) (job : Work) : Type 0 where
+  pub mode : ℕ
+  pub choice : Choice
+  pub covers : CoversIn stock Usable job.destination job.trees mode choice
 
--- the job of this number has no orderly cover, and each job before it has one
-pub record IsFirstBare (stock : Stock) (jobs : List Work) (number : ℕ) : Type 0 where
+-- the job of this number has no orderly cover in any mode that it may run in, and each job before it
+-- has one
+pub record IsFirstBare (stock : ℕ → Stock) (Usable : ℕ → Type 0) (jobs : List Work)
+    (number : ℕ) : Type 0 where
   pub job : Work
   pub at : slice_get jobs number ≡ Some job
-  pub none : HasNoCover stock job.destination job.trees
-  pub earlier : (k : ℕ) (other : Work) → k < number → slice_get jobs k ≡ Some other → HasCover stock other
+  pub none : HasNoPlan stock Usable job.destination job.trees
+  pub earlier : (k : ℕ) (other : Work) → k < number → slice_get jobs k ≡ Some other → HasCover stock Usable other
 
 -- the tree of this number is the first of the program's that the netlist's forms don't cover
 pub record HasBareTree (number : ℕ) (task : Task) : Type 0 where
-  pub rules : List Rule
-  pub reach : ℕ
-  pub forms : AreFormsOf task.netlist rules reach
-  pub bare : IsFirstBare (task_stock rules task) (task_works task) number
+  pub isas : Isas task.netlist
+  pub bare : IsFirstBare (mode_stock task isas) (IsUsable task.netlist isas) (task_works task) number
 
 -- the netlist's forms cover each tree of the program
 pub record HasCovers (task : Task) : Type 0 where

@@ -1,5 +1,6 @@
 pub mod Bounded
 pub mod Covered
+pub mod Cuts
 pub mod Forks
 pub mod Forms
 pub mod Images

@@ -1,14 +1,15 @@
 -- The groups and the words of blocks, and the words that stand in an image in the order of its
 -- layout.
-use Rattle.std.specs.Prelude.{ℕ, ◌+◌, ◌≤◌, ◌≡◌, List, [], ◌∷◌, length, slice_index, IsPermutation}
+use Rattle.block_words.specs.Laws.{operation_in}
+use Rattle.std.specs.Prelude.{ℕ, ◌+◌, ◌≤◌, ◌≡◌, List, [], ◌∷◌, length, Option, slice_index, IsPermutation}
+use Rattle.mode_set.specs.Words.{FitsTurn}
 use Rattle.std.specs.List.{AllByRecursion, slice_index_or}
 use Rattle.net_model.specs.declared.hardware.Netlist.{Netlist}
 use Rattle.net_model.specs.Patterns.{Pattern}
 use Rattle.code_model.specs.declared.image.Word.{Word}
 use Rattle.form_model.specs.declared.forms.Step.{Step}
-use Rattle.block_words.specs.Laws.{operation_in}
 use Rattle.form_model.specs.Live.{Regs}
-use Rattle.word_fit.specs.Fits.{FitsJump, IsLeastFit, fits_over}
+use Rattle.word_fit.specs.Fits.{IsLeastFit, fits_over}
 use Rattle.word_fit.specs.Groups.{AreLeast}
 use Rattle.compaction.specs.Lists.{IsPatternList}
 use Rattle.compaction.specs.Meant.{MeansSteps}
@@ -41,17 +42,18 @@ AreGroupWords netlist patterns groups after words =
 -- ---- the words of a layout
 
 -- the word of an item: that of its group in its block's words, or the least jump or branch word of
--- the item's setting that keeps the data memory
-abbrev pub IsItemWord : Netlist → List Pattern → (ℕ → List ℕ) → ℕ → Item → Type 0
-IsItemWord netlist patterns words i (Group block at) = i ≡ slice_index (words block) at
-IsItemWord netlist patterns words i (Jump step) =
-    IsLeastFit (λ word. FitsJump netlist word (operation_in netlist patterns step)) i
+-- the item's setting that keeps the data memory and the mode
+abbrev pub IsItemWord : Netlist → Option ℕ → List Pattern → (ℕ → List ℕ) → ℕ → Item → Type 0
+IsItemWord netlist special patterns words i (Group block at) = i ≡ slice_index (words block) at
+IsItemWord netlist special patterns words i (Jump step) =
+    IsLeastFit (λ word. FitsTurn netlist special word (operation_in netlist patterns step)) i
 
 -- the words of items stand in the code one after the other, from an address on
-abbrev pub StandItems : Netlist → List Pattern → (ℕ → List ℕ) → List ℕ → ℕ → List Item → Type 0
-StandItems netlist patterns words code at [] = Unit {0}
-StandItems netlist patterns words code at (item ∷ items) =
-    IsItemWord netlist patterns words (slice_index code at) item × StandItems netlist patterns words code (at + 1) items
+abbrev pub StandItems : Netlist → Option ℕ → List Pattern → (ℕ → List ℕ) → List ℕ → ℕ → List Item → Type 0
+StandItems netlist special patterns words code at [] = Unit {0}
+StandItems netlist special patterns words code at (item ∷ items) =
+    IsItemWord netlist special patterns words (slice_index code at) item
+    × StandItems netlist special patterns words code (at + 1) items
 
 -- the steps of an item's word: those of its group, by the blocks' groups, or the jump or branch
 -- alone

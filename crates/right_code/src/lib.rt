@@ -3,11 +3,14 @@
 //! Promise: `law_of_programs`: an image that is made for a checked task is right code, which traces
 //! the program (`IsMadeFor`, `IsRightImage`, `IsChecked`), where the code has room for its words
 //! and jumps reach them all (`reach`), as they do where they reach as far as the bound (`bound`).
-//! The netlist may have a register file; the code keeps the program's cells in the data memory.
+//! The netlist may have a register file; the code keeps the program's cells in the data memory. It
+//! may have modes: such code starts in mode 0 and comes to each mark in it, and a block is cut at
+//! the words that put the mode.
 //! `law_of_block_words`, `law_of_test_words` and `law_of_jump_words`: each step and each jump of
 //! such code has a word. `law_of_chosen`: a chosen cover has a cell for each of its cuts.
-//! `law_of_lists`, `law_of_costs` and `law_of_bare`: what the definitions ask for is one: the
-//! forms, the costs, the bound, the first tree without a cover.
+//! `law_of_lists`, `law_of_isas`, `law_of_costs` and `law_of_bare`: what the definitions ask for is
+//! one: the forms, the instruction set of each mode, the costs, the bound, the first tree without a
+//! cover.
 //!
 //! There is no code to run here: this crate says what `net_code` has to make, over the netlist and
 //! the program alone, so that neither ids nor sets occur in the definition of right code.
@@ -17,11 +20,12 @@
 //! - `laws`: what is one for a task, and that an image made for it is right code.
 //! - `words`: that each step and each jump of a task's code has a word.
 //! - `specs/`, cited by public contracts: `Tasks` (what two files say together), `Forms`,
-//!   `Covered`, `Bounded`, `Words`, `Images` (the definition of right code), `Jobs` (the steps of
-//!   jobs), `Laid`, `Forks`.
+//!   `Covered`, `Bounded`, `Words`, `Cuts` (a block's jobs cut at the mode words), `Images` (the
+//!   definition of right code), `Jobs` (the steps of jobs), `Laid`, `Forks`.
 //! - `specs/Inner/`, between the definition of an image and its trace: `Blocks`, `Code`, `Known`,
 //!   `Jobs`, `Laid` and `Forks`.
-//! - `proofs/`: `Right` on top; `Chosen`, `Ordered`, `Coded` from the image to the trace; `Plain`,
+//! - `proofs/`: `Right` on top; `Made`, `Given`, `Chosen`, `Ordered`, `Coded` from the image to the
+//!   trace; `Kept` and `ModeKept` for forms that keep the mode; `Plain`,
 //!   `Listed`, `Turning`, `Turns`, `Swapping` for forms; `Standing`, `Layouts`, `Walked`, `Forked`,
 //!   `Branching`, `Ways` for words; `Worded` and `Jumping` for the laws of words; `OneForms`,
 //!   `OneBound`, `Bare` for what is one. docs/ARCHITECTURE.md goes through them in order.
@@ -30,5 +34,7 @@
 mod laws;
 mod words;
 
-pub use laws::{law_of_bare, law_of_chosen, law_of_costs, law_of_lists, law_of_programs};
+pub use laws::{
+    law_of_bare, law_of_chosen, law_of_costs, law_of_isas, law_of_lists, law_of_programs,
+};
 pub use words::{law_of_block_words, law_of_jump_words, law_of_test_words};

@@ -8,7 +8,7 @@ use crate::fault::RowFault;
 use crate::text::put;
 use form_model::{Form, Forms, Goal, RegSet, Target};
 use form_set::forms;
-use net_extract::{Extracted, read_extracted};
+use net_extract::{Isa, read_extracted_taken};
 use net_model::{Checked, Expr, Space};
 use rec_bits::NoMemory;
 use std::alloc::{AllocError, Global};
@@ -22,14 +22,10 @@ pub struct NetForms {
 }
 
 // The forms of a netlist that was extracted, and how many patterns it has.
-fn forms_in(
-    alloc: Global,
-    checked: &Checked,
-    extracted: &mut Extracted,
-) -> Result<(Forms, u32), NoMemory>
+fn forms_in(alloc: Global, checked: &Checked, extracted: &mut Isa) -> Result<(Forms, u32), NoMemory>
     requires { IsExtractedFrom checked.now.netlist extracted.old }
 {
-    let Extracted {
+    let Isa {
         book,
         pool,
         patterns,
@@ -57,11 +53,14 @@ fn with_forms(
     }
 }
 
+// The newest edition of the netlists whose forms are told.
+const EDITION: u8 = 2;
+
 // The forms of a netlist's text, which has at most 1,048,576 bytes.
 fn read_forms(alloc: Global, bytes: &[u8]) -> Result<NetForms, RowFault>
     requires { length bytes.now ≤ 1048576 }
 {
-    let (checked, mut extracted) = read_extracted(alloc, bytes)?;
+    let (checked, mut extracted) = read_extracted_taken(alloc, bytes, EDITION)?;
     let found = forms_in(alloc, &checked, &mut extracted);
     drop(extracted);
     with_forms(checked, found)

@@ -5,14 +5,17 @@ ghost use Rattle.std.specs.Prelude.{◌≤◌, length};
 use crate::fault::RowFault;
 use crate::text::put;
 use crate::words::{Compared, Found, compare_words};
-use net_extract::read_extracted;
+use net_extract::read_extracted_taken;
 use std::alloc::{AllocError, Global};
+
+// The newest edition of the netlists whose words are compared.
+const EDITION: u8 = 2;
 
 // What is found of a text, which has at most 1,048,576 bytes.
 fn counted(alloc: Global, bytes: &[u8]) -> Result<Found, RowFault>
     requires { length bytes.now ≤ 1048576 }
 {
-    let mut read = read_extracted(alloc, bytes)?;
+    let mut read = read_extracted_taken(alloc, bytes, EDITION)?;
     let found = compare_words(alloc, &read.0, &mut read.1);
     drop(read);
     Ok(found?)

@@ -8,7 +8,7 @@ ghost use Rattle.row_texts.specs.declared.words.TheConstants.{MOST_BITS};
 ghost use Rattle.transfer_set.specs.Tables.{AreSets};
 
 use bit_bdd::{Book, SetId};
-use net_extract::Extracted;
+use net_extract::Isa;
 use net_model::Checked;
 use rec_bits::NoMemory;
 use std::alloc::Global;
@@ -139,11 +139,11 @@ fn compare_all(
 pub fn compare_words(
     alloc: Global,
     checked: &Checked,
-    extracted: &mut Extracted,
+    extracted: &mut Isa,
 ) -> Result<Found, NoMemory>
     requires { IsExtractedFrom checked.now.netlist extracted.old }
 {
-    let Extracted {
+    let Isa {
         book,
         pool,
         patterns,

@@ -9,54 +9,44 @@ use Rattle.net_model.specs.declared.states.State.{State}
 use Rattle.net_model.specs.Nets.{memory_size, memory_width}
 use Rattle.src_model.specs.declared.program.Cmp.{Cmp}
 use Rattle.src_model.specs.declared.program.Cmp.TheVariants.{Ne}
-use Rattle.src_model.specs.declared.checkpoint.Checkpoint.TheVariants.{At}
+use Rattle.src_model.specs.declared.checkpoint.Checkpoint.TheVariants.{At, End as TheEnd}
 use Rattle.src_model.specs.declared.program.Var.{Var as Declared}
-use Rattle.src_model.specs.Written.{Phrase, Place, Test as Tested, plain, num, Act, assign, choice, while, count, Acts, no_acts, act, Otherwise, without, otherwise}
+use Rattle.src_model.specs.Written.{Phrase, Place, Test as Tested, plain, num, Act, assign, choice, while, count, Acts, no_acts, act, Otherwise, without, otherwise, Listing, acts_of}
 use Rattle.src_model.specs.Sizes.{statements, statements_in}
 use Rattle.src_model.specs.Loops.{Round, place_shape}
-use Rattle.src_model.specs.Meaning.{cell_count, assigned, holds}
+use Rattle.src_model.specs.Meaning.{cell_count, assigned, holds, FitsStore}
 use Rattle.src_model.specs.Ways.{Onward, pass, choose, loop, finish}
-use Rattle.src_model.specs.Trace.{started, stepped, counting, after_change, run_act, run_in, run_else}
-use Rattle.src_model.proofs.WayLemmas.{Keeps}
-use Rattle.src_model.proofs.TraceLemmas.{counted_body, body_keeps, counted_keeps}
+use Rattle.src_model.specs.Trace.{started, stepped, counting, after_change, run_act, run_in, run_else, strace}
+use Rattle.src_model.proofs.WayLemmas.{Keeps, finish_whole, finish_steady}
+use Rattle.src_model.proofs.TraceLemmas.{counted_body, body_keeps, counted_keeps, in_whole, in_steady}
 use Rattle.code_model.specs.declared.image.Image.{Image}
-use Rattle.code_model.specs.Places.{words_of, label_at, cells_at, places_from}
+use Rattle.code_model.specs.Places.{label_at, cells_at, places_from}
 use Rattle.code_model.specs.Layout.{variables_of}
-use Rattle.code_model.specs.Machine.{store_in, IsAt}
-use Rattle.code_model.specs.Inner.Flow.{Follows, Stands, Leads, Tests}
+use Rattle.code_model.specs.Machine.{label_in, store_in, IsCalm, IsRestful}
+use Rattle.code_model.specs.Inner.Flow.{Leads, Tests, Follows, Rests, Stands}
+use Rattle.code_model.specs.Flow.{Goes, GoesTo}
+use Rattle.code_model.specs.Right.{TracesRight}
 use Rattle.code_model.proofs.Flowing.{block_stands, end_stands, test_stands, loop_stands, stands_less}
+use Rattle.code_model.proofs.Traces.{traces_right}
 use Rattle.form_model.specs.declared.flow.Flow.{Flow}
 use Rattle.form_model.specs.declared.flow.Flow.TheVariants.{Assign, Test, Jump, End}
-use Rattle.src_trees.specs.Lowered.{MemoryMap, Work, holds_at_one, assign_work, test_work, start_work, counting_work, step_work, works, works_in, works_else}
+use Rattle.src_trees.specs.Lowered.{MemoryMap, Work, holds_at_one, assign_work, test_work, start_work, counting_work, step_work, works, works_in, works_else, answer}
 use Rattle.net_model.specs.Widths.{IsState}
 use Rattle.net_model.specs.Clock.{counter_in}
-use Rattle.net_model.specs.Control.{IsSound}
-use Rattle.src_model.specs.Written.{Listing, acts_of}
-use Rattle.src_model.specs.Meaning.{FitsStore}
 use Rattle.src_model.specs.Rules.{first_fault}
-use Rattle.src_model.specs.Trace.{strace}
-use Rattle.src_model.proofs.WayLemmas.{finish_whole, finish_steady}
-use Rattle.code_model.specs.Right.{TracesRight}
-use Rattle.code_model.proofs.Heads.{shows_of}
-use Rattle.code_model.proofs.Ending.{run_fits, stays_at, StaysAt}
-use Rattle.src_trees.specs.Flows.{program_flow, program_works}
+use Rattle.src_trees.specs.Flows.{program_flow, program_works, places_for, places_in, places_else, else_entry, asked, flow_of, flow_in, flow_else}
 use Rattle.src_model.proofs.SoundLemmas.{program_sound}
-use Rattle.src_model.proofs.TraceLemmas.{in_whole, in_steady}
-use Rattle.src_trees.proofs.Parts.{stand_all}
-use Rattle.src_trees.specs.Flows.{places_for, places_in, places_else, else_entry, asked, flow_of, flow_in, flow_else}
+use Rattle.src_trees.proofs.Parts.{stand_all, Stand, stand_left, stand_right, in_length, works_in_length, works_length, flow_length, all_done_more, all_lie_more, all_done_length, all_are_at, or_former, or_later, entered_by, begins_entered, begins_other, begins_behind}
 use Rattle.src_trees.specs.Seen.{memory_map, seen_store, tree_value, InReach}
 use Rattle.src_trees.specs.Doing.{done, all_done, Lies, AllLie, AllAre}
 use Rattle.src_model.specs.Inner.Sound.{Holds, Turns, SoundAssign, SoundTest, SoundCount, Sound, SoundIn, SoundElse}
 use Rattle.src_trees.specs.Blocks.{is_assign, enters, continues, IsAssignBlock, job_list, job_at, jobs_at}
 use Rattle.src_trees.specs.Placed.{Comes, DoesJobs, DoesTest, JumpComes, IsPlaced}
-use Rattle.src_trees.proofs.Cells.{seen_behind}
+use Rattle.src_trees.proofs.Cells.{seen_behind, seen_length, seen_below}
 use Rattle.src_model.specs.Fitting.{FitsSides}
-use Rattle.src_trees.proofs.Cells.{seen_length, seen_below}
 use Rattle.src_model.proofs.RangeLemmas.{inside}
 use Rattle.src_model.proofs.CounterLemmas.{assign_holds, start_turns, turn_holds, step_turns}
-use Rattle.src_trees.specs.Lowered.{answer}
 use Rattle.src_trees.proofs.Done.{assign_done, start_done, step_done, test_asked}
-use Rattle.src_trees.proofs.Parts.{Stand, stand_left, stand_right, in_length, works_in_length, works_length, flow_length, all_done_more, all_lie_more, all_done_length, all_are_at, or_former, or_later, entered_by, begins_entered, begins_other, begins_behind}
 
 -- what a store keeps at a place: in the bodies of loops, or at the test of a `for` within them
 data Phase : Type 0 where
@@ -101,21 +91,24 @@ module _ (netlist : Netlist) (image : Image) (bits addr temps : ℕ) (vars : Lis
     first : continues flow b ≡ false
     inner : (k : ℕ) → k < n → 0 < k → continues flow (b + k) ≡ true
     assigns : (k : ℕ) → k < n → is_assign (slice_get flow (b + k)) ≡ true
-    lie : (s : State) → IsAt netlist (starts b) s → Meets bits vars c (store_in image s) → AllLie temps s.cells (jobs_at flow jobs b n)
-    store : (s : State) → IsAt netlist (starts b) s → Meets bits vars c (store_in image s) → seen_store mem (all_done (jobs_at flow jobs b n) s.cells) ≡ g (store_in image s)
-    meets : (s : State) → IsAt netlist (starts b) s → Meets bits vars c (store_in image s) → Meets bits vars j (g (store_in image s))
+    lie : (s : State) → IsCalm netlist (starts b) s → Meets bits vars c (store_in image s) → AllLie temps s.cells (jobs_at flow jobs b n)
+    store : (s : State) → IsCalm netlist (starts b) s → Meets bits vars c (store_in image s) → seen_store mem (all_done (jobs_at flow jobs b n) s.cells) ≡ g (store_in image s)
+    meets : (s : State) → IsCalm netlist (starts b) s → Meets bits vars c (store_in image s) → Meets bits vars j (g (store_in image s))
 
   -- the states at a place where a block or something else begins
   abbrev Stated : ℕ → Phase → State → Type 0
-  Stated i j s = IsAt netlist (starts i) s × Meets bits vars j (store_in image s)
+  Stated i j s = IsCalm netlist (starts i) s × Meets bits vars j (store_in image s)
+
+  restful : (i : ℕ) (j : Phase) (s : State) → Stated i j s → IsRestful netlist s
+  restful i j s q = record { state = q.0.here.state; mode = q.0.mode }
 
   abbrev StandsAt : ℕ → Phase → Onward → ℕ → Type 0
-  StandsAt i j way m = Stands netlist image (starts end) (starts end - starts i) (Stated i j) way m
+  StandsAt i j way m = Stands netlist image (IsRestful netlist) (starts end) (starts end - starts i) (Stated i j) way m
 
   -- at any place, maybe in a block's middle
   abbrev StandsIn : ℕ → Phase → Onward → ℕ → Type 0
   StandsIn i j way m = (b n : ℕ) (c : Phase) (g : List ℕ → List ℕ) → Pending i b n c j g →
-      Stands netlist image (starts end) (starts end - starts b) (Stated b c) (λ more cells. way more (g cells)) m
+      Stands netlist image (IsRestful netlist) (starts end) (starts end - starts b) (Stated b c) (λ more cells. way more (g cells)) m
 
   nothing_pending : (i : ℕ) (j : Phase) → continues flow i ≡ false → Pending i i 0 j j (λ cells. cells)
   nothing_pending i j e = record {
@@ -136,10 +129,10 @@ module _ (netlist : Netlist) (image : Image) (bits addr temps : ℕ) (vars : Lis
   closed i j way m within e h b zero c g p = λ k le s q.
       let f : i ≡ b = (let x = p.here in omega arith) in
       let same : store_in image s ≡ g (store_in image s) = store_is s ∙ p.store s q.0 q.1 in
-      let here : IsAt netlist (starts i) s = subst (λ (x : ℕ). IsAt netlist (starts x) s) (sym f) q.0 in
+      let here : IsCalm netlist (starts i) s = subst (λ (x : ℕ). IsCalm netlist (starts x) s) (sym f) q.0 in
       let meets : Meets bits vars j (store_in image s) = subst (Meets bits vars j) (sym same) (p.meets s q.0 q.1) in
-      subst (λ (x : ℕ). Follows netlist image (starts end) (starts end - starts x) s (way k (g (store_in image s)))) f
-      (subst (λ cells. Follows netlist image (starts end) (starts end - starts i) s (way k cells)) same (h k le s (here, meets)))
+      subst (λ (x : ℕ). Follows netlist image (IsRestful netlist) (starts end) (starts end - starts x) s (way k (g (store_in image s)))) f
+      (subst (λ cells. Follows netlist image (IsRestful netlist) (starts end) (starts end - starts i) s (way k cells)) same (h k le s (here, meets)))
   closed i j way m within e h b (suc n) c g p =
       let block : IsAssignBlock flow b (suc n) =
       record { some = omega arith; assigns = p.assigns; first = p.first; inner = p.inner; last = subst (λ x. continues flow x ≡ false) (sym p.here) e } in
@@ -147,7 +140,7 @@ module _ (netlist : Netlist) (image : Image) (bits addr temps : ℕ) (vars : Lis
       subst (λ x. DoesJobs netlist image temps (jobs_at flow jobs b (suc n)) (starts b) (starts x)) p.here (placed.blocks b (suc n) block) in
       let up : starts i ≤ starts end = placed.rises i end within in
       let later = d.later in
-      block_stands netlist image (starts end) (starts end - starts b) (starts end - starts i) d.clocks (Stated b c) (Stated i j) g way m (omega arith)
+      block_stands netlist image (IsRestful netlist) (starts end) (starts end - starts b) (starts end - starts i) d.clocks (Stated b c) (Stated i j) g way m (omega arith)
       (λ s q.
       let t : Comes netlist image temps (starts i) (all_done (jobs_at flow jobs b (suc n)) s.cells) d.clocks s = d.does s q.0 (p.lie s q.0 q.1) in
       let is : store_in image t.last ≡ g (store_in image s) = store_is t.last ∙ seen_behind temps vars _ _ t.same ∙ p.store s q.0 q.1 in
@@ -198,17 +191,17 @@ module _ (netlist : Netlist) (image : Image) (bits addr temps : ℕ) (vars : Lis
       by_assigns x item (inl less) = p.assigns x less
       by_assigns x item (inr same) = ap (λ y. is_assign (slice_get flow (b + y))) same ∙ ap is_assign item
 
-      long : (s : State) → IsAt netlist (starts b) s → temps + cell_count vars ≤ length (all_done (jobs_at flow jobs b n) s.cells)
-      long s a = let e = all_done_length (jobs_at flow jobs b n) s.cells in let f = a.state.cells InMemory in omega (arith, room)
+      long : (s : State) → IsCalm netlist (starts b) s → temps + cell_count vars ≤ length (all_done (jobs_at flow jobs b n) s.cells)
+      long s a = let e = all_done_length (jobs_at flow jobs b n) s.cells in let f = a.here.state.cells InMemory in omega (arith, room)
 
-      met : (s : State) → IsAt netlist (starts b) s → Meets bits vars c (store_in image s) → Meets bits vars j (seen_store mem (all_done (jobs_at flow jobs b n) s.cells))
+      met : (s : State) → IsCalm netlist (starts b) s → Meets bits vars c (store_in image s) → Meets bits vars j (seen_store mem (all_done (jobs_at flow jobs b n) s.cells))
       met s a m = subst (Meets bits vars j) (sym (p.store s a m)) (p.meets s a m)
 
   assigned_stands : (i : ℕ) (j k : Phase) (change : List ℕ → List ℕ) (tree : ℕ) (work : Work) (way : Onward) (m : ℕ) → i ≤ end → slice_get flow i ≡ Some (Assign tree) → slice_get jobs tree ≡ Some work → Does work j k change
       → StandsIn (i + 1) k way m → StandsIn i j (after_change change way) m
   assigned_stands i j k change tree work way m within at_flow at_jobs does h b n c g p = by (continues flow i) refl
     where
-      by : (t : Bool) → continues flow i ≡ t → Stands netlist image (starts end) (starts end - starts b) (Stated b c) (λ more cells. after_change change way more (g cells)) m
+      by : (t : Bool) → continues flow i ≡ t → Stands netlist image (IsRestful netlist) (starts end) (starts end - starts b) (Stated b c) (λ more cells. after_change change way more (g cells)) m
       by true e = h b (suc n) c (λ cells. change (g cells)) (one_more i b n c j k g change tree work at_flow at_jobs does (inr e) p)
       by false e =
           closed i j (after_change change way) m within e (h i 1 j change (one_more i i 0 j j k (λ cells. cells) change tree work at_flow at_jobs does (inl refl) (nothing_pending i j e))) b n c g p
@@ -216,7 +209,7 @@ module _ (netlist : Netlist) (image : Image) (bits addr temps : ℕ) (vars : Lis
   -- ---- jumps
 
   comes_leads : (a clocks : ℕ) (s next : State) (k : Phase) → Comes netlist image temps a s.cells clocks next → Meets bits vars k (store_in image s)
-      → Leads netlist image (λ u. IsAt netlist a u × Meets bits vars k (store_in image u)) (store_in image s) clocks next
+      → Leads netlist image (λ u. IsCalm netlist a u × Meets bits vars k (store_in image u)) (store_in image s) clocks next
   comes_leads a clocks s next k t m =
       let is : store_in image t.last ≡ store_in image s = store_is t.last ∙ seen_behind temps vars _ _ t.same ∙ sym (store_is s) in
       record { taken = t.taken; last = t.last; within = t.within; reaches = t.reaches; holds = (t.here, subst (Meets bits vars k) (sym is) m); store = is }
@@ -228,16 +221,16 @@ module _ (netlist : Netlist) (image : Image) (bits addr temps : ℕ) (vars : Lis
       let b = placed.rises (i + 1) to (omega arith) in
       let c = placed.rises to end within in
       closed i j way m (omega arith) (begins_other flow i (Jump to) at_flow refl)
-      (block_stands netlist image (starts end) (starts end - starts i) (starts end - starts to) 1 (Stated i j) (Stated to j) (λ cells. cells) way m (omega arith)
+      (block_stands netlist image (IsRestful netlist) (starts end) (starts end - starts i) (starts end - starts to) 1 (Stated i j) (Stated to j) (λ cells. cells) way m (omega arith)
       (λ s q. comes_leads (starts to) 1 s s j (d.goes s q.0) q.1) h)
 
-  jumped_back : (i to : ℕ) (j : Phase) (way : Onward) (m : ℕ) → i + 1 ≤ end → slice_get flow i ≡ Some (Jump to) → Stands netlist image (starts end) 0 (Stated to j) way m → StandsIn i j way m
+  jumped_back : (i to : ℕ) (j : Phase) (way : Onward) (m : ℕ) → i + 1 ≤ end → slice_get flow i ≡ Some (Jump to) → Stands netlist image (IsRestful netlist) (starts end) 0 (Stated to j) way m → StandsIn i j way m
   jumped_back i to j way m within at_flow h =
       let d : JumpComes netlist image temps (starts i) (starts to) = placed.jumps i to at_flow in
       let a = placed.behind_jump i to at_flow in
       let b = placed.rises (i + 1) end within in
       closed i j way m (omega arith) (begins_other flow i (Jump to) at_flow refl)
-      (block_stands netlist image (starts end) (starts end - starts i) 0 1 (Stated i j) (Stated to j) (λ cells. cells) way m (omega arith)
+      (block_stands netlist image (IsRestful netlist) (starts end) (starts end - starts i) 0 1 (Stated i j) (Stated to j) (λ cells. cells) way m (omega arith)
       (λ s q. comes_leads (starts to) 1 s s j (d.goes s q.0) q.1) h)
 
   -- ---- tests
@@ -261,7 +254,7 @@ module _ (netlist : Netlist) (image : Image) (bits addr temps : ℕ) (vars : Lis
   asking i tree yes_to no_to work cmp test j k other at_flow at_jobs tells = by (holds_at_one cmp) refl at_flow
     where
       long : (s : State) → Stated i j s → temps + cell_count vars ≤ length s.cells
-      long s q = let f = q.0.state.cells InMemory in omega (arith, room)
+      long s q = let f = q.0.here.state.cells InMemory in omega (arith, room)
 
       met : (s : State) → Stated i j s → Meets bits vars j (seen_store mem s.cells)
       met s q = subst (Meets bits vars j) (store_is s) q.1
@@ -318,21 +311,21 @@ module _ (netlist : Netlist) (image : Image) (bits addr temps : ℕ) (vars : Lis
       let yes_later = asks.yes_later in
       let no_later = asks.no_later in
       closed i j (pass (At tree) (choose test a b)) m le (begins_other flow i (asked cmp tree yes_to no_to) at_flow (asked_other cmp tree yes_to no_to))
-      (stands_less netlist image (starts end) (starts end - starts i) (Stated i j) (pass (At tree) (choose test a b)) m
-      (test_stands netlist image (starts end) (starts end - starts i) (starts end - starts yes_to) (starts end - starts no_to) asks.clocks (Stated i j) (Stated yes_to k) (Stated no_to other) tree test a b m
-      (omega arith) (omega arith) asks.tests p q))
+      (stands_less netlist image (IsRestful netlist) (starts end) (starts end - starts i) (Stated i j) (pass (At tree) (choose test a b)) m
+      (test_stands netlist image (IsRestful netlist) (starts end) (starts end - starts i) (starts end - starts yes_to) (starts end - starts no_to) asks.clocks (Stated i j) (Stated yes_to k) (Stated no_to other) tree test a b m
+      (omega arith) (omega arith) (restful i j) asks.tests p q))
 
   loop_in : (i tree yes_to no_to : ℕ) (cmp : Cmp) (test : List ℕ → Bool) (j k other : Phase) (inner : Onward → Onward) (way : Onward) (m : ℕ) → i ≤ end → yes_to ≤ end → no_to ≤ end
       → slice_get flow i ≡ Some (asked cmp tree yes_to no_to) → Asking i tree yes_to no_to test j k other → Keeps inner
-      → ((next : Onward) (n : ℕ) → Stands netlist image (starts end) 0 (Stated i j) next n → StandsAt yes_to k (inner next) n) → StandsAt no_to other way m → StandsIn i j (loop (At tree) test inner way) m
+      → ((next : Onward) (n : ℕ) → Stands netlist image (IsRestful netlist) (starts end) 0 (Stated i j) next n → StandsAt yes_to k (inner next) n) → StandsAt no_to other way m → StandsIn i j (loop (At tree) test inner way) m
   loop_in i tree yes_to no_to cmp test j k other inner way m le ly ln at_flow asks keeps through q =
       let up_yes = placed.rises yes_to end ly in
       let up_no = placed.rises no_to end ln in
       let yes_later = asks.yes_later in
       let no_later = asks.no_later in
       closed i j (loop (At tree) test inner way) m le (begins_other flow i (asked cmp tree yes_to no_to) at_flow (asked_other cmp tree yes_to no_to))
-      (loop_stands netlist image (starts end) (starts end - starts i) (starts end - starts yes_to) (starts end - starts no_to) asks.clocks (Stated i j) (Stated yes_to k) (Stated no_to other) tree test inner way
-      (omega arith) (omega arith) asks.tests keeps through m q)
+      (loop_stands netlist image (IsRestful netlist) (starts end) (starts end - starts i) (starts end - starts yes_to) (starts end - starts no_to) asks.clocks (Stated i j) (Stated yes_to k) (Stated no_to other) tree test inner way
+      (omega arith) (omega arith) (restful i j) asks.tests keeps through m q)
 
   -- ---- what the jobs of statements do
 
@@ -501,11 +494,24 @@ start_fits netlist image bits temps vars s wide room places h =
       below = seen_below (2 ^ bits) temps vars s.cells (λ c. subst (λ w. slice_index s.cells c < 2 ^ w) wide (h.fits.cells InMemory c));
     })
 
+-- at the end a clock leads to the end
+end_rests : (netlist : Netlist) (image : Image) (last : ℕ) → GoesTo netlist image last last → label_at image.marks last ≡ Some TheEnd
+    → ((a : ℕ) → label_at image.marks a ≡ Some TheEnd → a ≡ last) → (s : State) → IsRestful netlist s → label_in netlist image s ≡ Some TheEnd → Rests netlist image (IsRestful netlist) s
+end_rests netlist image last word label only s h e =
+    let g : Goes netlist image last s = word.goes s (record { here = record { state = h.state; counter = only (counter_in netlist s) e }; mode = h.mode }) in
+    record {
+      next = g.next;
+      clocked = g.clocked;
+      label = ap (label_at image.marks) g.here.here.counter ∙ label;
+      holds = record { state = g.here.here.state; mode = g.here.mode };
+      same = ap (cells_at image.places) g.same;
+    }
+
 -- words that do what a program's flow says trace the program
-pub placed_right : (netlist : Netlist) (image : Image) (bits addr temps : ℕ) (l : Listing) (starts : ℕ → ℕ) → IsSound netlist → first_fault bits l ≡ None → memory_width netlist.storages ≡ bits → InReach bits addr temps l.vars
+pub placed_right : (netlist : Netlist) (image : Image) (bits addr temps : ℕ) (l : Listing) (starts : ℕ → ℕ) → first_fault bits l ≡ None → memory_width netlist.storages ≡ bits → InReach bits addr temps l.vars
     → temps + cell_count l.vars ≤ memory_size netlist.storages → image.places ≡ places_from temps (variables_of l.vars)
     → IsPlaced netlist image temps (program_flow l) (program_works (memory_map bits addr temps l.vars) l) starts (places_in (acts_of l.body)) → TracesRight netlist image (strace bits l)
-placed_right netlist image bits addr temps l starts sound kept wide inreach room places placed =
+placed_right netlist image bits addr temps l starts kept wide inreach room places placed =
     let acts : Acts = acts_of l.body in
     let m : MemoryMap = memory_map bits addr temps l.vars in
     let end : ℕ = places_in (acts_of l.body) in
@@ -518,19 +524,14 @@ placed_right netlist image bits addr temps l starts sound kept wide inreach room
     (let e : end ≡ 0 + end = omega arith in
     subst (λ n. StandsIn netlist image bits addr temps l.vars (program_flow l) (program_works m l) starts end room places placed n (body []) finish k) e
     (closed netlist image bits addr temps l.vars (program_flow l) (program_works m l) starts end room places placed end (body []) finish k (omega arith) (begins_other (program_flow l) end End at_end refl)
-    (end_stands netlist image (starts end) (starts end - starts end) (λ s. IsAt netlist (starts end) s × Meets bits l.vars (body []) (store_in image s)) k
-    (λ s q. ap (label_at image.marks) q.0.counter ∙ placed.end_label))))) in
-    record {
-      shows = λ s here n.
-          let first : IsAt netlist (starts 0) s = subst (λ a. IsAt netlist a s) (sym placed.first) here in
-          let none : starts end - starts 0 ≡ starts end = (let f = placed.first in omega arith) in
-          shows_of netlist image (run_in bits l.vars (acts_of l.body) 0 finish) s (starts end) placed.long
-          (λ j. in_whole bits l.vars (acts_of l.body) 0 j finish (finish_whole j)) (λ j. in_steady bits l.vars (acts_of l.body) 0 j finish (finish_steady j))
-          (λ k. subst (λ d. Follows netlist image (starts end) d s (run_in bits l.vars (acts_of l.body) 0 finish k (store_in image s))) none
-          (stands k k (omega arith) s (first, record { fits = start_fits netlist image bits temps l.vars s wide room places here.state; counts = tt }))) n;
-      stays = λ s t here k runs ended n.
-          let state : IsState netlist t = run_fits netlist image sound k s t 0 placed.fits here.state runs in
-          let h : StaysAt netlist image sound t 0 n =
-          stays_at netlist image sound (slice_index (words_of image) (starts end)) (starts end) n t 0 placed.end_word refl (record { state = state; counter = placed.end_only (counter_in netlist t) ended }) in
-          record { last = h.last; runs = h.runs; same = h.same };
-    }
+    (end_stands netlist image (IsRestful netlist) (starts end) (starts end - starts end) (λ s. IsCalm netlist (starts end) s × Meets bits l.vars (body []) (store_in image s)) k
+    (λ s q. record { state = q.0.here.state; mode = q.0.mode })
+    (λ s q. ap (label_at image.marks) q.0.here.counter ∙ placed.end_label))))) in
+    let none : starts end - starts 0 ≡ starts end = (let f = placed.first in omega arith) in
+    traces_right netlist image (run_in bits l.vars (acts_of l.body) 0 finish) (starts end) placed.long
+    (λ j. in_whole bits l.vars (acts_of l.body) 0 j finish (finish_whole j)) (λ j. in_steady bits l.vars (acts_of l.body) 0 j finish (finish_steady j))
+    (λ s h e. end_rests netlist image (starts end) placed.end_word placed.end_label placed.end_only s h e)
+    (λ s here k.
+    let first : IsCalm netlist (starts 0) s = subst (λ a. IsCalm netlist a s) (sym placed.first) here in
+    subst (λ d. Follows netlist image (IsRestful netlist) (starts end) d s (run_in bits l.vars (acts_of l.body) 0 finish k (store_in image s))) none
+    (stands k k (omega arith) s (first, record { fits = start_fits netlist image bits temps l.vars s wide room places here.here.state; counts = tt })))

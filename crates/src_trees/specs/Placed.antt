@@ -1,17 +1,15 @@
 -- When the words of an image do what a flow says: where each place of the flow stands, and where
--- the words there lead.
-use Rattle.std.specs.Prelude.{ℕ, ◌+◌, ◌<◌, ◌≤◌, ◌≡◌, List, length, drop, slice_index, slice_get, Some}
+-- the words there lead. At each address that the flow names the machine is in mode 0.
+use Rattle.std.specs.Prelude.{ℕ, ◌+◌, ◌<◌, ◌≤◌, ◌≡◌, List, length, drop, slice_get, Some}
 use Rattle.net_model.specs.declared.hardware.Netlist.{Netlist}
 use Rattle.net_model.specs.declared.states.State.{State}
 use Rattle.net_model.specs.Terms.{Term}
-use Rattle.net_model.specs.Widths.{WordFits}
 use Rattle.net_model.specs.Clock.{clock, Next}
 use Rattle.src_model.specs.declared.checkpoint.Checkpoint.TheVariants.{At, End as TheEnd}
 use Rattle.code_model.specs.declared.image.Image.{Image}
 use Rattle.code_model.specs.Places.{words_of, label_at}
-use Rattle.code_model.specs.Machine.{label_in, IsAt}
-use Rattle.code_model.specs.Flow.{Reaches}
-use Rattle.code_model.specs.Words.{DoesGoto}
+use Rattle.code_model.specs.Machine.{label_in, IsCalm}
+use Rattle.code_model.specs.Flow.{Reaches, GoesTo}
 use Rattle.form_model.specs.declared.flow.Flow.{Flow}
 use Rattle.form_model.specs.declared.flow.Flow.TheVariants.{Test, Jump}
 use Rattle.src_trees.specs.Lowered.{Work}
@@ -27,14 +25,14 @@ pub record Comes (netlist : Netlist) (image : Image) (temps address : ℕ) (cell
   pub last : State
   pub within : taken ≤ clocks
   pub reaches : Reaches netlist image s taken last
-  pub here : IsAt netlist address last
+  pub here : IsCalm netlist address last
   pub same : drop temps last.cells ≡ drop temps cells
 
 -- the words from an address do these jobs one after the other and lead to a later address
 pub record DoesJobs (netlist : Netlist) (image : Image) (temps : ℕ) (jobs : List Work) (from to : ℕ) : Type 0 where
   pub clocks : ℕ
   pub later : from + clocks ≤ to
-  pub does : (s : State) → IsAt netlist from s → AllLie temps s.cells jobs →
+  pub does : (s : State) → IsCalm netlist from s → AllLie temps s.cells jobs →
       Comes netlist image temps to (all_done jobs s.cells) clocks s
 
 -- a state at a test's mark leads, by the value of a tree, to one of two addresses, and the cells
@@ -56,12 +54,12 @@ pub record DoesTest (netlist : Netlist) (image : Image) (temps tree : ℕ) (job 
   pub clocks : ℕ
   pub one_later : from + clocks < when_one
   pub zero_later : from + clocks < when_zero
-  pub asks : (s : State) → IsAt netlist from s → Lies temps s.cells job →
+  pub asks : (s : State) → IsCalm netlist from s → Lies temps s.cells job →
       Decides netlist image temps tree used when_one when_zero clocks s
 
 -- the word at an address leads to another in one clock, and the cells stay
 pub record JumpComes (netlist : Netlist) (image : Image) (temps from to : ℕ) : Type 0 where
-  pub goes : (s : State) → IsAt netlist from s → Comes netlist image temps to s.cells 1 s
+  pub goes : (s : State) → IsCalm netlist from s → Comes netlist image temps to s.cells 1 s
 
 -- each place of the flow has its address; those in the middle of a block stand for nothing
 pub record IsPlaced (netlist : Netlist) (image : Image) (temps : ℕ) (flow : List Flow)
@@ -80,5 +78,4 @@ pub record IsPlaced (netlist : Netlist) (image : Image) (temps : ℕ) (flow : Li
   pub long : length (words_of image) ≡ starts end + 1
   pub end_label : label_at image.marks (starts end) ≡ Some TheEnd
   pub end_only : (a : ℕ) → label_at image.marks a ≡ Some TheEnd → a ≡ starts end
-  pub end_word : DoesGoto netlist (slice_index (words_of image) (starts end)) (starts end)
-  pub fits : (a : ℕ) → WordFits netlist (slice_index (words_of image) a)
+  pub end_word : GoesTo netlist image (starts end) (starts end)

@@ -5,7 +5,6 @@
 ghost use Rattle.std.specs.Prelude.{ℕ, ◌≡◌, ◌≤◌, ◌<◌, ◌+◌, List, Some, None};
 ghost use Rattle.rec_bits.specs.Operators.{bit_of};
 ghost use Rattle.net_model.specs.declared.hardware.Netlist.{Netlist};
-ghost use Rattle.net_model.specs.Control.{IsSound};
 ghost use Rattle.net_model.specs.Nets.{memory_size, memory_width};
 ghost use Rattle.src_model.specs.declared.program.Var.{Var as Declared};
 ghost use Rattle.src_model.specs.Written.{Shape, Phrase, Place, Test, Listing, acts_of};
@@ -95,10 +94,11 @@ pub fn law_of_nodes()
 {}
 
 /// An image whose words do what the flow of a program says, each block, test and jump at its
-/// address, traces the program.
+/// address, traces the program, and stands in mode 0 at each mark.
 pub fn law_of_flow()
-    ensures { (netlist : Netlist) (image : Image) (bits addr temps : ℕ) (listing : Listing) (starts : ℕ → ℕ) →
-        IsSound netlist → first_fault bits listing ≡ None → memory_width netlist.storages ≡ bits →
+    ensures { (netlist : Netlist) (image : Image)
+        (bits addr temps : ℕ) (listing : Listing) (starts : ℕ → ℕ) →
+        first_fault bits listing ≡ None → memory_width netlist.storages ≡ bits →
         InReach bits addr temps listing.vars →
         temps + cell_count listing.vars ≤ memory_size netlist.storages →
         image.places ≡ places_from temps (variables_of listing.vars) →

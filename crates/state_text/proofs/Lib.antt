@@ -4,3 +4,4 @@ pub mod Told
 mod Progress
 mod Shown
 mod Rooms
+pub mod Calm

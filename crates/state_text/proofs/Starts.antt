@@ -1,5 +1,5 @@
 -- States that fit a netlist, with the program counter at 0.
-use Rattle.std.proofs.Common.{ap, subst, ◌≡◌, ℕ, zero, suc, ◌^◌, ◌<◌, ◌≤◌, List, [], ◌∷◌, length, get_or, refl, sym, ◌∙◌, arith}
+use Rattle.std.proofs.Common.{ap, subst, ◌≡◌, ℕ, zero, suc, ◌^◌, ◌<◌, ◌≤◌, List, [], ◌∷◌, length, get_or, Option, refl, sym, ◌∙◌, arith}
 use Rattle.std.proofs.Math.ListN.{replicate, set}
 use Rattle.std.proofs.lemmas.List.{length-replicate, get_or-set_other, length-set}
 use Rattle.std.proofs.Math.Nat.{pow-le-pow_right}
@@ -9,6 +9,8 @@ use Rattle.net_model.specs.declared.hardware.Storage.{Storage}
 use Rattle.net_model.specs.declared.states.State.{State}
 use Rattle.net_model.specs.declared.hardware.Space.{Space}
 use Rattle.net_model.specs.declared.hardware.Space.TheVariants.{Memory as InMemory, File as InFile}
+use Rattle.net_model.proofs.Blanks.{blank_state}
+use Rattle.net_model.proofs.Fits.{zeros_at}
 use Rattle.net_model.proofs.Spaces.{by_space}
 use Rattle.net_model.specs.Widths.{StateFits}
 use Rattle.net_model.specs.Nets.{counter_of, size_in, width_in, held, storage_bits, IsRegister}
@@ -18,27 +20,9 @@ use Rattle.state_text.specs.declared.setting.Setting.TheVariants.{Entry, Cell}
 use Rattle.state_text.specs.Settings.{IsStartState}
 use Rattle.state_text.specs.Inner.Settings.{with_setting, SettingFits, IsWithin}
 
-zeros_at : (n i : ℕ) → get_or (replicate {A = ℕ} n 0) i 0 ≡ 0
-zeros_at zero i = refl
-zeros_at (suc n) zero = refl
-zeros_at (suc n) (suc i) = zeros_at n i
-
-some_power : (w : ℕ) → 0 < 2 ^ w
-some_power w = let p : 2 ^ 0 ≤ 2 ^ w = pow-le-pow_right {n = 2} (omega arith) {i = 0} {j = w} (omega arith) in p
-
-zeros_below_in : (netlist : Netlist) (space : Space) (a : ℕ) → get_or (replicate {A = ℕ} (size_in space netlist.storages) 0) a 0 < 2 ^ width_in space netlist.storages
-zeros_below_in netlist space a = let e = zeros_at (size_in space netlist.storages) a in omega (arith, e, some_power (width_in space netlist.storages))
-
 pub blank_start : (netlist : Netlist) → IsStartState netlist (blank netlist.storages)
 blank_start netlist = record {
-  state = record {
-    regs = length-replicate (length netlist.storages) 0;
-    cells = by_space (λ space. length (held (blank netlist.storages) space) ≡ size_in space netlist.storages) (length-replicate (size_in InMemory netlist.storages) 0) (length-replicate (size_in InFile netlist.storages) 0);
-    fits = record {
-      regs = λ (id : ℕ). let e = zeros_at (length netlist.storages) id in omega (arith, e, some_power (storage_bits (slice_get netlist.storages id)));
-      cells = by_space (λ space. (a : ℕ) → get_or (held (blank netlist.storages) space) a 0 < 2 ^ width_in space netlist.storages) (zeros_below_in netlist InMemory) (zeros_below_in netlist InFile);
-    };
-  };
+  state = blank_state netlist;
   counter = zeros_at (length netlist.storages) (counter_of netlist.codes);
 }
 
@@ -51,7 +35,7 @@ set_below (x ∷ xs) zero (suc j) v bound h k = h (suc j)
 set_below (x ∷ xs) (suc i) zero v bound h k = h 0
 set_below (x ∷ xs) (suc i) (suc j) v bound h k = set_below xs i j v (λ n. bound (suc n)) (λ n. h (suc n)) k
 
-regs_stay : (s : State) (space : Space) (address value : ℕ) → (with_cell s space address value).regs ≡ s.regs
+pub regs_stay : (s : State) (space : Space) (address value : ℕ) → (with_cell s space address value).regs ≡ s.regs
 regs_stay s InMemory address value = refl
 regs_stay s InFile address value = refl
 
@@ -70,19 +54,19 @@ cell_fits netlist s InMemory InFile address value h f a = h.cells InFile a
 cell_fits netlist s InFile InMemory address value h f a = h.cells InMemory a
 cell_fits netlist s InFile InFile address value h f a = set_below s.file address a value (λ n. 2 ^ width_in InFile netlist.storages) (h.cells InFile) f
 
-pub keeps_start : (netlist : Netlist) (s : State) (setting : Setting) → IsStartState netlist s → SettingFits netlist setting → IsStartState netlist (with_setting s setting)
-keeps_start netlist s (Entry id value) h f = record {
+pub keeps_start : (netlist : Netlist) (still : Option ℕ) (s : State) (setting : Setting) → IsStartState netlist s → SettingFits netlist still setting → IsStartState netlist (with_setting s setting)
+keeps_start netlist still s (Entry id value) h f = record {
   state = record {
     regs = length-set s.regs id value ∙ h.state.regs;
     cells = h.state.cells;
     fits = record {
-      regs = λ (j : ℕ). set_below s.regs id j value (λ n. 2 ^ storage_bits (slice_get netlist.storages n)) h.state.fits.regs f.2;
+      regs = λ (j : ℕ). set_below s.regs id j value (λ n. 2 ^ storage_bits (slice_get netlist.storages n)) h.state.fits.regs f.3;
       cells = h.state.fits.cells;
     };
   };
   counter = get_or-set_other s.regs id (counter_of netlist.codes) value 0 (λ e. f.1 (sym e)) ∙ h.counter;
 }
-keeps_start netlist s (Cell space address value) h f = record {
+keeps_start netlist still s (Cell space address value) h f = record {
   state = record {
     regs = same_regs s space address value ∙ h.state.regs;
     cells = λ other. cell_long s space other address value ∙ h.state.cells other;
@@ -99,6 +83,6 @@ register_within [] id h = absurd h
 register_within (s ∷ storages) zero h = omega arith
 register_within (s ∷ storages) (suc id) h = omega (arith, register_within storages id h)
 
-pub is_within : (netlist : Netlist) (s : State) (setting : Setting) → IsStartState netlist s → SettingFits netlist setting → IsWithin s setting
-is_within netlist s (Entry id value) h f = omega (arith, register_within netlist.storages id f.0, h.state.regs)
-is_within netlist s (Cell space address value) h f = omega (arith, f.0, h.state.cells space)
+pub is_within : (netlist : Netlist) (still : Option ℕ) (s : State) (setting : Setting) → IsStartState netlist s → SettingFits netlist still setting → IsWithin s setting
+is_within netlist still s (Entry id value) h f = omega (arith, register_within netlist.storages id f.0, h.state.regs)
+is_within netlist still s (Cell space address value) h f = omega (arith, f.0, h.state.cells space)

@@ -1,5 +1,5 @@
 -- Storages of a checked netlist.
-use Rattle.std.proofs.Common.{◌≡◌, ℕ, zero, suc, List, [], ◌∷◌, Some, refl, subst, sym}
+use Rattle.std.proofs.Common.{◌≡◌, ℕ, zero, suc, List, [], ◌∷◌, Option, Some, refl, subst, sym}
 use Rattle.std.proofs.lemmas.Option.{same_Some}
 use Rattle.std.specs.Prelude.{slice_get}
 use Rattle.std.specs.List.{AllByRecursion}
@@ -21,7 +21,7 @@ width_of_storage netlist [] id storage k e = absurd cc
 width_of_storage netlist (s ∷ storages) zero storage k e = storage_width netlist storage (subst (StorageKeeps netlist) (same_Some s storage e) k.0)
 width_of_storage netlist (s ∷ storages) (suc id) storage k e = width_of_storage netlist storages id storage k.1 e
 
-pub found_storage : (netlist : Netlist) (name text : List ℕ) (id : ℕ) (storage : Storage) → named_at netlist.storages name ≡ Some id → slice_get netlist.storages id ≡ Some storage →
-    setting_at netlist id (Some storage) text ≡ setting_for netlist name text
+pub found_storage : (netlist : Netlist) (still : Option ℕ) (name text : List ℕ) (id : ℕ) (storage : Storage) → named_at netlist.storages name ≡ Some id → slice_get netlist.storages id ≡ Some storage →
+    setting_at netlist still id (Some storage) text ≡ setting_for netlist still name text
 unfolding setting_for
-found_storage netlist name text id storage e f = sym (rw (e, f) refl)
+found_storage netlist still name text id storage e f = sym (rw (e, f) refl)

@@ -34,15 +34,15 @@ shown = refl
 
 -- ---- lines of the file
 
-sets : setting_of netlist (codes "R 2 15\n") ≡ Some (Cell InFile 2 15)
+sets : setting_of netlist None (codes "R 2 15\n") ≡ Some (Cell InFile 2 15)
 unfolding array_at cell_of line_end number_below number_of parts_at setting_at setting_for setting_of
 sets = refl
 
 -- an address past the file, and a value that is too wide
-sets_no_cell : setting_of netlist (codes "R 3 1\n") ≡ None
+sets_no_cell : setting_of netlist None (codes "R 3 1\n") ≡ None
 unfolding array_at cell_of line_end number_below number_of parts_at setting_at setting_for setting_of
 sets_no_cell = refl
 
-too_wide : setting_of netlist (codes "R 2 16\n") ≡ None
+too_wide : setting_of netlist None (codes "R 2 16\n") ≡ None
 unfolding array_at cell_of line_end number_below number_of parts_at setting_at setting_for setting_of
 too_wide = refl

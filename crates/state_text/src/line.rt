@@ -84,13 +84,19 @@ fn array_at(checked: &Checked, id: u32, space: Space, cells: &Cells, text: &[u8]
 
 // What stands behind the name of a storage.
 #[tactic(auto, unfolding(crate::specs::Inner::Settings::setting_at))]
-fn setting_at(checked: &Checked, id: u32, storage: &Storage, text: &[u8]) -> Option<Setting>
+fn setting_at(
+    checked: &Checked,
+    still: Option<u32>,
+    id: u32,
+    storage: &Storage,
+    text: &[u8],
+) -> Option<Setting>
     requires { IsWidth (storage_bits (Some storage.now)) }
-    ensures { result ≡ setting_at checked.now.netlist id (Some storage.now) text.now }
+    ensures { result ≡ setting_at checked.now.netlist still id (Some storage.now) text.now }
 {
     match storage {
         Storage::Register { width, .. } => {
-            if id == checked.pc() {
+            if id == checked.pc() || still == Some(id) {
                 return None;
             }
             entry_of(id, *width, text)
@@ -102,22 +108,22 @@ fn setting_at(checked: &Checked, id: u32, storage: &Storage, text: &[u8]) -> Opt
 
 // What stands behind a name.
 #[tactic(auto, unfolding(crate::specs::Inner::Settings::setting_for))]
-fn setting_for(checked: &Checked, name: &[u8], text: &[u8]) -> Option<Setting>
-    ensures { result ≡ setting_for checked.now.netlist name.now text.now }
+fn setting_for(checked: &Checked, still: Option<u32>, name: &[u8], text: &[u8]) -> Option<Setting>
+    ensures { result ≡ setting_for checked.now.netlist still name.now text.now }
 {
     let storages = &checked.netlist().storages;
     let place = named_at(storages.as_slice(), name)?;
     let storage = storages.get(place)?;
-    setting_at(checked, place as u32, storage, text)
+    setting_at(checked, still, place as u32, storage, text)
 }
 
 /// What a line sets, or None where it isn't of the form: a register's name, but for the program
-/// counter's, and a value, or the memory's or the file's name, an address and a value, with single
-/// spaces between and LF behind.
+/// counter's and for `still`, and a value, or the memory's or the file's name, an address and a
+/// value, with single spaces between and LF behind.
 #[tactic(auto, unfolding(crate::specs::Inner::Settings::setting_of))]
-pub fn setting_of(checked: &Checked, line: &[u8]) -> Option<Setting>
-    ensures { result ≡ setting_of checked.now.netlist line.now }
+pub fn setting_of(checked: &Checked, still: Option<u32>, line: &[u8]) -> Option<Setting>
+    ensures { result ≡ setting_of checked.now.netlist still line.now }
 {
     let (name, text) = cut(line, b' ')?;
-    setting_for(checked, name, text)
+    setting_for(checked, still, name, text)
 }

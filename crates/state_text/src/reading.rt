@@ -53,19 +53,24 @@ fn put(state: &mut State, setting: Setting)
 }
 
 /// The state that a memory text sets; what it doesn't name is 0, the program counter is 0. `Text`
-/// comes exactly where a line isn't of the form, or names no storage or the program counter, or has
-/// an address past the memory or the file or a value that is too wide, with the offset of the first
-/// such line. `Memory` is want of memory.
-pub fn read_state(alloc: Global, bytes: &[u8], checked: &Checked) -> Result<State, ParseFault>
+/// comes exactly where a line isn't of the form, or names no storage, the program counter or the
+/// register `still`, or has an address past the memory or the file or a value that is too wide, with
+/// the offset of the first such line. `Memory` is want of memory.
+pub fn read_state(
+    alloc: Global,
+    bytes: &[u8],
+    checked: &Checked,
+    still: Option<u32>,
+) -> Result<State, ParseFault>
     requires { length bytes.now < 2 ^ 32 }
-    ensures found { IfOk result (IsMemoryText checked.now.netlist bytes.now) }
+    ensures found { IfOk result (IsMemoryText checked.now.netlist still bytes.now) }
     ensures fits { IfOk result (IsStartState checked.now.netlist) }
-    ensures refused { IfErr result (IsMemoryRefusal checked.now.netlist bytes.now) }
+    ensures refused { IfErr result (IsMemoryRefusal checked.now.netlist still bytes.now) }
 {
     let mut state = blank(alloc, checked)?;
     let mut rest = bytes;
     while let Some((line, more)) = first_line(rest) {
-        let Some(setting) = setting_of(checked, line) else {
+        let Some(setting) = setting_of(checked, still, line) else {
             return Err(ParseFault::Text((bytes.len() - rest.len()) as u64));
         };
         put(&mut state, setting);

@@ -100,19 +100,14 @@ fn put_cells(out: &mut Vec<u8>, name: &[u8], space: Space, sim: &Sim<'_>) -> Res
 
 /// Puts the text of the simulator's state after so many cycles behind what `out` holds. It fails
 /// only where `out` has no room for all of it and gets no more.
-pub fn write_state(
-    out: &mut Vec<u8>,
-    checked: &Checked,
-    cycles: u64,
-    sim: &Sim<'_>,
-) -> Result<(), NoMemory>
-    requires netlist { sim.now.netlist ≡ checked.now.netlist }
+pub fn write_state(out: &mut Vec<u8>, cycles: u64, sim: &Sim<'_>) -> Result<(), NoMemory>
     requires state { IsState sim.now.netlist sim.now.state }
     ensures text { OnOk result (out.new.items ≡ out.old.items ++ state_text sim.now.netlist cycles sim.now.state) }
     ensures room { vec_capacity out.old ≤ vec_capacity out.new }
     ensures succeeds { length out.old.items + length (state_text sim.now.netlist cycles sim.now.state)
         ≤ vec_capacity out.old → IsOk result }
 {
+    let checked = sim.checked();
     out.extend_from_slice(b"cycles")?;
     put_register(out, b"", cycles)?;
     put_registers(out, checked.netlist().storages.as_slice(), sim)?;

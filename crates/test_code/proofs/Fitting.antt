@@ -1,6 +1,7 @@
 -- The steps of a job of a self-test have words, and words of groups fit the netlist.
-use Rattle.std.proofs.Common.{◌≡◌, ℕ, suc, ◌<◌, List, [], ◌∷◌, length, slice_index, get_or, refl, sym, subst, append-nil, arith}
+use Rattle.std.proofs.Common.{◌≡◌, ℕ, suc, ◌<◌, List, [], ◌∷◌, None, length, slice_index, get_or, refl, sym, subst, append-nil, arith}
 use Rattle.std.specs.List.{AllByRecursion}
+use Rattle.std.proofs.lemmas.Nat.Bits.{bit_at-zero}
 use Rattle.std.proofs.lemmas.Option.{slice_get-get_or}
 use Rattle.net_model.specs.CheckedRules.{KeepsRules}
 use Rattle.net_model.specs.declared.hardware.Netlist.{Netlist}
@@ -59,7 +60,8 @@ module _ (netlist : Netlist) (order : List ℕ) (keeps : KeepsRules netlist orde
     pub job_have : file ≡ size_in InFile netlist.storages → IsChosen stock job.destination job.trees choice → AllHaveWords (operation_in netlist patterns) (fits_over netlist (operation_in netlist patterns)) (singles (job_steps stock job choice)) (regs_of 0)
     job_have sized c =
         subst (λ (steps : List Step). AllHaveWords (operation_in netlist patterns) (fits_over netlist (operation_in netlist patterns)) (singles steps) (regs_of 0)) (append-nil (job_steps stock job choice))
-        (block_words netlist order keeps some patterns known reach stock sized forms.list (job ∷ []) (choice ∷ []) (job_covered c, one, tt))
+        (block_words netlist order keeps some patterns known reach rules forms.list stock sized (λ k rule at. (k, at)) None tt (job ∷ []) (choice ∷ []) (regs_of 0) (job_covered c, one, tt)
+        (λ r live. cc (live, bit_at-zero r)))
 
 -- words of groups fit
 module _ (netlist : Netlist) where

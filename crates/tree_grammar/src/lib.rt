@@ -31,6 +31,6 @@ mod terms;
 
 pub use forms::match_at;
 pub use parts::{Destination, Home, Match, Part};
-pub use shapes::{fits_field, is_field_shape, low_bits, setting_of, shows_all};
+pub use shapes::{fits_field, is_field_shape, low_bits, plain_setting_of, setting_of, shows_all};
 pub use sizes::{expr_width, plus, tree_size, tree_width};
 pub use terms::is_number_tree;

@@ -314,8 +314,10 @@ fn plain_bits(shape: &Expr, value: u64) -> Result<u64, NoMemory>
     }
 }
 
-// The bits of the word that give it this value, and none where it doesn't have it.
-fn plain_setting_of(shape: &Expr, value: u64) -> Result<Option<u64>, NoMemory>
+/// The bits of the word, in their places and 0 elsewhere, that give a field shape without a sum this
+/// value, and none exactly where it doesn't show it or is a sum. A field that lies above bit 63 is
+/// answered as want of memory.
+pub fn plain_setting_of(shape: &Expr, value: u64) -> Result<Option<u64>, NoMemory>
     ensures { IfOk result (λ o. o ≡ plain_setting (term_of shape.now) value) }
 {
     if !plain_shows(shape, value) {

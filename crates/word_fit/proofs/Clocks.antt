@@ -34,7 +34,8 @@ mean_fixed t s w setting f e fit same =
     mean_fields t s w setting fit (less_fits t w setting (subst (λ n. n ≤ w) e (and_le_l w f)) fit) same
 
 module _ (netlist : Netlist) (order : List ℕ) (keeps : KeepsRules netlist order) (code : List ℕ) (w : ℕ) (s : State) (state : IsState netlist s) (clean : IsClean netlist w) (here : word_at netlist code s ≡ w) where
-  step : Moved netlist code w s
+  -- the clock
+  abbrev pub step : Moved netlist code w s
   step = moved netlist code w s (sound_of netlist order keeps) state clean here
 
   made_by : (q i : ℕ) (space : Space) (move : Move) → move_at netlist w q ≡ move → space ≡ space_at netlist q → bit_and w (move_fields move) ≡ i → WordFitsMove move w → IsMade q i space move s step.next
@@ -70,7 +71,8 @@ module _ (netlist : Netlist) (order : List ℕ) (keeps : KeepsRules netlist orde
   kept : (r : ℕ) → (IsRegister (slice_get netlist.storages r) → move_at netlist w r ≡ keep) → slice_index step.next.regs r ≡ slice_index s.regs r
   kept r h = register_or_not (slice_get netlist.storages r) (λ q. step.regs r q ∙ ap (λ k. reg_moved k s w r) (h q)) (other r)
 
-  one_on : Steps netlist w → counter_in netlist step.next ≡ (counter_in netlist s + 1) % 2 ^ counter_width netlist
+  -- the program counter, where the word steps
+  pub one_on : Steps netlist w → counter_in netlist step.next ≡ (counter_in netlist s + 1) % 2 ^ counter_width netlist
   one_on e =
       let c : ℕ = counter_of netlist.codes in
       let r = step.regs c (sound_of netlist order keeps).counter in

@@ -54,6 +54,11 @@ pub record FitsJump (netlist : Netlist) (word : ℕ) (d : Operation) : Type 0 wh
   pub does : Does netlist word d
   pub memory : memory_move netlist word ≡ keep
 
+-- one that keeps these registers, too
+pub record FitsTurning (netlist : Netlist) (word : ℕ) (d : Operation) (kept : Regs) : Type 0 where
+  pub jump : FitsJump netlist word d
+  pub registers : (r : ℕ) → IsRegister (slice_get netlist.storages r) → kept r ≡ true → move_at netlist word r ≡ keep
+
 -- the least word that fits
 pub record IsLeastFit (fits : ℕ → Type 0) (word : ℕ) : Type 0 where
   pub is : fits word

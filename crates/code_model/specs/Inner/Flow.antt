@@ -1,4 +1,4 @@
--- How clocks lead from state to state, and from checkpoint to checkpoint.
+-- How clocks lead from checkpoint to checkpoint, where something holds of each state at a mark.
 use Rattle.std.specs.Prelude.{ℕ, Bool, true, false, List, [], ◌∷◌, ◌≡◌, ◌≤◌, Some}
 use Rattle.net_model.specs.declared.hardware.Netlist.{Netlist}
 use Rattle.net_model.specs.declared.states.State.{State}
@@ -17,19 +17,19 @@ Then (At tree) ps Later = Later
 Then End ps Later = ps ≡ []
 
 -- from s the machine shows these checkpoints: the first within d clocks, each later one within l
--- clocks of the clock that leaves the one before
-abbrev pub Follows : Netlist → Image → ℕ → ℕ → State → List Passed → Type 0
-Follows netlist image l d s [] = Unit {0}
-Follows netlist image l d s (p ∷ ps) =
+-- clocks of the clock that leaves the one before; and each state at a mark is good
+abbrev pub Follows : Netlist → Image → (State → Type 0) → ℕ → ℕ → State → List Passed → Type 0
+Follows netlist image good l d s [] = Unit {0}
+Follows netlist image good l d s (p ∷ ps) =
     (n : ℕ) × (t : State) × (n ≤ d) × Reaches netlist image s n t
-    × (label_in netlist image t ≡ Some p.label) × (store_in image t ≡ p.cells)
-    × Then p.label ps ((u : State) × (clock netlist (words_of image) t ≡ Next u) × Follows netlist image l l u ps)
+    × (label_in netlist image t ≡ Some p.label) × (store_in image t ≡ p.cells) × good t
+    × Then p.label ps ((u : State) × (clock netlist (words_of image) t ≡ Next u) × Follows netlist image good l l u ps)
 
 -- from each of these states the machine shows the checkpoints of a way on, up to m of them, the
 -- first within d clocks
-abbrev pub Stands : Netlist → Image → ℕ → ℕ → (State → Type 0) → Onward → ℕ → Type 0
-Stands netlist image l d P way m =
-    (j : ℕ) → j ≤ m → (s : State) → P s → Follows netlist image l d s (way j (store_in image s))
+abbrev pub Stands : Netlist → Image → (State → Type 0) → ℕ → ℕ → (State → Type 0) → Onward → ℕ → Type 0
+Stands netlist image good l d P way m =
+    (j : ℕ) → j ≤ m → (s : State) → P s → Follows netlist image good l d s (way j (store_in image s))
 
 -- within so many clocks, and without a mark before the last state, s leads to such a state with
 -- this store
@@ -50,3 +50,11 @@ pub record Tests (netlist : Netlist) (image : Image) (tree : ℕ) (test : List �
   pub clocked : clock netlist (words_of image) s ≡ Next next
   pub on_true : test (store_in image s) ≡ true → Leads netlist image Q (store_in image s) clocks next
   pub on_false : test (store_in image s) ≡ false → Leads netlist image R (store_in image s) clocks next
+
+-- at a good state at the end's mark a clock leads to another one, and leaves the store
+pub record Rests (netlist : Netlist) (image : Image) (good : State → Type 0) (s : State) : Type 0 where
+  pub next : State
+  pub clocked : clock netlist (words_of image) s ≡ Next next
+  pub label : label_in netlist image next ≡ Some End
+  pub holds : good next
+  pub same : store_in image next ≡ store_in image s

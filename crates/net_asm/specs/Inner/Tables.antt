@@ -2,7 +2,7 @@
 use Rattle.std.specs.Prelude.{◌≡◌, ℕ, ◌++◌, ◌∷◌, List, All, length, map, MatchOption, Option}
 use Rattle.std.specs.List.{AllZip}
 use Rattle.net_model.specs.declared.hardware.Netlist.{Netlist}
-use Rattle.net_extract.specs.declared.netlists.Extracted.{Extracted}
+use Rattle.net_extract.specs.declared.netlists.Isa.{Isa}
 use Rattle.code_model.specs.declared.image.Image.{Image}
 use Rattle.code_model.specs.ImageFits.{limits_of}
 use Rattle.code_model.specs.ImageLines.{IsImageText, IsLineFault}
@@ -27,12 +27,12 @@ abbrev pub row_texts : List Row → List (List ℕ)
 row_texts rows = map (λ (row : Row). row.text.items) rows
 
 -- the netlist with the patterns that were extracted
-abbrev pub machine_of : Netlist → Extracted → Machine
+abbrev pub machine_of : Netlist → Isa → Machine
 machine_of netlist extracted =
     record { netlist = netlist; patterns = row_patterns extracted.pool extracted.patterns.rows }
 
 -- the patterns are the same, while sets may have come to the book
-pub record KeepsPatterns (old new : Extracted) : Type 0 where
+pub record KeepsPatterns (old new : Isa) : Type 0 where
   pub pool : new.pool ≡ old.pool
   pub patterns : new.patterns ≡ old.patterns
 

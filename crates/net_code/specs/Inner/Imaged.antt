@@ -8,12 +8,14 @@ use Rattle.code_model.specs.Places.{Apart, words_of}
 use Rattle.right_code.specs.Bounded.{HasBound}
 use Rattle.right_code.specs.Images.{IsMadeFor, IsRightImage}
 use Rattle.right_code.specs.Tasks.{Task}
-use Rattle.net_code.specs.Inner.Covering.{IsCovering}
+use Rattle.form_set.specs.Listing.{greatest_reach}
+use Rattle.mode_set.specs.Keeping.{Isas}
+use Rattle.net_code.specs.Inner.Planning.{IsPlanning}
 use Rattle.net_code.specs.Refusals.{IsBeyondReach, IsImageTooLong}
 use Rattle.net_code.specs.declared.fault.CodeFault.{CodeFault}
 use Rattle.net_code.specs.declared.fault.CodeFault.TheVariants.{NoReach, ImageFull, Memory}
-use Rattle.net_code.specs.declared.views.CoveredProgram.{CoveredProgram}
-use Rattle.compaction.specs.declared.machine.Machine.{Machine}
+use Rattle.net_code.specs.declared.views.Modes.{Modes}
+use Rattle.net_code.specs.declared.views.PlannedProgram.{PlannedProgram}
 
 -- the variables of a task stand at the places of its layout, each in cells of the memory of its own
 pub record ArePlaces (task : Task) (places : Places) : Type 0 where
@@ -21,19 +23,21 @@ pub record ArePlaces (task : Task) (places : Places) : Type 0 where
   pub apart : Apart places.temps places.list (memory_size task.netlist.storages)
 
 -- the program is that of some task, with its variables at these places
-pub record HasTask (machine : Machine) (program : CoveredProgram) (places : Places) : Type 0 where
+pub record HasTask (modes : Modes) (program : PlannedProgram) (places : Places) : Type 0 where
   pub task : Task
-  pub covering : IsCovering machine program task
+  pub isas : Isas task.netlist
+  pub planning : IsPlanning modes program task isas
   pub placed : ArePlaces task places
 
--- what is said of the task of a covered program
-abbrev pub OfTask : Machine → CoveredProgram → Places → (Task → Type 0) → Type 0
-OfTask machine program places Said = (task : Task) → IsCovering machine program task → ArePlaces task places → Said task
+-- what is said of the task of a planned program
+abbrev pub OfTask : Modes → PlannedProgram → Places → (Task → Type 0) → Type 0
+OfTask modes program places Said =
+    (task : Task) (isas : Isas task.netlist) → IsPlanning modes program task isas → ArePlaces task places → Said task
 
--- the image is made for the task, by the forms of the program, and jumps reach all its words
-pub record IsImageMade (program : CoveredProgram) (image : Image) (task : Task) : Type 0 where
+-- the image is made for the task, and jumps reach all its words
+pub record IsImageMade (image : Image) (task : Task) : Type 0 where
   pub made : IsMadeFor task image
-  pub reached : length (words_of image) ≤ made.reach
+  pub reached : length (words_of image) ≤ greatest_reach (made.isas 0).rules
 
 -- jumps reach as far as the task's code may be long
 pub record IsNear (task : Task) : Type 0 where

@@ -1,35 +1,44 @@
 -- What the code's program stands for.
-use Rattle.std.specs.Prelude.{ℕ, ◌≡◌, List, map, Some, slice_get}
-use Rattle.cover.specs.Best.{choice_of}
-use Rattle.form_model.specs.Covers.{Choice, Stock}
-use Rattle.form_model.specs.Rules.{rules_of, tested}
-use Rattle.form_model.specs.declared.flow.Flow.TheVariants.{Test}
-use Rattle.src_trees.specs.Jobs.{works_of}
+use Rattle.std.specs.Prelude.{ℕ, ◌<◌, ◌^◌, ◌≡◌, List, Option, Some, None, slice_get}
+use Rattle.form_model.specs.Rules.{tested}
+use Rattle.form_model.specs.declared.flow.Flow.TheVariants.{Assign, Test}
 use Rattle.src_trees.specs.Lowered.{Work}
-use Rattle.net_code.specs.declared.views.CoveredProgram.{CoveredProgram}
+use Rattle.form_model.specs.declared.flow.Flow.{Flow}
+use Rattle.mode_set.specs.Costs.{Planned}
+use Rattle.net_code.specs.declared.views.PlannedProgram.{PlannedProgram}
+use Rattle.net_code.specs.Inner.Planning.{plans_in, works_in}
 
-abbrev pub stock_of : CoveredProgram → Stock
-stock_of program = record {
-  rules = rules_of program.forms.now.list.items;
-  temps = program.temps;
-  file = program.forms.now.file;
-}
-
-abbrev pub works_in : CoveredProgram → List Work
-works_in program = works_of program.jobs.now
-
-abbrev pub choices_in : CoveredProgram → List Choice
-choices_in program = map choice_of program.covers.now
-
--- the job of a test, with its cover
-pub record IsTestJob (program : CoveredProgram) (job : Work) (choice : Choice) : Type 0 where
+-- the job of a test, with its plan
+pub record IsTestJob (program : PlannedProgram) (job : Work) (planned : Planned) : Type 0 where
   pub tree : ℕ
   pub work : slice_get (works_in program) tree ≡ Some job
-  pub covers : slice_get (choices_in program) tree ≡ Some choice
+  pub plans : slice_get (plans_in program) tree ≡ Some planned
   pub test : job.destination ≡ tested
 
 -- the test of a tree stands at this place of the flow
-pub record IsTestAt (program : CoveredProgram) (at tree : ℕ) : Type 0 where
+pub record IsTestAt (program : PlannedProgram) (at tree : ℕ) : Type 0 where
   pub when_one : ℕ
   pub when_zero : ℕ
   pub place : slice_get program.flow.now at ≡ Some (Test tree when_one when_zero)
+
+-- the mode of the job at a place of the flow, and 0 where no assignment stands there
+abbrev pub mode_of_plan : Option Planned → ℕ
+mode_of_plan None = 0
+mode_of_plan (Some planned) = planned.mode
+
+abbrev pub mode_of_place : List Planned → Option Flow → ℕ
+mode_of_place plans (Some (Assign tree)) = mode_of_plan (slice_get plans tree)
+mode_of_place plans _ = 0
+
+abbrev pub place_mode : PlannedProgram → ℕ → ℕ
+place_mode program at = mode_of_place (plans_in program) (slice_get program.flow.now at)
+
+-- the set of the register that holds the mode, which is empty where there is none
+abbrev pub mode_bits : Option ℕ → ℕ
+mode_bits None = 0
+mode_bits (Some mode) = 2 ^ mode
+
+-- a set of registers has a bit for that one
+abbrev pub HasModeBit : Option ℕ → Type 0
+HasModeBit None = Unit {0}
+HasModeBit (Some mode) = mode < 16

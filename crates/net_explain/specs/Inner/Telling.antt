@@ -1,6 +1,9 @@
 -- Texts that grow, and what is told in them.
-use Rattle.std.specs.Prelude.{ℕ, ◌≡◌, List, ◌++◌}
+use Rattle.std.specs.Prelude.{ℕ, ◌≡◌, ◌≤◌, List, [], ◌∷◌, ◌++◌, None}
 use Rattle.net_model.specs.declared.hardware.Netlist.{Netlist}
+use Rattle.net_model.specs.CheckedRules.{Ordered}
+use Rattle.net_model.specs.ModeRules.{KeepsModes, Moded}
+use Rattle.net_extract.specs.Extracts.{IsRoutedModes}
 use Rattle.form_model.specs.Covers.{Stock, stock_with}
 use Rattle.form_model.specs.Rules.{Rule}
 use Rattle.job_places.specs.Places.{program_spots}
@@ -10,8 +13,21 @@ use Rattle.net_code.specs.Refusals.{HasJumps}
 use Rattle.net_compile.specs.Code.{HasRoom, IsTaskFault}
 use Rattle.net_compile.specs.declared.fault.CompileFault.{CompileFault}
 use Rattle.net_compile.specs.declared.fault.CompileFault.TheVariants.{NoCover, NoReach, ImageFull}
-use Rattle.net_explain.specs.Explained.{AreJobTexts}
+use Rattle.net_explain.specs.Explained.{AreJobTexts, explained_edition}
 use Rattle.net_explain.specs.declared.subject.Subject.{Subject}
+
+-- the netlist has no modes, and what it is in its only one is the netlist itself
+pub record IsAlone (modes : Moded) : Type 0 where
+  pub rules : KeepsModes modes.netlist
+  pub plain : modes.netlist.special ≡ None
+  pub base : Ordered
+  pub bases : modes.bases ≡ base ∷ []
+  pub same : base.netlist ≡ modes.netlist
+
+-- this netlist, which was checked in its modes, is that of the bytes, whose edition has none
+pub record IsPlainNet (net : List ℕ) (modes : Moded) : Type 0 where
+  pub routed : IsRoutedModes net modes
+  pub taken : routed.entries.edition ≤ explained_edition
 
 abbrev pub netlist_of : Subject → Netlist
 netlist_of subject = subject.checked.now.netlist

@@ -1,5 +1,5 @@
 -- What a run of an image on a netlist shows, and why there is none.
-use Rattle.std.specs.Prelude.{ℕ, ◌≡◌, List}
+use Rattle.std.specs.Prelude.{ℕ, ◌≡◌, List, None}
 use Rattle.net_model.specs.declared.hardware.Netlist.{Netlist}
 use Rattle.net_model.specs.declared.states.State.{State}
 use Rattle.net_model.specs.Clock.{run, Reached, Clashed}
@@ -47,7 +47,7 @@ IsImageFault netlist image Memory = Unit {0}
 IsImageFault netlist image _ = ⊥
 
 abbrev pub IsMemoryFaultOf : Netlist → List ℕ → RunFault → Type 0
-IsMemoryFaultOf netlist memory (MemText at) = IsMemoryFault netlist memory at
+IsMemoryFaultOf netlist memory (MemText at) = IsMemoryFault netlist None memory at
 IsMemoryFaultOf netlist memory Memory = Unit {0}
 IsMemoryFaultOf netlist memory _ = ⊥
 

@@ -1,5 +1,7 @@
 -- The words of tests and jumps.
-use Rattle.std.specs.Prelude.{ℕ, ◌+◌, ◌^◌, ◌<◌, ◌≡◌, ◌⊎◌, Bool, true, false, if◌then◌else◌, bit_and, bit_or, List, length, Some, slice_get}
+use Rattle.std.specs.Prelude.{ℕ, ◌+◌, ◌^◌, ◌<◌, ◌≡◌, ◌⊎◌, Bool, true, false, if◌then◌else◌, bit_and, bit_or, List, length, Option, Some, slice_get}
+use Rattle.std.specs.List.{AllByRecursion}
+use Rattle.code_model.specs.Words.{KeepsMode}
 use Rattle.net_model.specs.declared.hardware.Netlist.{Netlist}
 use Rattle.net_model.specs.Terms.{Term, reg, bin, select, term_width, write, EitherNext}
 use Rattle.rec_bits.specs.declared.operator.Op2.TheVariants.{Add}
@@ -70,12 +72,13 @@ pub record IsJumpForm (netlist : Netlist) (patterns : List Pattern) (rule : Rule
       ≡ Some (record { storage = counter_of netlist.codes; move = write rule.value })
 
 -- the word is one of a jump form to an address
-pub record IsJumpMade (netlist : Netlist) (patterns : List Pattern) (i to : ℕ) : Type 0 where
+pub record IsJumpMade (netlist : Netlist) (special : Option ℕ) (patterns : List Pattern) (i to : ℕ) : Type 0 where
   pub rule : Rule
   pub form : IsJumpForm netlist patterns rule
   pub bits : ℕ
   pub shown : shape_setting rule.value to ≡ Some bits
   pub word : FitsJump netlist i (operation_in netlist patterns (record { pattern = rule.pattern; setting = bits }))
+  pub mode : KeepsMode special netlist i
 
 -- the bits for a target: an absolute one is shown as it stands, a relative one, which is an
 -- address, as its distance, or as the two words to the jump behind a long branch
@@ -90,18 +93,18 @@ abbrev pub test_of : Work → Work
 test_of job = record { destination = tested; trees = job.trees }
 
 -- the words behind a branch word
-abbrev pub BehindMade : Netlist → List Pattern → Image → Bool → Bool → ℕ → ℕ → ℕ → Type 0
-BehindMade netlist patterns image next true at to other =
-    IsJumpMade netlist patterns (image_word image (at + 1)) other
-    × IsJumpMade netlist patterns (image_word image (at + 2)) to
-BehindMade netlist patterns image true false at to other = Unit {0}
-BehindMade netlist patterns image false false at to other =
-    IsJumpMade netlist patterns (image_word image (at + 1)) other
+abbrev pub BehindMade : Netlist → Option ℕ → List Pattern → Image → Bool → Bool → ℕ → ℕ → ℕ → Type 0
+BehindMade netlist special patterns image next true at to other =
+    IsJumpMade netlist special patterns (image_word image (at + 1)) other
+    × IsJumpMade netlist special patterns (image_word image (at + 2)) to
+BehindMade netlist special patterns image true false at to other = Unit {0}
+BehindMade netlist special patterns image false false at to other =
+    IsJumpMade netlist special patterns (image_word image (at + 1)) other
 
 -- the words of a test's operands fit groups, which mean the steps of its cover where the registers
 -- of the condition are live behind them
-pub record IsTestMade (netlist : Netlist) (patterns : List Pattern) (stock : Stock) (image : Image)
-    (job : Work) (choice : Choice) (at n : ℕ) : Type 0 where
+pub record IsTestMade (netlist : Netlist) (special : Option ℕ) (patterns : List Pattern)
+    (stock : Stock) (image : Image) (job : Work) (choice : Choice) (at n : ℕ) : Type 0 where
   pub covered : IsCovered stock (test_of job) choice
   pub live : Regs
   pub groups : List (List Step)
@@ -110,14 +113,15 @@ pub record IsTestMade (netlist : Netlist) (patterns : List Pattern) (stock : Sto
   pub fit : GroupsFit (operation_in netlist patterns) (fits_over netlist (operation_in netlist patterns)) words groups live
   pub long : n ≡ length words
   pub stand : StandAt (words_of image) at words
+  pub kept : AllByRecursion (KeepsMode special netlist) words
   pub wants : (r : ℕ) → wanted stock tested (tree_used (test_of job) choice) choice.plan r ≡ true → live r ≡ true
 
 -- those, the branch word, whose bits are those of the condition and of the target, and the jumps
 -- behind it
-pub record IsForkMade (netlist : Netlist) (patterns : List Pattern) (stock : Stock) (image : Image)
-    (job : Work) (when_one : Bool) (f : Fork) (at to other : ℕ) : Type 0 where
+pub record IsForkMade (netlist : Netlist) (special : Option ℕ) (patterns : List Pattern)
+    (stock : Stock) (image : Image) (job : Work) (when_one : Bool) (f : Fork) (at to other : ℕ) : Type 0 where
   pub choice : Choice
-  pub operands : IsTestMade netlist patterns stock image job choice at f.words
+  pub operands : IsTestMade netlist special patterns stock image job choice at f.words
   pub way : BranchTarget
   pub form : IsBranchForm netlist patterns (plan_rule stock choice.plan) when_one way
   pub bits : ℕ
@@ -127,4 +131,5 @@ pub record IsForkMade (netlist : Netlist) (patterns : List Pattern) (stock : Sto
         pattern = (plan_rule stock choice.plan).pattern;
         setting = bit_or (branch_setting stock (tree_used (test_of job) choice) choice.plan) bits;
       }))
-  pub behind : BehindMade netlist patterns image f.next f.long (at + f.words) to other
+  pub mode : KeepsMode special netlist (image_word image (at + f.words))
+  pub behind : BehindMade netlist special patterns image f.next f.long (at + f.words) to other

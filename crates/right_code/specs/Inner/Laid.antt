@@ -1,5 +1,5 @@
 -- Code as the layout orders it: what is known of each part.
-use Rattle.std.specs.Prelude.{ℕ, ◌<◌, ◌≤◌, ◌^◌, ◌≡◌, Bool, true, List, length, Some, slice_get}
+use Rattle.std.specs.Prelude.{ℕ, ◌<◌, ◌≤◌, ◌^◌, ◌≡◌, Bool, true, List, length, Some, slice_get, zero, suc, [], ◌∷◌, ◌++◌, Option}
 use Rattle.net_model.specs.declared.hardware.Netlist.{Netlist}
 use Rattle.net_model.specs.CheckedRules.{code_size}
 use Rattle.net_model.specs.Nets.{counter_width}
@@ -27,6 +27,10 @@ use Rattle.right_code.specs.Jobs.{IsCovered, jobs_steps, job_steps, tree_used}
 use Rattle.right_code.specs.Inner.Jobs.{AreCovered}
 use Rattle.right_code.specs.Forks.{plan_rule}
 use Rattle.right_code.specs.Inner.Forks.{IsBranchForm, IsJumpForm, test_of}
+use Rattle.std.specs.List.{AllByRecursion}
+use Rattle.code_model.specs.Words.{KeepsMode}
+use Rattle.branch_fix.specs.Sections.{Section, section_jobs}
+use Rattle.right_code.specs.Inner.Blocks.{IsKit, IsModeWordMade, Kit, Machine}
 use Rattle.right_code.specs.Words.{AreGroupWords, StandItems}
 use Rattle.right_code.specs.Laid.{IsLayout}
 
@@ -54,9 +58,10 @@ pub record AreTurns (netlist : Netlist) (patterns : List Pattern) (rules : List 
 
 -- ---- blocks and tests
 
--- a block's words are those of groups that mean the steps of its jobs' covers, so many
-pub record IsBlockReady (netlist : Netlist) (patterns : List Pattern) (stock : Stock)
-    (jobs : List Work) (words : List ℕ) (size : ℕ) : Type 0 where
+-- a block's words are those of groups that mean the steps of its jobs' covers, so many, and keep
+-- the mode
+pub record IsBlockReady (netlist : Netlist) (special : Option ℕ) (patterns : List Pattern)
+    (stock : Stock) (jobs : List Work) (words : List ℕ) (size : ℕ) : Type 0 where
   pub choices : List Choice
   pub covered : AreCovered stock jobs choices
   pub live : Regs
@@ -64,11 +69,37 @@ pub record IsBlockReady (netlist : Netlist) (patterns : List Pattern) (stock : S
   pub means : MeansSteps netlist (operation_in netlist patterns) live (jobs_steps stock jobs choices) groups
   pub least : AreGroupWords netlist patterns groups live words
   pub long : size ≡ length words
+  pub kept : AllByRecursion (KeepsMode special netlist) words
+
+-- the words of a section: those of its jobs in its mode, between the mode words of one other than 0;
+-- the kit is that of mode 0
+abbrev pub IsSectionReady : Machine → Kit → ℕ → List Work → ℕ → List ℕ → Type 0
+IsSectionReady m kit zero jobs n words = IsBlockReady kit.netlist m.netlist.special kit.patterns kit.stock jobs words n
+IsSectionReady m kit (suc v) jobs n words =
+    (other : Kit) × IsKit m (suc v) other
+    × (first : ℕ) × (inner : List ℕ) × (last : ℕ) × (words ≡ first ∷ (inner ++ last ∷ []))
+    × IsModeWordMade kit.netlist m.netlist.special first (suc v)
+    × IsBlockReady other.netlist m.netlist.special other.patterns other.stock jobs inner n
+    × IsModeWordMade other.netlist m.netlist.special last 0
+
+abbrev pub AreSectionsReady : Machine → Kit → List Section → List ℕ → Type 0
+AreSectionsReady m kit [] words = words ≡ []
+AreSectionsReady m kit (x ∷ sections) words =
+    (own : List ℕ) × (rest : List ℕ) × (words ≡ own ++ rest)
+    × IsSectionReady m kit x.mode x.jobs x.words own × AreSectionsReady m kit sections rest
+
+-- a block's words are those of sections with its jobs, so many
+pub record IsModeBlockReady (m : Machine) (kit : Kit) (jobs : List Work)
+    (words : List ℕ) (size : ℕ) : Type 0 where
+  pub sections : List Section
+  pub are : jobs ≡ section_jobs sections
+  pub ready : AreSectionsReady m kit sections words
+  pub long : size ≡ length words
 
 -- a test's words are those of groups that mean the steps of its cover, with the registers of the
 -- condition live behind them, and its branch has the cover's form and setting
-pub record IsForkReady (netlist : Netlist) (patterns : List Pattern) (stock : Stock) (job : Work)
-    (words : List ℕ) (f : Fork) : Type 0 where
+pub record IsForkReady (netlist : Netlist) (special : Option ℕ) (patterns : List Pattern)
+    (stock : Stock) (job : Work) (words : List ℕ) (f : Fork) : Type 0 where
   pub choice : Choice
   pub covered : IsCovered stock (test_of job) choice
   pub live : Regs
@@ -76,6 +107,7 @@ pub record IsForkReady (netlist : Netlist) (patterns : List Pattern) (stock : St
   pub means : MeansSteps netlist (operation_in netlist patterns) live (job_steps stock (test_of job) choice) groups
   pub least : AreGroupWords netlist patterns groups live words
   pub long : f.words ≡ length words
+  pub kept : AllByRecursion (KeepsMode special netlist) words
   pub wants : (r : ℕ) → wanted stock tested (tree_used (test_of job) choice) choice.plan r ≡ true → live r ≡ true
   pub form : slice_get stock.rules f.form ≡ Some (plan_rule stock choice.plan)
   pub setting : f.setting ≡ branch_setting stock (tree_used (test_of job) choice) choice.plan
@@ -83,19 +115,19 @@ pub record IsForkReady (netlist : Netlist) (patterns : List Pattern) (stock : St
 -- ---- the code
 
 -- an image holds the words of the layout's items in their order, where each block and each test is
--- ready
-pub record IsLaidCode (netlist : Netlist) (patterns : List Pattern) (stock : Stock) (image : Image)
-    (flow : List Flow) (jobs : List Work) (parts : List Part) (reach : ℕ) : Type 0 where
-  pub layout : IsLayout stock.rules flow parts reach
-  pub room : total parts ≤ code_size netlist.codes
+-- ready. Tests and jumps are of mode 0
+pub record IsLaidCode (m : Machine) (kit : Kit) (image : Image) (flow : List Flow)
+    (jobs : List Work) (parts : List Part) (reach : ℕ) : Type 0 where
+  pub layout : IsLayout kit.stock.rules flow parts reach
+  pub room : total parts ≤ code_size kit.netlist.codes
   pub marks : image.marks ≡ marks_from 0 parts
   pub words : ℕ → List ℕ
-  pub stand : StandItems netlist patterns words (words_of image) 0
-      (items_from stock.rules (jump_form stock.rules reach) (starts parts) 0 parts)
+  pub stand : StandItems kit.netlist m.netlist.special kit.patterns words (words_of image) 0
+      (items_from kit.stock.rules (jump_form kit.stock.rules reach) (starts parts) 0 parts)
   pub long : length (words_of image) ≡ total parts
   pub blocks : (at n block size : ℕ) → IsAssignBlock flow at n →
       slice_get parts at ≡ Some (Block block size) →
-      IsBlockReady netlist patterns stock (jobs_at flow jobs at n) (words block) size
+      IsModeBlockReady m kit (jobs_at flow jobs at n) (words block) size
   pub forks : (at : ℕ) (f : Fork) → slice_get parts at ≡ Some (Test f) →
       (job : Work) → slice_get jobs f.tree ≡ Some job →
-      IsForkReady netlist patterns stock job (words f.block) f
+      IsForkReady kit.netlist m.netlist.special kit.patterns kit.stock job (words f.block) f

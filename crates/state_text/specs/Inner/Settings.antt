@@ -1,5 +1,5 @@
 -- What is read of a line of a memory text.
-use Rattle.std.specs.Prelude.{ℕ, ◌^◌, ◌≢◌, ◌<◌, ◌==◌, nat_lt, if◌then◌else◌, List, length, position, Option, Some, None, slice_get}
+use Rattle.std.specs.Prelude.{ℕ, Bool, false, ◌||◌, ◌^◌, ◌≢◌, ◌<◌, ◌==◌, nat_lt, if◌then◌else◌, List, length, position, Option, Some, None, slice_get}
 use Rattle.std.specs.Str.{bytes_eq}
 use Rattle.net_model.specs.declared.hardware.Netlist.{Netlist}
 use Rattle.net_model.specs.declared.hardware.Storage.{Storage}
@@ -41,35 +41,40 @@ unfoldable pub array_at : List Storage → ℕ → Space → Cells → List ℕ 
 array_at storages id space cells text =
     if id == place_in space storages then cell_of space cells.size cells.width text else None
 
--- what stands behind the name of this storage; nothing sets the program counter
-unfoldable pub setting_at : Netlist → ℕ → Option Storage → List ℕ → Option Setting
-setting_at netlist id None text = None
-setting_at netlist id (Some (Register name width input when)) text =
-    if id == counter_of netlist.codes then None else entry_of id width text
-setting_at netlist id (Some (Memory cells)) text = array_at netlist.storages id InMemory cells text
-setting_at netlist id (Some (File cells)) text = array_at netlist.storages id InFile cells text
+-- this is the number
+abbrev pub is_number : Option ℕ → ℕ → Bool
+is_number None id = false
+is_number (Some n) id = n == id
+
+-- what stands behind the name of this storage; nothing sets the program counter or `still`
+unfoldable pub setting_at : Netlist → Option ℕ → ℕ → Option Storage → List ℕ → Option Setting
+setting_at netlist still id None text = None
+setting_at netlist still id (Some (Register name width input when)) text =
+    if (id == counter_of netlist.codes) || is_number still id then None else entry_of id width text
+setting_at netlist still id (Some (Memory cells)) text = array_at netlist.storages id InMemory cells text
+setting_at netlist still id (Some (File cells)) text = array_at netlist.storages id InFile cells text
 
 -- what stands behind a name
-unfoldable pub setting_for : Netlist → List ℕ → List ℕ → Option Setting
-setting_for netlist name text =
+unfoldable pub setting_for : Netlist → Option ℕ → List ℕ → List ℕ → Option Setting
+setting_for netlist still name text =
     named_at netlist.storages name >>= λ id.
-    setting_at netlist id (slice_get netlist.storages id) text
+    setting_at netlist still id (slice_get netlist.storages id) text
 
 -- what a line sets, if it is of the form
-unfoldable pub setting_of : Netlist → List ℕ → Option Setting
-setting_of netlist line = parts_at 32 line >>= λ parts. setting_for netlist parts.0 parts.1
+unfoldable pub setting_of : Netlist → Option ℕ → List ℕ → Option Setting
+setting_of netlist still line = parts_at 32 line >>= λ parts. setting_for netlist still parts.0 parts.1
 
 abbrev pub with_setting : State → Setting → State
 with_setting s (Entry storage value) = with_register s storage value
 with_setting s (Cell space address value) = with_cell s space address value
 
--- what a line sets fits: a register that isn't the program counter, or a cell, with a value of its
--- width
-abbrev pub SettingFits : Netlist → Setting → Type 0
-SettingFits netlist (Entry id value) =
-    IsRegister (slice_get netlist.storages id) × (id ≢ counter_of netlist.codes)
+-- what a line sets fits: a register that isn't the program counter and not `still`, or a cell, with a
+-- value of its width
+abbrev pub SettingFits : Netlist → Option ℕ → Setting → Type 0
+SettingFits netlist still (Entry id value) =
+    IsRegister (slice_get netlist.storages id) × (id ≢ counter_of netlist.codes) × (still ≢ Some id)
     × (value < 2 ^ storage_bits (slice_get netlist.storages id))
-SettingFits netlist (Cell space address value) =
+SettingFits netlist still (Cell space address value) =
     (address < size_in space netlist.storages) × (value < 2 ^ width_in space netlist.storages)
 
 -- there is such an entry or cell

@@ -2,7 +2,8 @@ use Rattle.std.proofs.Common.{◌≡◌, ◌≤◌, ℕ, length, refl, sym, subs
 use Rattle.net_model.proofs.KeptRules.{few_storages}
 use Rattle.net_model.specs.Nets.{word_width}
 use Rattle.asm_words.specs.Tables.{HasLine}
-use Rattle.net_asm.proofs.Tables.{extracted_later, has_line, has_sets, least_of_line}
+use Rattle.net_extract.proofs.Cleans.{extracted_later}
+use Rattle.net_asm.proofs.Tables.{has_line, has_sets, least_of_line}
 use Rattle.net_asm.proofs.assembling.least_word.Goals as goal
 
 pub overflow_cast-storages : goal.overflow_cast-storages

@@ -4,23 +4,21 @@ use Rattle.std.proofs.lemmas.Option.{slice_get-get_or}
 use Rattle.form_model.specs.declared.flow.Flow.{Flow}
 use Rattle.form_model.specs.declared.flow.Flow.TheVariants.{Assign, End, Jump}
 use Rattle.src_trees.specs.Blocks.{continues, is_assign}
-use Rattle.net_code.specs.Inner.Coded.{IsBlockCode}
-use Rattle.net_code.specs.Machines.{machine_netlist, machine_patterns}
 use Rattle.branch_fix.specs.Parts.{place_blocks, place_tests}
-use Rattle.net_code.specs.Inner.Views.{choices_in, stock_of, works_in}
+use Rattle.net_code.specs.Inner.Coded.{AreCodedTo}
+use Rattle.net_code.specs.Inner.Planning.{plans_in, works_in}
 use Rattle.net_code.proofs.Coding.{skipped}
 use Rattle.net_code.proofs.blocks.push_code.Goals as goal
 
 pub returns-then-continues-clause-code : goal.returns-then-continues-clause-code
-returns-then-continues-clause-code c =
-    let machine = c.args.machine.now in
-    let program = c.args.program.now in
+returns-then-continues-clause-code c = λ task isas p.
+    (let program = c.args.program.now in
     let flow = program.flow.now in
     let place : slice_get flow c.args.at ≡ Some (Assign c.in-Assign.field-0) =
     slice_get-get_or flow c.args.at (Assign 0) c.requires.within ∙ ap (λ (f : Flow). Some f) c.in-Assign.is in
     let goes_on : continues flow c.args.at ≡ true = sym c.if-continues.ensures in
-    skipped (machine_netlist machine) (machine_patterns machine) (stock_of program) flow (works_in program) (choices_in program) c.args.at c.args.code.now.blocks.items c.args.code.now.branches.items
-    c.requires.code (λ j. place_blocks (place j) (goes_on j)) (ap place_tests place)
+    skipped task isas flow (works_in program) (plans_in program) c.args.at c.args.code.now.blocks.items c.args.code.now.branches.items
+    (c.requires.code task isas p) (λ j. place_blocks (place j) (goes_on j)) (ap place_tests place))
 
 pub push_run-requires-clause-assigns : goal.push_run-requires-clause-assigns
 push_run-requires-clause-assigns c =
@@ -35,18 +33,19 @@ push_test-requires-clause-place c = record {
 
 pub returns-in-Jump-clause-code : goal.returns-in-Jump-clause-code
 returns-in-Jump-clause-code c =
-    let machine = c.args.machine.now in
     let program = c.args.program.now in
     let flow = program.flow.now in
+    let code = c.args.code.now in
     let read = slice_get-get_or flow c.args.at (Assign 0) c.requires.within in
-    let past = skipped (machine_netlist machine) (machine_patterns machine) (stock_of program) flow (works_in program) (choices_in program) c.args.at c.args.code.now.blocks.items c.args.code.now.branches.items c.requires.code in
-    elim c.in-Jump.is as (λ _. IsBlockCode (machine_netlist machine) (machine_patterns machine) (stock_of program) flow (works_in program) (choices_in program) (c.args.at + 1) c.args.code.now.blocks.items c.args.code.now.branches.items) [
+    elim c.in-Jump.is as (λ _. AreCodedTo c.args.modes.now program (c.args.at + 1) code.blocks.items code.branches.items) [
       | inl jump ↦
           (let place : slice_get flow c.args.at ≡ Some (Jump jump.0) = read ∙ ap (λ (f : Flow). Some f) jump.1 in
-          past (ap (λ o. place_blocks o (continues flow c.args.at)) place) (ap place_tests place))
+          λ task isas p. skipped task isas flow (works_in program) (plans_in program) c.args.at code.blocks.items code.branches.items (c.requires.code task isas p)
+          (ap (λ o. place_blocks o (continues flow c.args.at)) place) (ap place_tests place))
       | inr e ↦
           (let place : slice_get flow c.args.at ≡ Some End = read ∙ ap (λ (f : Flow). Some f) e in
-          past (ap (λ o. place_blocks o (continues flow c.args.at)) place) (ap place_tests place))
+          λ task isas p. skipped task isas flow (works_in program) (plans_in program) c.args.at code.blocks.items code.branches.items (c.requires.code task isas p)
+          (ap (λ o. place_blocks o (continues flow c.args.at)) place) (ap place_tests place))
     ]
 
 pub returns-in_err-push_run-in-Assign-clause-code : goal.returns-in_err-push_run-in-Assign-clause-code

@@ -1,21 +1,19 @@
 use Rattle.std.proofs.lemmas.Result.{IfOk-from_err}
 use Rattle.std.proofs.Common.{◌+◌, slice_get, sym, subst}
 use Rattle.net_code.specs.Inner.Coded.{IsBlockCode}
-use Rattle.net_code.specs.Machines.{machine_netlist, machine_patterns}
-use Rattle.net_code.specs.Inner.Views.{choices_in, stock_of, works_in}
+use Rattle.net_code.specs.Inner.Planning.{plans_in, works_in}
 use Rattle.net_code.proofs.Coding.{no_test, run_more}
 use Rattle.net_code.proofs.blocks.push_run.Goals as goal
 
 pub returns-clause-code : goal.returns-clause-code
-returns-clause-code c =
-    let machine = c.args.machine.now in
-    let program = c.args.program.now in
+returns-clause-code c = λ task isas p.
+    (let program = c.args.program.now in
     let flow = program.flow.now in
     let code = c.args.code.now in
-    subst (λ blocks. IsBlockCode (machine_netlist machine) (machine_patterns machine) (stock_of program) flow (works_in program) (choices_in program) (c.args.at + 1) blocks code.branches.items)
+    subst (λ blocks. IsBlockCode task isas flow (works_in program) (plans_in program) (c.args.at + 1) blocks code.branches.items)
     (sym c.in_ok-push.ensures.items)
-    (run_more (machine_netlist machine) (machine_patterns machine) (stock_of program) flow (works_in program) (choices_in program) c.args.at c.block_length-count.result
-    code.blocks.items code.branches.items c.in_ok-block.block c.requires.code c.block_length-count.ensures.block (no_test (slice_get flow c.args.at) c.requires.assigns) c.in_ok-block.ensures.packed)
+    (run_more task isas flow (works_in program) (plans_in program) c.args.at c.block_length-count.result
+    code.blocks.items code.branches.items c.in_ok-block.block (c.requires.code task isas p) c.block_length-count.ensures.block (no_test (slice_get flow c.args.at) c.requires.assigns) (c.in_ok-block.ensures.code task isas p)))
 
 pub returns-in_err-block-clause-code : goal.returns-in_err-block-clause-code
 returns-in_err-block-clause-code c = IfOk-from_err c.from_residual.result _ c.from_residual.ensures.0

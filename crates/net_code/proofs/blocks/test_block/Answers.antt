@@ -1,88 +1,110 @@
-use Rattle.std.proofs.lemmas.Result.{IfOk-from_err}
-use Rattle.std.proofs.Common.{◌≡◌, ◌∙◌, ap, sym, subst}
-use Rattle.std.specs.Option.{unwrap_or}
+use Rattle.std.proofs.Common.{bit_or, get_or, subst, sym}
+use Rattle.std.proofs.lemmas.Option.{slice_get-get_or}
 use Rattle.cover.specs.Best.{choice_of}
-use Rattle.emit_seq.specs.Emits.{branch_of}
-use Rattle.emit_seq.specs.Spares.{wanted}
-use Rattle.block_words.specs.Laws.{operation_in}
-use Rattle.form_model.specs.Live.{Regs, regs_of, singles}
-use Rattle.form_model.specs.Rules.{tested}
-use Rattle.form_model.specs.Steps.{branch_setting, cover_steps}
+use Rattle.form_model.specs.Live.{regs_of, singles}
 use Rattle.src_trees.specs.Jobs.{work_of}
-use Rattle.live_sets.proofs.Kept.{listed_of}
-use Rattle.word_fit.specs.Fits.{fits_over}
-use Rattle.word_fit.specs.Groups.{AllHaveWords}
-use Rattle.right_code.specs.Jobs.{job_steps, tree_or_none, tree_used}
-use Rattle.net_code.specs.Blocks.{IsPackedBlock}
-use Rattle.net_code.specs.Machines.{machine_netlist, machine_patterns}
-use Rattle.net_code.specs.Inner.Views.{choices_in, stock_of, works_in}
-use Rattle.net_code.proofs.Frames.{root_form, test_have, wanted_is}
-use Rattle.net_code.proofs.Packing.{told_words}
-use Rattle.net_code.proofs.Stepping.{chosen_at}
+use Rattle.net_model.proofs.ModeFaults.{some_modes}
+use Rattle.net_code.specs.Inner.Coded.{IsTestCode}
+use Rattle.net_code.specs.Inner.Views.{HasModeBit}
+use Rattle.net_code.proofs.ByMode.{ready_at, ready_set}
+use Rattle.net_code.proofs.Frames.{emitted_covers, forms_within, machine_within}
+use Rattle.net_code.proofs.ModeRegs.{mode_bit}
+use Rattle.net_code.proofs.Running.{book_within, emitted_code, emitted_words, known_at, known_words}
 use Rattle.net_code.proofs.blocks.test_block.Goals as goal
 
-pub branch_registers-after-requires-clause-listed : goal.branch_registers-after-requires-clause-listed
-branch_registers-after-requires-clause-listed c =
-    let machine = c.args.machine.now in
-    listed_of (machine_netlist machine) c.args.book.now machine.pool.now machine.patterns.now c.requires.ready
+-- mode 0 has its machine, its forms and its book
+pub bounds-modes-0 : goal.bounds-modes-0
+bounds-modes-0 c =
+    let q = c.requires.planned in
+    machine_within c.args.modes.now c.args.program.now q.task q.isas q.planning 0 (some_modes q.task.netlist)
 
-pub pack_block-requires-clause-words : goal.pack_block-requires-clause-words
-pack_block-requires-clause-words c =
-    let machine = c.args.machine.now in
-    let program = c.args.program.now in
-    let stock = stock_of program in
-    let job = work_of c.args.job.now in
-    let choice = choice_of c.args.chosen.now in
-    let t = c.requires.job in
-    let task = c.requires.covering.0 in
-    let covering = c.requires.covering.1 in
-    let e = c.in_ok-emitted.ensures in
-    let n = c.branch_registers-after.result in
-    let is : c.as_slice.result.now ≡ job_steps stock job choice =
-    c.as_slice.ensures ∙ e.steps ∙ ap (λ x. cover_steps stock job.destination x choice.plan) (sym (ap tree_or_none e.used)) in
-    let live = wanted_is machine program task covering t.tree job choice t.work t.covers t.test n c.branch_registers-after.type_inv c.branch_registers-after.ensures in
-    told_words (machine_netlist machine) machine.pool.now machine.patterns.now _ _ c.requires.ready.patterns.file
-    (subst (λ xs. AllHaveWords (operation_in (machine_netlist machine) (machine_patterns machine)) (fits_over (machine_netlist machine) (operation_in (machine_netlist machine) (machine_patterns machine))) (singles xs) (regs_of n)) (sym is)
-    (test_have machine program task covering t.tree job choice t.work t.covers t.test n live))
+pub bounds-modes-0-2 : goal.bounds-modes-0-2
+bounds-modes-0-2 c =
+    let q = c.requires.planned in
+    forms_within c.args.modes.now c.args.program.now q.task q.isas q.planning 0 (some_modes q.task.netlist)
 
-pub returns-clause-code : goal.returns-clause-code
-returns-clause-code c =
-    let machine = c.args.machine.now in
-    let program = c.args.program.now in
-    let stock = stock_of program in
-    let job = work_of c.args.job.now in
-    let choice = choice_of c.args.chosen.now in
-    let t = c.requires.job in
-    let task = c.requires.covering.0 in
-    let covering = c.requires.covering.1 in
-    let e = c.in_ok-emitted.ensures in
-    let n = c.branch_registers-after.result in
-    let tree : e.tree ≡ tree_used job choice = sym (ap tree_or_none e.used) in
-    let is : c.as_slice.result.now ≡ job_steps stock job choice = c.as_slice.ensures ∙ e.steps ∙ ap (λ x. cover_steps stock job.destination x choice.plan) tree in
-    let live : wanted stock tested (tree_used job choice) choice.plan ≡ regs_of n =
-    wanted_is machine program task covering t.tree job choice t.work t.covers t.test n c.branch_registers-after.type_inv c.branch_registers-after.ensures in
-    record {
-      packed =
-          subst (λ (after : Regs). IsPackedBlock (machine_netlist machine) (machine_patterns machine) (job_steps stock job choice) after c.in_ok-block.block) (sym live)
-          (subst (λ xs. IsPackedBlock (machine_netlist machine) (machine_patterns machine) xs (regs_of n) c.in_ok-block.block) is c.in_ok-block.ensures.packed);
-      form = root_form machine program task covering t.tree job choice t.work t.covers;
-      setting = c.unwrap_or.ensures ∙ ap (λ b. unwrap_or b 0) (e.branch ∙ ap (λ d. branch_of stock d e.tree choice.plan) t.test) ∙ ap (λ x. branch_setting stock x choice.plan) tree;
-    }
+pub bounds-books-0 : goal.bounds-books-0
+bounds-books-0 c =
+    let q = c.requires.planned in
+    let some = machine_within c.args.modes.now c.args.program.now q.task q.isas q.planning 0 (some_modes q.task.netlist) in
+    book_within c.args.modes.now.machines.now c.args.books.now 0 c.requires.ready some
 
-pub returns-in_err-block-clause-code : goal.returns-in_err-block-clause-code
-returns-in_err-block-clause-code c = IfOk-from_err c.from_residual-in_err-block.result _ c.from_residual-in_err-block.ensures.0
-
-pub returns-in_err-block-clause-once : goal.returns-in_err-block-clause-once
-returns-in_err-block-clause-once c = IfOk-from_err c.from_residual-in_err-block.result _ c.from_residual-in_err-block.ensures.0
-
-pub returns-in_err-emitted-clause-code : goal.returns-in_err-emitted-clause-code
-returns-in_err-emitted-clause-code c = IfOk-from_err c.from_residual.result _ c.from_residual.ensures.0
-
-pub returns-in_err-emitted-clause-once : goal.returns-in_err-emitted-clause-once
-returns-in_err-emitted-clause-once c = IfOk-from_err c.from_residual.result _ c.from_residual.ensures.0
+pub mode_set-requires : goal.mode_set-requires
+mode_set-requires c =
+    let q = c.requires.planned in
+    subst (λ o. HasModeBit o) (sym q.planning.modes.special) (mode_bit q.task.netlist q.planning.checked.netlist)
 
 pub emit-requires : goal.emit-requires
 emit-requires c =
+    let modes = c.args.modes.now in
+    let q = c.requires.planned in
+    let t = c.requires.job in
+    emitted_covers modes c.args.program.now q.task q.isas q.planning t.tree (work_of c.args.job.now) (record { mode = 0; choice = choice_of c.args.chosen.now }) _ t.work t.plans
+    (slice_get-get_or modes.forms.now 0 _ (forms_within modes c.args.program.now q.task q.isas q.planning 0 (some_modes q.task.netlist)))
+
+-- the machine of mode 0 is ready in its book, and knows what its expressions read
+pub branch_registers-requires-clause-tables : goal.branch_registers-requires-clause-tables
+branch_registers-requires-clause-tables c =
+    let q = c.requires.planned in
+    let some = machine_within c.args.modes.now c.args.program.now q.task q.isas q.planning 0 (some_modes q.task.netlist) in
+    (known_at c.args.modes.now c.args.books.now 0 _ c.requires.ready some (slice_get-get_or c.args.modes.now.machines.now 0 _ some)).reads
+
+pub branch_registers-requires-clause-listed : goal.branch_registers-requires-clause-listed
+branch_registers-requires-clause-listed c =
+    let q = c.requires.planned in
+    let some = machine_within c.args.modes.now c.args.program.now q.task q.isas q.planning 0 (some_modes q.task.netlist) in
+    (known_at c.args.modes.now c.args.books.now 0 _ c.requires.ready some (slice_get-get_or c.args.modes.now.machines.now 0 _ some)).listed
+
+pub pack_block-requires-clause-ready : goal.pack_block-requires-clause-ready
+pack_block-requires-clause-ready c =
+    let modes = c.args.modes.now in
+    let books = c.args.books.now in
+    let q = c.requires.planned in
+    let some = machine_within modes c.args.program.now q.task q.isas q.planning 0 (some_modes q.task.netlist) in
+    (ready_at modes.machines.now books 0 _ _ c.requires.ready (slice_get-get_or modes.machines.now 0 _ some) (slice_get-get_or books 0 _ (book_within modes.machines.now books 0 c.requires.ready some))).ready
+
+pub pack_block-requires-clause-tables : goal.pack_block-requires-clause-tables
+pack_block-requires-clause-tables c =
+    let q = c.requires.planned in
+    let some = machine_within c.args.modes.now c.args.program.now q.task q.isas q.planning 0 (some_modes q.task.netlist) in
+    (known_at c.args.modes.now c.args.books.now 0 _ c.requires.ready some (slice_get-get_or c.args.modes.now.machines.now 0 _ some)).reads
+
+pub pack_block-requires-clause-words : goal.pack_block-requires-clause-words
+pack_block-requires-clause-words c =
+    let modes = c.args.modes.now in
+    let program = c.args.program.now in
+    let q = c.requires.planned in
+    let t = c.requires.job in
+    let machine = get_or modes.machines.now 0 c.index-modes-0.result in
+    let some = machine_within modes program q.task q.isas q.planning 0 (some_modes q.task.netlist) in
+    let forms = forms_within modes program q.task q.isas q.planning 0 (some_modes q.task.netlist) in
+    let there = slice_get-get_or modes.machines.now 0 c.index-modes-0.result some in
+    known_words machine (known_at modes c.args.books.now 0 machine c.requires.ready some there) (singles c.as_slice.result.now) (regs_of (bit_or c.branch_registers.result c.mode_set.result))
+    (emitted_words modes program q.task q.isas q.planning t.tree (work_of c.args.job.now) (record { mode = 0; choice = choice_of c.args.chosen.now }) t.work t.plans t.test _ machine
+    (slice_get-get_or modes.forms.now 0 c.index-modes-0-2.result forms) there
+    c.branch_registers.result c.branch_registers.type_inv c.branch_registers.ensures c.mode_set.result c.mode_set.ensures c.in_ok-emitted.emitted c.in_ok-emitted.ensures c.as_slice.result.now c.as_slice.ensures)
+
+pub returns-clause-code : goal.returns-clause-code
+returns-clause-code c = λ task isas p.
+    (let modes = c.args.modes.now in
     let program = c.args.program.now in
     let t = c.requires.job in
-    (chosen_at (stock_of program) (works_in program) (choices_in program) t.tree (work_of c.args.job.now) (choice_of c.args.chosen.now) c.requires.covering.1.chosen t.work t.covers).covers
+    let some = machine_within modes program task isas p 0 (some_modes task.netlist) in
+    let forms = forms_within modes program task isas p 0 (some_modes task.netlist) in
+    subst (λ b. IsTestCode task isas (work_of c.args.job.now) (record { mode = 0; choice = choice_of c.args.chosen.now }) c.in_ok-block.block (c.args.chosen.now.cover.form, b)) (sym c.unwrap_or.ensures)
+    (emitted_code modes program task isas p t.tree (work_of c.args.job.now) (record { mode = 0; choice = choice_of c.args.chosen.now }) t.work t.plans t.test _ _
+    (slice_get-get_or modes.forms.now 0 _ forms) (slice_get-get_or modes.machines.now 0 _ some)
+    c.branch_registers.result c.branch_registers.type_inv c.branch_registers.ensures c.mode_set.result c.mode_set.ensures c.in_ok-emitted.emitted c.in_ok-emitted.ensures c.as_slice.result.now c.as_slice.ensures
+    c.in_ok-block.block c.in_ok-block.ensures.packed))
+
+pub returns-clause-ready : goal.returns-clause-ready
+returns-clause-ready c =
+    let q = c.requires.planned in
+    let some = machine_within c.args.modes.now c.args.program.now q.task q.isas q.planning 0 (some_modes q.task.netlist) in
+    ready_set c.args.modes.now.machines.now c.args.books.now 0 _ c.pack_block.new.book c.requires.ready (slice_get-get_or c.args.modes.now.machines.now 0 _ some) c.pack_block.ensures.ready
+
+pub returns-in_err-block-clause-ready : goal.returns-in_err-block-clause-ready
+returns-in_err-block-clause-ready c =
+    let q = c.requires.planned in
+    let some = machine_within c.args.modes.now c.args.program.now q.task q.isas q.planning 0 (some_modes q.task.netlist) in
+    ready_set c.args.modes.now.machines.now c.args.books.now 0 _ c.pack_block.new.book c.requires.ready (slice_get-get_or c.args.modes.now.machines.now 0 _ some) c.pack_block.ensures.ready

@@ -1,6 +1,6 @@
-use Rattle.std.proofs.Common.{◌≡◌, map, take}
-use Rattle.cover.specs.declared.covers.JobCover.{JobCover as TheCover}
+use Rattle.std.proofs.Common.{◌≡◌, take}
+use Rattle.net_code.specs.Inner.Planning.{told_costs}
 use Rattle.net_code.proofs.covers.costs_of.Given as goal
 
-abbrev pub invariant-loop-chosen : goal.invariant-loop-chosen
-invariant-loop-chosen l = l.costs ≡ map (λ (c : TheCover). c.cost) (take l.chosen-index l.covers)
+abbrev pub invariant-loop-plan : goal.invariant-loop-plan
+invariant-loop-plan l = l.costs ≡ told_costs (take l.plan-index l.plans)

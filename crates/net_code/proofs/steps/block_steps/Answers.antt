@@ -1,8 +1,13 @@
-use Rattle.net_code.specs.Inner.Views.{choices_in, stock_of, works_in}
+use Rattle.mode_set.specs.Plans.{stock_at}
+use Rattle.net_code.specs.Inner.Planning.{plans_in, works_in}
+use Rattle.net_code.proofs.Running.{even}
 use Rattle.net_code.proofs.Stepping.{place_more}
 use Rattle.net_code.proofs.steps.block_steps.Goals as goal
 
 pub loop-k-preserved : goal.loop-k-preserved
 loop-k-preserved c =
-    place_more (stock_of c.args.program.now) (works_in c.args.program.now) (choices_in c.args.program.now) c.requires.even c.args.program.now.flow.now c.args.at c.loop-k.k c.loop-k.steps.items c.push_place.new.steps.items
+    let modes = c.args.modes.now in
+    let program = c.args.program.now in
+    let p = c.requires.planned in
+    place_more (works_in program) (plans_in program) (even modes program p.task p.isas p.planning) (stock_at modes.forms.now program.temps) program.flow.now c.args.at c.loop-k.k c.loop-k.steps.items c.push_place.new.steps.items
     c.loop-k.invariant c.in_ok-push_place.ensures

@@ -3,6 +3,7 @@ use Rattle.std.proofs.Common.{◌++◌, [], ◌∷◌, get_or, subst, sym, take}
 use Rattle.std.proofs.lemmas.List.{take_more}
 use Rattle.bit_bdd.proofs.CallerLemmas.{extends_trans}
 use Rattle.branch_fix.specs.declared.laid.Item.TheVariants.{Group}
+use Rattle.form_model.specs.Live.{regs_of}
 use Rattle.net_code.specs.Inner.Coded.{AreItemWords}
 use Rattle.net_code.specs.Machines.{machine_netlist, machine_patterns}
 use Rattle.net_code.proofs.Listing.{words_more}
@@ -13,6 +14,7 @@ loop-item-preserved c =
     let netlist = machine_netlist c.args.machine.now in
     let patterns = machine_patterns c.args.machine.now in
     let blocks = c.args.blocks.now in
+    let kept = regs_of c.args.kept in
     let items = c.args.items.now in
     let at = c.loop-item.item-index in
     let front = take at items in
@@ -21,9 +23,9 @@ loop-item-preserved c =
       grows = extends_trans c.args.book.now c.loop-item.book c.word_of_item.new.book c.loop-item.invariant.grows c.word_of_item.ensures.grows;
       ready = c.word_of_item.ensures.ready;
       words =
-          subst (λ list. AreItemWords netlist patterns blocks list c.push.new.self) (sym (take_more items at (Group 0 0) c.loop-item-test.true))
-          (subst (AreItemWords netlist patterns blocks (front ++ item ∷ [])) (sym c.in_ok-push.ensures.pushed)
-          (words_more netlist patterns blocks front c.loop-item.words item c.in_ok-word.word c.loop-item.invariant.words c.in_ok-word.ensures.word));
+          subst (λ list. AreItemWords netlist patterns kept blocks list c.push.new.self) (sym (take_more items at (Group 0 0) c.loop-item-test.true))
+          (subst (AreItemWords netlist patterns kept blocks (front ++ item ∷ [])) (sym c.in_ok-push.ensures.pushed)
+          (words_more netlist patterns kept blocks front c.loop-item.words item c.in_ok-word.word c.loop-item.invariant.words c.in_ok-word.ensures.word));
     }
 
 pub returns-in_err-push-clause-words : goal.returns-in_err-push-clause-words

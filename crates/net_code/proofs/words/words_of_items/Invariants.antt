@@ -1,4 +1,5 @@
 use Rattle.std.proofs.Common.{take}
+use Rattle.form_model.specs.Live.{regs_of}
 use Rattle.transfer_set.specs.Ready.{IsReady}
 use Rattle.bit_bdd.specs.Diagrams.{Extends}
 use Rattle.net_code.specs.Inner.Coded.{AreItemWords}
@@ -9,5 +10,5 @@ abbrev pub invariant-loop-item : goal.invariant-loop-item
 invariant-loop-item l = record {
   grows : Extends l.initial.book l.book;
   ready : IsReady (machine_netlist l.machine) l.book l.machine.pool.now l.machine.patterns.now;
-  words : AreItemWords (machine_netlist l.machine) (machine_patterns l.machine) l.blocks (take l.item-index l.items) l.words;
+  words : AreItemWords (machine_netlist l.machine) (machine_patterns l.machine) (regs_of l.kept) l.blocks (take l.item-index l.items) l.words;
 }

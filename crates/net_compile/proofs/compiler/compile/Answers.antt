@@ -1,10 +1,12 @@
-use Rattle.right_code.specs.Tasks.{read_task}
+use Rattle.net_model.proofs.ModeFaults.{modes_keep}
 use Rattle.net_compile.specs.Code.{IsCode}
 use Rattle.net_compile.proofs.TaskLemmas.{holds_of_read}
 use Rattle.net_compile.proofs.compiler.compile.Goals as goal
 
 pub text-requires-clause-rules : goal.text-requires-clause-rules
-text-requires-clause-rules c = c.in_ok-compiled.ensures.compiled.net_file.netlist.rules
+text-requires-clause-rules c =
+    let modes = c.in_ok-compiled.compiled.modes in
+    modes_keep modes.netlist modes.bases c.in_ok-compiled.ensures.compiled.net_file.netlist.rules
 
 pub text-requires-clause-fits : goal.text-requires-clause-fits
 text-requires-clause-fits c = c.in_ok-compiled.ensures.compiled.image.fits
@@ -13,5 +15,5 @@ pub returns-clause-right : goal.returns-clause-right
 returns-clause-right c =
     let made = c.in_ok-compiled.ensures.compiled in
     let program = c.in_ok-compiled.compiled in
-    holds_of_read c.args.net.now c.args.src.now program.checked program.typed made.net_file made.width made.src_file (IsCode c.in_ok-text.text.items)
+    holds_of_read c.args.net.now c.args.src.now program.modes program.typed made.net_file made.width made.src_file (IsCode c.in_ok-text.text.items)
     (record { image = program.image; right = made.image; read = c.in_ok-text.ensures })

@@ -17,7 +17,7 @@ returns-in-Err c =
       more = end_line fault;
       is =
           inr
-          (fault, late (read_task c.args.checked.now c.args.typed.now) c.requires.room c.requires.jumps fault told.1 c.in-Err.ensures.refused, refl);
+          (fault, late (read_task c.args.modes.now c.args.typed.now) c.requires.room c.requires.jumps fault told.1 c.in-Err.ensures.refused, refl);
       text = told.0;
     })
     c.add_refusal.ensures

@@ -1,12 +1,15 @@
-use Rattle.std.proofs.Common.{◌∙◌, ℕ, arith, sym, subst}
+use Rattle.std.proofs.Common.{◌∙◌, ℕ, ap, arith, sym, subst}
 use Rattle.std.proofs.lemmas.Result.{IfErr-weaker, IfOk-from_err, IfOk-weaker, err_from_is_err_and}
 use Rattle.right_code.specs.Tasks.{read_task}
 use Rattle.src_front.proofs.Lengths.{few_variables}
 use Rattle.src_front.proofs.SourceNames.{source_names}
 use Rattle.src_front.specs.Fronts.{IsSrcFile}
 use Rattle.src_model.specs.Written.{listing_of}
+use Rattle.net_model.specs.Nets.{memory_width}
+use Rattle.net_code.proofs.Memories.{first_storages}
 use Rattle.net_compile.proofs.TaskLemmas.{fault_of_code, fault_of_program, holds_of_read}
 use Rattle.net_explain.specs.Explained.{IsExplainedTask}
+use Rattle.net_explain.proofs.Alone.{taken_file}
 use Rattle.net_explain.proofs.Early.{of_program, of_task}
 use Rattle.net_explain.proofs.explaining.explain_on.Goals as goal
 
@@ -18,32 +21,41 @@ task_text-text-requires-clause-few c =
 pub task_text-text-requires-clause-named : goal.task_text-text-requires-clause-named
 task_text-text-requires-clause-named c = source_names c.args.src.now (listing_of c.in_ok-typed.typed.program) c.in_ok-typed.ensures.found.says.text
 
+pub task_text-text-requires-clause-width : goal.task_text-text-requires-clause-width
+task_text-text-requires-clause-width c =
+    c.in_ok-typed.ensures.width ∙ c.memory_width.ensures.width
+    ∙ ap memory_width (first_storages c.args.modes.now.netlist c.first.result.now.netlist c.first.ensures.base)
+
 pub returns-clause-explained : goal.returns-clause-explained
 returns-clause-explained c = λ net read.
-    let checked = c.args.checked.now in
+    let modes = c.args.modes.now in
     let typed = c.in_ok-typed.typed in
     let src = c.args.src.now in
-    let wide = c.in_ok-typed.ensures.width ∙ c.memory_width.ensures.width in
+    let wide = c.in_ok-typed.ensures.width ∙ c.memory_width.ensures.width
+    ∙ ap memory_width (first_storages modes.netlist c.first.result.now.netlist c.first.ensures.base) in
     let file = subst (λ (n : ℕ). IsSrcFile src n (listing_of typed.program)) (sym c.in_ok-typed.ensures.width) c.in_ok-typed.ensures.found in
-    IfOk-weaker c.task_text-text.result _ _ (λ text is. holds_of_read net src checked typed read wide file (IsExplainedTask src text.items) is) c.task_text-text.ensures.explained
+    IfOk-weaker c.task_text-text.result _ _ (λ text is. (taken_file net modes read, holds_of_read net src modes typed read.routed wide file (IsExplainedTask src text.items) is)) c.task_text-text.ensures.explained
 
 pub returns-clause-refused : goal.returns-clause-refused
 returns-clause-refused c = λ net read.
-    let checked = c.args.checked.now in
+    let modes = c.args.modes.now in
     let typed = c.in_ok-typed.typed in
     let src = c.args.src.now in
-    let wide = c.in_ok-typed.ensures.width ∙ c.memory_width.ensures.width in
+    let wide = c.in_ok-typed.ensures.width ∙ c.memory_width.ensures.width
+    ∙ ap memory_width (first_storages modes.netlist c.first.result.now.netlist c.first.ensures.base) in
     let file = subst (λ (n : ℕ). IsSrcFile src n (listing_of typed.program)) (sym c.in_ok-typed.ensures.width) c.in_ok-typed.ensures.found in
     IfErr-weaker c.task_text-text.result _ _
-    (λ fault h. of_task net src (read_task checked typed) fault (fault_of_code net src checked typed read wide file fault) h) c.task_text-text.ensures.refused
+    (λ fault h. of_task net src (taken_file net modes read) (read_task modes typed) fault (fault_of_code net src modes typed read.routed wide file fault) h) c.task_text-text.ensures.refused
 
 pub returns-in_err-typed-clause-refused : goal.returns-in_err-typed-clause-refused
 returns-in_err-typed-clause-refused c = λ net read.
     let p = err_from_is_err_and c.from_residual.result c.from_residual.ensures.1 in
     let refused = c.in_err-typed.ensures.refused in
+    let modes = c.args.modes.now in
+    let wide = c.memory_width.ensures.width ∙ ap memory_width (first_storages modes.netlist c.first.result.now.netlist c.first.ensures.base) in
     rw (p.1, p.2)
-    (of_program net c.args.src.now _ _ refused
-    (fault_of_program net c.args.src.now c.args.checked.now _ read c.memory_width.ensures.width _ refused))
+    (of_program net c.args.src.now (taken_file net modes read) _ _ refused
+    (fault_of_program net c.args.src.now modes _ read.routed wide _ refused))
 
 pub returns-in_err-typed-clause-explained : goal.returns-in_err-typed-clause-explained
 returns-in_err-typed-clause-explained c = λ net read. IfOk-from_err c.from_residual.result _ c.from_residual.ensures.0

@@ -1,5 +1,5 @@
-use Rattle.net_extract.proofs.Extracting.{text_of_patterns}
+use Rattle.net_extract.proofs.Extracting.{text_of_modes}
 use Rattle.net_extract.proofs.texts.extract.Goals as goal
 
 pub returns-clause-text : goal.returns-clause-text
-returns-clause-text c = text_of_patterns _ _ _ _ c.in_ok-checked.ensures.netlist c.in_ok-checked.ensures.patterns c.in_ok-text.ensures
+returns-clause-text c = text_of_modes _ _ _ c.in_ok-modes.ensures.netlist c.in_ok-text.ensures

@@ -1,16 +1,33 @@
 use Rattle.std.proofs.Common.{arith, rules}
 use Rattle.net_model.specs.Written.{text_of}
-use Rattle.net_front.proofs.FrontLaws.{few_items, refusal_of}
+use Rattle.net_front.proofs.FrontLaws.{few_items, keeps_alone, refusal_of}
 use Rattle.net_front.proofs.TakenLaws.{newer_taken, taken_of_items, taken_refusal}
 use Rattle.net_front.proofs.taken.read_taken.Goals as goal
 
-pub checked-checked-requires : goal.checked-checked-requires
-checked-checked-requires c = few_items c.args.bytes.now c.in_ok-units.units c.in_ok-units.ensures.found c.requires
+pub modes-requires : goal.modes-requires
+modes-requires c = few_items c.args.bytes.now c.in_ok-units.units c.in_ok-units.ensures.found c.requires.bytes
 
 pub returns-then-units-newest-clause-refused : goal.returns-then-units-newest-clause-refused
 returns-then-units-newest-clause-refused c =
     newer_taken c.args.newest c.args.bytes.now (text_of c.in_ok-units.units) c.in_ok-units.ensures.found c.if-units-newest.true
-    c.checked-checked.result c.newer_refusal.result c.checked-checked.ensures.found c.checked-checked.ensures.refused c.newer_refusal.ensures.kept c.newer_refusal.ensures.refused
+    c.modes.result c.newer_refusal.result c.modes.ensures.found c.modes.ensures.refused
+    (rw c.added_role-role.ensures at c.newer_refusal.ensures.kept) (rw c.added_role-role.ensures at c.newer_refusal.ensures.refused)
+
+pub checked-requires-clause-few : goal.checked-requires-clause-few
+checked-requires-clause-few c = few_items c.args.bytes.now c.in_ok-units.units c.in_ok-units.ensures.found c.requires.bytes
+
+pub checked-requires-clause-alone : goal.checked-requires-clause-alone
+checked-requires-clause-alone c =
+    let older = c.if-units-newest.false in
+    omega (arith, older, c.requires.alone)
+
+pub returns-clause-found : goal.returns-clause-found
+returns-clause-found c =
+    let older = c.if-units-newest.false in
+    record {
+      says = c.in_ok-units.ensures.found;
+      keeps = keeps_alone (text_of c.in_ok-units.units) c.in_ok-checked.checked (omega (arith, older, c.requires.alone)) c.in_ok-checked.ensures.found;
+    }
 
 pub returns-in_err-checked-clause-refused : goal.returns-in_err-checked-clause-refused
 returns-in_err-checked-clause-refused c =

@@ -7,7 +7,7 @@ use Rattle.net_make.proofs.ends.run_image.Goals as goal
 
 pub clock_to-clocks-requires : goal.clock_to-clocks-requires
 clock_to-clocks-requires c =
-    let netlist = c.args.checked.now.netlist in
+    let netlist = c.args.modes.now.netlist in
     let image = c.args.image.now in
     let address : c.end_address.result ≡ end_address image.marks = c.end_address.ensures ∙ ap end_address c.as_slice.ensures in
     subst (λ (x : Shown). RunsOn x.netlist x.words (StandsAt x.netlist c.end_address.result) c.args.most x.state) (sym c.in_ok-sim.ensures)
@@ -15,7 +15,7 @@ clock_to-clocks-requires c =
 
 pub returns : goal.returns
 returns c =
-    let netlist = c.args.checked.now.netlist in
+    let netlist = c.args.modes.now.netlist in
     let image = c.args.image.now in
     let address : c.end_address.result ≡ end_address image.marks = c.end_address.ensures ∙ ap end_address c.as_slice.ensures in
     let stops = subst (λ (x : Shown). StopsAt x.netlist x.words (StandsAt x.netlist c.end_address.result) x.state c.args.most c.clock_to-clocks.result c.clock_to-clocks.new.sim.state) c.in_ok-sim.ensures c.clock_to-clocks.ensures.stops in

@@ -9,15 +9,18 @@ use Rattle.net_make.proofs.summing.summarize.Goals as goal
 
 pub run_image-requires-clause-words : goal.run_image-requires-clause-words
 run_image-requires-clause-words c =
-    words_fit c.args.checked.now.netlist c.args.checked.now.order c.requires.rules c.args.image.now.words c.requires.image.fits.words
+    words_fit c.args.modes.now.netlist c.requires.rules c.args.image.now.words c.requires.image.fits.words
+
+pub run_image-requires-clause-start : goal.run_image-requires-clause-start
+run_image-requires-clause-start c = c.in_ok-start.ensures.starts.here.state
 
 pub run_image-requires-clause-clean : goal.run_image-requires-clause-clean
 run_image-requires-clause-clean c =
-    right_runs (read_task c.args.checked.now c.args.typed.now) c.args.image.now c.requires.image.right c.in_ok-start.start c.in_ok-start.ensures.starts 1000000
+    right_runs (read_task c.args.modes.now c.args.typed.now) c.args.image.now c.requires.image.right c.in_ok-start.start c.in_ok-start.ensures.starts 1000000
 
 pub returns : goal.returns
 returns c =
-    let netlist = c.args.checked.now.netlist in
+    let netlist = c.args.modes.now.netlist in
     let image = c.args.image.now in
     record {
       cycles = c.in_ok-cycles.cycles;

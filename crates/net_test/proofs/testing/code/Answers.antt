@@ -1,9 +1,10 @@
-use Rattle.std.proofs.Common.{◌≡◌, ◌∙◌, false, sym, true}
+use Rattle.std.proofs.Common.{◌≡◌, ◌∙◌, false, refl, sym, true}
 use Rattle.std.specs.List.{list_all}
 use Rattle.form_model.specs.declared.forms.Form.{Form}
 use Rattle.form_model.specs.Rules.{kind_of, rules_of}
 use Rattle.form_set.specs.Promises.{is_control_goal}
 use Rattle.net_code.specs.Machines.{machine_netlist, machine_patterns}
+use Rattle.net_code.proofs.FormLemmas.{plain_isa}
 use Rattle.net_code.proofs.NeededForms.{some_step, stepless}
 use Rattle.net_test.specs.Refusals.{HasForms}
 use Rattle.net_test.proofs.Answering.{cells, code_made}
@@ -16,7 +17,7 @@ returns-then-only_control-clause-refused c =
     let list = c.args.forms.now.list.items in
     let has : HasForms nt patterns (rules_of list) = record { are = c.requires.patterns; reach = c.args.forms.now.reach; forms = c.requires.forms } in
     let control : list_all (λ (form : Form). is_control_goal (kind_of form.goal)) list ≡ true = rw c.deref.ensures.value at (sym c.only_control.ensures ∙ c.if-only_control.true) in
-    (cells nt patterns (rules_of list) has c.in_ok-tests.ensures.jobs.room, stepless nt patterns c.requires.patterns list c.args.forms.now.reach c.requires.forms control)
+    (cells nt patterns (rules_of list) has c.in_ok-tests.ensures.jobs.room, stepless nt (plain_isa nt c.requires.plain patterns c.requires.patterns (rules_of list) c.args.forms.now.reach c.requires.forms) list refl control)
 
 pub returns-clause-code : goal.returns-clause-code
 returns-clause-code c =
@@ -26,4 +27,4 @@ returns-clause-code c =
     let has : HasForms nt patterns (rules_of list) = record { are = c.requires.patterns; reach = c.args.forms.now.reach; forms = c.requires.forms } in
     let control : list_all (λ (form : Form). is_control_goal (kind_of form.goal)) list ≡ false = rw c.deref.ensures.value at (sym c.only_control.ensures ∙ c.if-only_control.false) in
     code_made nt patterns (rules_of list) has c.in_ok-code.code c.in_ok-code.ensures.code c.in_ok-tests.ensures.jobs.room
-    (some_step nt patterns c.requires.patterns list c.args.forms.now.reach c.requires.forms control)
+    (some_step nt (plain_isa nt c.requires.plain patterns c.requires.patterns (rules_of list) c.args.forms.now.reach c.requires.forms) list refl control)

@@ -1,6 +1,11 @@
 use Rattle.std.proofs.lemmas.Result.{IfErr-weaker, IfOk-weaker}
+use Rattle.net_extract.proofs.RoutedTaken.{taken_plain}
 use Rattle.net_test.proofs.Answering.{lacking, tested}
 use Rattle.net_test.proofs.testing.test.Goals as goal
+
+-- an edition that is taken has no modes
+pub text_of-requires-clause-plain : goal.text_of-requires-clause-plain
+text_of-requires-clause-plain c = taken_plain 1 c.args.net.now c.in_ok-checked.checked c.in_ok-checked.ensures.netlist
 
 pub returns-clause-tested : goal.returns-clause-tested
 returns-clause-tested c =

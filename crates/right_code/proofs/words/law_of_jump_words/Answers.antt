@@ -2,4 +2,4 @@ use Rattle.right_code.proofs.Right.{jump_words_of}
 use Rattle.right_code.proofs.words.law_of_jump_words.Goals as goal
 
 pub returns : goal.returns
-returns c = λ order task checked patterns are rules reach forms choices chosen parts layout branch k step e. jump_words_of order task checked patterns are rules reach forms choices chosen parts layout branch k step e
+returns c = λ task checked isas plans planned parts layout branch k step e. jump_words_of task checked isas plans planned parts layout branch k step e

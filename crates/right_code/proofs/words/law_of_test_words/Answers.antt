@@ -2,4 +2,4 @@ use Rattle.right_code.proofs.Right.{test_words_of}
 use Rattle.right_code.proofs.words.law_of_test_words.Goals as goal
 
 pub returns : goal.returns
-returns c = λ order task checked patterns are rules reach forms choices chosen number job choice at there e live less. test_words_of order task checked patterns are rules reach forms choices chosen number job choice at there e live less
+returns c = λ task checked isas plans planned number job own at there e live less. test_words_of task checked isas plans planned number job own at there e live less

@@ -17,4 +17,4 @@ returns c =
     let n = c.args.checked.now.netlist in
     let f : slice_get n.storages c.in_ok-place.place ≡ Some c.in_ok-storage.storage.now = rw c.netlist.ensures.value at (sym c.in_ok-storage.ensures) in
     let e : named_at n.storages c.args.name.now ≡ Some c.in_ok-place.place = rw (c.as_slice.ensures, c.netlist.ensures.value) at (sym c.in_ok-place.ensures) in
-    c.setting_at.ensures ∙ (found_storage n c.args.name.now c.args.text.now c.in_ok-place.place c.in_ok-storage.storage.now e f)
+    c.setting_at.ensures ∙ (found_storage n c.args.still c.args.name.now c.args.text.now c.in_ok-place.place c.in_ok-storage.storage.now e f)

@@ -11,35 +11,35 @@ use Rattle.net_watch.proofs.watch.Watch.new.Goals as goal
 
 pub new-requires-clause-words : goal.new-requires-clause-words
 new-requires-clause-words c =
-    rw c.in_ok-words.ensures (words_fit c.args.checked.now.netlist c.args.checked.now.order c.netlist-netlist.ensures.kept c.args.image.now.words c.requires.fits.words)
+    rw c.in_ok-words.ensures (words_fit c.args.modes.now.netlist c.args.modes.now.bases c.netlist-netlist.ensures.kept c.args.image.now.words c.requires.fits.words)
 
 pub new-requires-2 : goal.new-requires-2
 new-requires-2 c =
     let typed = c.args.typed.now in
     let vars = typed.program.vars in
-    let scene = scene_of c.args.checked.now.netlist c.args.checked.now.order c.netlist-netlist.ensures.kept (temp_count typed.width (listing_of typed.program)) vars c.args.image.now c.args.start c.requires.start.state c.requires.layout c.requires.fits in
+    let scene = scene_of c.args.modes.now.netlist c.args.modes.now.bases c.netlist-netlist.ensures.kept (temp_count typed.width (listing_of typed.program)) vars c.args.image.now c.args.start c.requires.start.here.state c.requires.layout c.requires.fits in
     let last_cells : c.as_slice.result.now ≡ vars = c.as_slice.ensures ∙ ap (λ p. p.vars) c.program.ensures.value in
     omega (arith, ap cell_count last_cells, scene.within, scene.few)
 
 pub invariant_of-result : goal.invariant_of-result
 invariant_of-result c =
-    let netlist = c.args.checked.now.netlist in
+    let netlist = c.args.modes.now.netlist in
     let image = c.args.image.now in
     let typed = c.args.typed.now in
     let vars = typed.program.vars in
     let first = shows_first netlist image (strace typed.width (listing_of typed.program)) c.requires.traces (strace_steady typed.width (listing_of typed.program)) (strace_enough typed.width (listing_of typed.program)) c.args.start c.args.clocks c.requires.start in
-    let scene = scene_of netlist c.args.checked.now.order c.netlist-netlist.ensures.kept (temp_count typed.width (listing_of typed.program)) vars image c.args.start c.requires.start.state c.requires.layout c.requires.fits in
+    let scene = scene_of netlist c.args.modes.now.bases c.netlist-netlist.ensures.kept (temp_count typed.width (listing_of typed.program)) vars image c.args.start c.requires.start.here.state c.requires.layout c.requires.fits in
     let named : c.as_slice.result.now ≡ vars = c.as_slice.ensures ∙ ap (λ p. p.vars) c.program.ensures.value in
     let made = c.in_ok-sim.ensures in
     let sim = c.in_ok-sim.sim in
     ready netlist image (strace typed.width (listing_of typed.program)) c.args.start c.args.clocks first sim vars c.in_ok-writer.writer.vars.now
     (ap (λ (s : Shown). s.netlist) made) (ap (λ (s : Shown). s.state) made) (c.in_ok-writer.ensures.vars ∙ named)
     c.in_ok-writer.writer.address c.in_ok-writer.writer.last_cells (ap (λ (s : Shown). s.words) made ∙ c.in_ok-words.ensures) c.in_ok-writer.ensures.address (c.in_ok-writer.ensures.last_cells ∙ ap zeros named)
-    c.requires.start.state scene
+    c.requires.start.here.state scene
 
 pub returns : goal.returns
 returns c =
-    let netlist = c.args.checked.now.netlist in
+    let netlist = c.args.modes.now.netlist in
     let image = c.args.image.now in
     let typed = c.args.typed.now in
     let vars = typed.program.vars in

@@ -1,0 +1,160 @@
+-- The best plan among those of the first modes, one mode after the other.
+use Rattle.std.proofs.Common.{ℕ, zero, suc, [], ◌∷◌, length, slice_get, ◌≡◌, ◌≤◌, ◌<◌, ◌+◌, ◌⊎◌, inl, inr, nat_le, if◌then◌else◌, Bool, true, false, List, Option, Some, None, refl, sym, ◌∙◌, ap, arith, subst}
+use Rattle.std.proofs.lemmas.Bool.{leb-true, leb-false, cases_lt}
+use Rattle.net_model.specs.Terms.{Term}
+use Rattle.form_model.specs.Covers.{Choice, ChoiceBefore, Covers, IsChosen, Stock, job_cost, parts_cost}
+use Rattle.form_model.specs.Plans.{Plan as Covering, cost, use_form}
+use Rattle.form_model.specs.Rules.{Destination, into, filed, cell, stored, temporary, tested}
+use Rattle.mode_set.specs.declared.plans.Priced.{Priced}
+use Rattle.mode_set.specs.Costs.{CoversIn, HasNoPlan, IsPlanned, MayRunIn, mode_cost}
+use Rattle.mode_set.specs.Inner.Best.{IsBestBelow, IsPlanIn, IsPriceBy, better_of}
+use Rattle.mode_set.specs.Plans.{planned_of}
+
+-- ---- a chosen cover costs no more than another
+
+own_one : (plan : Covering) → cost plan ≡ 1 + parts_cost plan
+own_one (use_form k ps cs) = omega arith
+
+less_cost : (destination : Destination) (p q : Covering) → cost p ≤ cost q → job_cost destination p ≤ job_cost destination q
+less_cost tested p q le = let a = own_one p in let b = own_one q in omega (arith, a, b, le)
+less_cost (into id) p q le = le
+less_cost filed p q le = le
+less_cost (cell address) p q le = le
+less_cost (stored address) p q le = le
+less_cost temporary p q le = le
+
+chosen_least : (stock : Stock) (destination : Destination) (trees : List Term) (a b : Choice) → IsChosen stock destination trees a → Covers stock destination trees b → job_cost destination a.plan ≤ job_cost destination b.plan
+chosen_least stock destination trees a b h k = less_cost destination a.plan b.plan (by (h.first b k))
+  where
+    by : (cost a.plan < cost b.plan) ⊎ ((cost a.plan ≡ cost b.plan) × ((a ≡ b) ⊎ ChoiceBefore a b)) → cost a.plan ≤ cost b.plan
+    by (inl l) = omega (arith, l)
+    by (inr e) = let s = e.0 in omega (arith, s)
+
+module _ (stock : ℕ → Stock) (Usable : ℕ → Type 0) (destination : Destination) (trees : List Term) where
+  abbrev Least : ℕ → ℕ → ℕ → Choice → Type 0
+  Least c mode v other = (c < mode_cost v destination other.plan) ⊎ ((c ≡ mode_cost v destination other.plan) × (mode ≤ v))
+
+  -- the plan of a mode is the least there
+  own_least : (v : ℕ) (p : Priced) → IsPlanIn stock Usable destination trees v (Some p) → (other : Choice) → CoversIn stock Usable destination trees v other → p.cost ≤ mode_cost v destination other.plan
+  own_least v p h other c =
+      let e : p.plan.mode ≡ v = h.0 in
+      let k : IsChosen (stock v) destination trees (planned_of p.plan).choice = subst (λ m. IsChosen (stock m) destination trees (planned_of p.plan).choice) e h.1.chosen in
+      let own : p.cost ≡ mode_cost v destination (planned_of p.plan).choice.plan = h.1.cost ∙ ap (λ m. mode_cost m destination (planned_of p.plan).choice.plan) e in
+      let le = chosen_least (stock v) destination trees (planned_of p.plan).choice other k c.covers in
+      omega (arith, own, le)
+
+  -- the plan that the forms of one mode give
+  pub plan_of_mode : (v : ℕ) (forms : Stock) → stock v ≡ forms → Usable v → MayRunIn destination v → (o : Option Priced) → IsPriceBy forms destination trees v o → IsPlanIn stock Usable destination trees v o
+  plan_of_mode v forms told can may None h = λ choice c. h.none choice (subst (λ (s : Stock). Covers s destination trees choice) told c.covers)
+  plan_of_mode v forms told can may (Some p) h = (
+    h.mode,
+    record {
+      can = subst Usable (sym h.mode) can;
+      may = subst (MayRunIn destination) (sym h.mode) may;
+      chosen = subst (λ m. IsChosen (stock m) destination trees (planned_of p.plan).choice) (sym h.mode) (subst (λ (s : Stock). IsChosen s destination trees (planned_of p.plan).choice) (sym told) h.chosen);
+      own = h.own;
+      cost = h.cost ∙ ap (λ m. mode_cost m destination (planned_of p.plan).choice.plan) (sym h.mode);
+    },
+  )
+
+  split : (v n : ℕ) → v < n + 1 → (v < n) ⊎ (v ≡ n)
+  split v n lt = elim (cases_lt v n) as (λ _. (v < n) ⊎ (v ≡ n)) [
+    | inl l ↦ inl l
+    | inr g ↦ inr (omega (arith, lt, g))
+  ]
+
+  -- one mode more
+  pub best_more : (n : ℕ) (best next : Option Priced) → IsBestBelow stock Usable destination trees n best → IsPlanIn stock Usable destination trees n next → IsBestBelow stock Usable destination trees (n + 1) (better_of best next)
+  best_more n None None h k = λ v choice lt c. by v choice c (split v n lt)
+    where
+      by : (v : ℕ) (choice : Choice) → CoversIn stock Usable destination trees v choice → (v < n) ⊎ (v ≡ n) → ⊥
+      by v choice c (inl l) = h v choice l c
+      by v choice c (inr e) = k choice (subst (λ m. CoversIn stock Usable destination trees m choice) e c)
+  best_more n (Some known) None h k = record {
+    is = h.is;
+    below = let b = h.below in omega (arith, b);
+    least = λ v other lt c. by v other c (split v n lt);
+  }
+    where
+      by : (v : ℕ) (other : Choice) → CoversIn stock Usable destination trees v other → (v < n) ⊎ (v ≡ n) → Least known.cost known.plan.mode v other
+      by v other c (inl l) = h.least v other l c
+      by v other c (inr e) = absurd (k other (subst (λ m. CoversIn stock Usable destination trees m other) e c))
+  best_more n None (Some later) h k = record {
+    is = k.1;
+    below = let e = k.0 in omega (arith, e);
+    least = λ v other lt c. by v other c (split v n lt);
+  }
+    where
+      by : (v : ℕ) (other : Choice) → CoversIn stock Usable destination trees v other → (v < n) ⊎ (v ≡ n) → Least later.cost later.plan.mode v other
+      by v other c (inl l) = absurd (h v other l c)
+      by v other c (inr e) =
+          let own = own_least n later k other (subst (λ m. CoversIn stock Usable destination trees m other) e c) in
+          let mode = k.0 in
+          at (ap (λ m. mode_cost m destination other.plan) e) own (omega (arith, mode, e))
+        where
+          at : mode_cost v destination other.plan ≡ mode_cost n destination other.plan → later.cost ≤ mode_cost n destination other.plan → later.plan.mode ≤ v → Least later.cost later.plan.mode v other
+          at s le m = elim (cases_lt later.cost (mode_cost v destination other.plan)) as (λ _. Least later.cost later.plan.mode v other) [
+            | inl l ↦ inl l
+            | inr g ↦ inr (omega (arith, s, le, g), m)
+          ]
+  best_more n (Some known) (Some later) h k = by_cost (nat_le known.cost later.cost) refl
+    where
+      by_cost : (b : Bool) → nat_le known.cost later.cost ≡ b → IsBestBelow stock Usable destination trees (n + 1) (if b then Some known else Some later)
+      by_cost true e = record {
+        is = h.is;
+        below = let b = h.below in omega (arith, b);
+        least = λ v other lt c. by v other c (split v n lt);
+      }
+        where
+          by : (v : ℕ) (other : Choice) → CoversIn stock Usable destination trees v other → (v < n) ⊎ (v ≡ n) → Least known.cost known.plan.mode v other
+          by v other c (inl l) = h.least v other l c
+          by v other c (inr f) =
+              let own = own_least n later k other (subst (λ m. CoversIn stock Usable destination trees m other) f c) in
+              let s : mode_cost v destination other.plan ≡ mode_cost n destination other.plan = ap (λ m. mode_cost m destination other.plan) f in
+              let le = leb-true known.cost later.cost e in
+              let b = h.below in
+              elim (cases_lt known.cost (mode_cost v destination other.plan)) as (λ _. Least known.cost known.plan.mode v other) [
+                | inl l ↦ inl l
+                | inr g ↦ inr (omega (arith, s, le, own, g), omega (arith, b, f))
+              ]
+      by_cost false e = record {
+        is = k.1;
+        below = let m = k.0 in omega (arith, m);
+        least = λ v other lt c. by v other c (split v n lt);
+      }
+        where
+          by : (v : ℕ) (other : Choice) → CoversIn stock Usable destination trees v other → (v < n) ⊎ (v ≡ n) → Least later.cost later.plan.mode v other
+          by v other c (inl l) =
+              let gt = leb-false known.cost later.cost e in
+              inl (less gt (h.least v other l c))
+            where
+              less : later.cost < known.cost → Least known.cost known.plan.mode v other → later.cost < mode_cost v destination other.plan
+              less gt (inl z) = omega (arith, gt, z)
+              less gt (inr z) = let s = z.0 in omega (arith, gt, s)
+          by v other c (inr f) =
+              let own = own_least n later k other (subst (λ m. CoversIn stock Usable destination trees m other) f c) in
+              let s : mode_cost v destination other.plan ≡ mode_cost n destination other.plan = ap (λ m. mode_cost m destination other.plan) f in
+              let mode = k.0 in
+              elim (cases_lt later.cost (mode_cost v destination other.plan)) as (λ _. Least later.cost later.plan.mode v other) [
+                | inl l ↦ inl l
+                | inr g ↦ inr (omega (arith, s, own, g), omega (arith, mode, f))
+              ]
+
+  -- over all modes that can be used
+  pub best_planned : (n : ℕ) (p : Priced) → ((v : ℕ) → Usable v → v < n) → IsBestBelow stock Usable destination trees n (Some p) → IsPlanned stock Usable destination trees (planned_of p.plan)
+  best_planned n p within h = record {
+    can = h.is.can;
+    may = h.is.may;
+    chosen = h.is.chosen;
+    least = λ v other c. subst (λ x. Least x p.plan.mode v other) h.is.cost (h.least v other (within v c.can) c);
+  }
+
+  pub none_planned : (n : ℕ) → ((v : ℕ) → Usable v → v < n) → IsBestBelow stock Usable destination trees n None → HasNoPlan stock Usable destination trees
+  none_planned n within h = record { none = λ v choice c. h v choice (within v c.can) c }
+
+-- ---- a mode that is marked stands in the list
+
+pub marked_within : (usable : List Bool) (v : ℕ) → slice_get usable v ≡ Some true → v < length usable
+marked_within [] v e = absurd (cc e)
+marked_within (b ∷ usable) zero e = omega arith
+marked_within (b ∷ usable) (suc v) e = let h = marked_within usable v e in omega (arith, h)

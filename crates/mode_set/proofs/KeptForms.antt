@@ -1,0 +1,161 @@
+-- Forms that keep the mode, one form after the other.
+use Rattle.std.proofs.Common.{ℕ, zero, suc, ◌≡◌, ◌↔◌, ◌<◌, ◌≤◌, ◌+◌, ◌/◌, ◌^◌, ◌==◌, ◌++◌, ◌⊎◌, inl, inr, max, true, false, List, [], ◌∷◌, length, Option, Some, None, refl, sym, ap, ◌∙◌, subst, slice_get, get_or, take, arith, eq-eqb, eqb-true}
+use Rattle.std.specs.List.{AllByRecursion}
+use Rattle.std.specs.Prelude.{IsTrue, bit_and, option_map}
+use Rattle.std.proofs.lemmas.List.{map-append, take_more}
+use Rattle.std.proofs.lemmas.Nat.Bits.{shr_and_one}
+use Rattle.std.proofs.lemmas.Option.{slice_get-map, slice_get_read}
+use Rattle.std.specs.Int.{bit_at}
+use Rattle.net_model.specs.declared.hardware.Netlist.{Netlist}
+use Rattle.net_model.specs.Patterns.{Pattern}
+use Rattle.form_model.specs.declared.forms.Form.{Form}
+use Rattle.form_model.specs.Registers.{AreLow, IsLow}
+use Rattle.form_model.specs.Rules.{Kind, Rule, into_reg, into_memory, into_file, jumps, branches, rule_of, rules_of}
+use Rattle.form_set.specs.Listing.{goal_reach, greatest_reach}
+use Rattle.form_set.specs.Promises.{is_control_goal}
+use Rattle.form_set.specs.Words.{CanTurn, TurnsAt}
+use Rattle.mode_set.specs.Keeping.{AreKeeping, FormKeeps, FormKeepsMode, KindKeeps}
+
+module _ (netlist : Netlist) (patterns : List Pattern) (o : Option ℕ) where
+  -- the forms that are kept of a front part and one more form
+  pub kept_more : (rules kept : List Rule) (rule : Rule) → AreKeeping netlist patterns o rules kept → FormKeepsMode netlist patterns o rule → AreKeeping netlist patterns o (rules ++ rule ∷ []) (kept ++ rule ∷ [])
+  kept_more [] kept rule h k = ([], refl, inl (k, ap (λ (list : List Rule). list ++ rule ∷ []) h))
+  kept_more (r ∷ rules) kept rule h k = elim h.2 as (λ _. AreKeeping netlist patterns o (r ∷ (rules ++ rule ∷ [])) (kept ++ rule ∷ [])) [
+    | inl x ↦ (h.0 ++ rule ∷ [], kept_more rules h.0 rule h.1 k, inl (x.0, ap (λ (list : List Rule). list ++ rule ∷ []) x.1))
+    | inr x ↦ (h.0 ++ rule ∷ [], kept_more rules h.0 rule h.1 k, inr (x.0, ap (λ (list : List Rule). list ++ rule ∷ []) x.1))
+  ]
+
+  pub left_more : (rules kept : List Rule) (rule : Rule) → AreKeeping netlist patterns o rules kept → (FormKeepsMode netlist patterns o rule → ⊥) → AreKeeping netlist patterns o (rules ++ rule ∷ []) kept
+  left_more [] kept rule h k = ([], refl, inr (k, h))
+  left_more (r ∷ rules) kept rule h k = elim h.2 as (λ _. AreKeeping netlist patterns o (r ∷ (rules ++ rule ∷ [])) kept) [
+    | inl x ↦ (h.0, left_more rules h.0 rule h.1 k, inl x)
+    | inr x ↦ (h.0, left_more rules h.0 rule h.1 k, inr x)
+  ]
+
+pub reach_more : (rules : List Rule) (rule : Rule) → greatest_reach (rules ++ rule ∷ []) ≡ max (greatest_reach rules) (goal_reach rule.goal)
+reach_more [] rule = omega arith
+reach_more (r ∷ rules) rule = let h = reach_more rules rule in omega (arith, h)
+
+-- ---- one form
+
+none_past : {X : Type 0} (xs : List X) (k : ℕ) → slice_get xs k ≡ None → length xs ≤ k
+none_past [] k e = omega arith
+none_past (x ∷ xs) zero e = absurd (cc e)
+none_past (x ∷ xs) (suc k) e = let h = none_past xs k e in omega (arith, h)
+
+module _ (netlist : Netlist) (patterns : List Pattern) (mode : ℕ) (rule : Rule) where
+  -- a form that is no jump and no branch keeps the mode where its clobbers don't hold it
+  kind_clear : (pattern : Pattern) (k : Kind) → is_control_goal k ≡ false → bit_at rule.clobbers mode ≡ 0 → KindKeeps netlist pattern mode rule k
+  kind_clear pattern (into_reg id) e h = h
+  kind_clear pattern into_memory e h = h
+  kind_clear pattern into_file e h = h
+  kind_clear pattern (jumps reach) e h = absurd (cc e)
+  kind_clear pattern (branches when_one to) e h = absurd (cc e)
+
+  clear_kind : (pattern : Pattern) (k : Kind) → is_control_goal k ≡ false → KindKeeps netlist pattern mode rule k → bit_at rule.clobbers mode ≡ 0
+  clear_kind pattern (into_reg id) e h = h
+  clear_kind pattern into_memory e h = h
+  clear_kind pattern into_file e h = h
+  clear_kind pattern (jumps reach) e h = absurd (cc e)
+  clear_kind pattern (branches when_one to) e h = absurd (cc e)
+
+  pub stores_keep : is_control_goal rule.goal ≡ false → rule.pattern < length patterns → (bit_at rule.clobbers mode ≡ 0) ↔ FormKeeps netlist patterns mode rule
+  stores_keep e lt = (λ h. by (slice_get patterns rule.pattern) refl h, λ f. clear_kind f.pattern rule.goal e f.keeps)
+    where
+      by : (q : Option Pattern) → slice_get patterns rule.pattern ≡ q → bit_at rule.clobbers mode ≡ 0 → FormKeeps netlist patterns mode rule
+      by None at h = absurd (let le = none_past patterns rule.pattern at in omega (arith, lt, le))
+      by (Some pattern) at h = record { pattern = pattern; at = at; keeps = kind_clear pattern rule.goal e h }
+
+  -- the same, as the code asks
+  pub spared_keep : is_control_goal rule.goal ≡ false → rule.pattern < length patterns → IsTrue (bit_and (rule.clobbers / 2 ^ mode) 1 == 0) ↔ FormKeeps netlist patterns mode rule
+  spared_keep e lt =
+      let keep = stores_keep e lt in (
+        λ t. keep.0 (sym (shr_and_one rule.clobbers mode) ∙ eqb-true (bit_and (rule.clobbers / 2 ^ mode) 1) 0 t),
+        λ f. eq-eqb (bit_and (rule.clobbers / 2 ^ mode) 1) 0 (shr_and_one rule.clobbers mode ∙ keep.1 f),
+      )
+
+  -- a jump or a branch keeps it where its pattern turns
+  kind_turns : (pattern : Pattern) (k : Kind) → is_control_goal k ≡ true → CanTurn netlist pattern mode → KindKeeps netlist pattern mode rule k
+  kind_turns pattern (into_reg id) e h = absurd (cc e)
+  kind_turns pattern into_memory e h = absurd (cc e)
+  kind_turns pattern into_file e h = absurd (cc e)
+  kind_turns pattern (jumps reach) e h = h
+  kind_turns pattern (branches when_one to) e h = h
+
+  turns_kind : (pattern : Pattern) (k : Kind) → is_control_goal k ≡ true → KindKeeps netlist pattern mode rule k → CanTurn netlist pattern mode
+  turns_kind pattern (into_reg id) e h = absurd (cc e)
+  turns_kind pattern into_memory e h = absurd (cc e)
+  turns_kind pattern into_file e h = absurd (cc e)
+  turns_kind pattern (jumps reach) e h = h
+  turns_kind pattern (branches when_one to) e h = h
+
+  pub turns_keep : is_control_goal rule.goal ≡ true → TurnsAt netlist (slice_get patterns rule.pattern) mode ↔ FormKeeps netlist patterns mode rule
+  turns_keep e = (
+    λ h. by (slice_get patterns rule.pattern) refl h,
+    λ f. subst (λ q. TurnsAt netlist q mode) (sym f.at) (turns_kind f.pattern rule.goal e f.keeps),
+  )
+    where
+      by : (q : Option Pattern) → slice_get patterns rule.pattern ≡ q → TurnsAt netlist q mode → FormKeeps netlist patterns mode rule
+      by None at h = absurd h
+      by (Some pattern) at h = record { pattern = pattern; at = at; keeps = kind_turns pattern rule.goal e h }
+
+-- ---- lists of forms
+
+-- what holds of a list and of one more form
+low_cases : (rules : List Rule) (rule : Rule) (k : ℕ) (other : Rule) → slice_get (rules ++ rule ∷ []) k ≡ Some other → (slice_get rules k ≡ Some other) ⊎ (rule ≡ other)
+low_cases [] rule zero other e = inr (cc)
+low_cases [] rule (suc k) other e = absurd (cc)
+low_cases (r ∷ rules) rule zero other e = inl e
+low_cases (r ∷ rules) rule (suc k) other e = low_cases rules rule k other e
+
+low_more : (rules : List Rule) (rule : Rule) → AreLow rules → IsLow rule → AreLow (rules ++ rule ∷ [])
+low_more rules rule low own = λ k other e. elim (low_cases rules rule k other e) as (λ _. IsLow other) [
+  | inl there ↦ low k other there
+  | inr same ↦ subst IsLow same own
+]
+
+-- the pattern of a form of a list
+pub pattern_at : (n : ℕ) (forms : List Form) (i : ℕ) (form : Form) → AllByRecursion (λ (f : Form). f.pattern < n) forms → i < length forms → form ≡ get_or forms i form → form.pattern < n
+pattern_at n [] i form all lt is = absurd (omega (arith, lt))
+pattern_at n (f ∷ forms) zero form all lt is = subst (λ (x : Form). x.pattern < n) (sym is) all.0
+pattern_at n (f ∷ forms) (suc i) form all lt is = pattern_at n forms i form all.1 (omega (arith, lt)) is
+
+-- its rule
+pub listed : (forms : List Form) (i : ℕ) (form : Form) → i < length forms → form ≡ get_or forms i form → slice_get (rules_of forms) i ≡ Some (rule_of form)
+listed forms i form lt is = slice_get-map rule_of forms i ∙ ap (option_map rule_of) (slice_get_read forms (length forms) i form refl lt is)
+
+-- a form behind those before it
+pub next_rules : (forms : List Form) (i : ℕ) (form : Form) → i < length forms → form ≡ get_or forms i form → rules_of (take (i + 1) forms) ≡ rules_of (take i forms) ++ rule_of form ∷ []
+next_rules forms i form lt is =
+    ap rules_of (take_more forms i form lt)
+    ∙ map-append rule_of (take i forms) (get_or forms i form ∷ [])
+    ∙ ap (λ (f : Form). rules_of (take i forms) ++ rule_of f ∷ []) (sym is)
+
+-- and its copy behind the copies
+module _ (netlist : Netlist) (patterns : List Pattern) (mode : ℕ) (forms : List Form) (i : ℕ) (form : Form) (lt : i < length forms) (is : form ≡ get_or forms i form) (list : List Form) where
+  pub left_next : AreKeeping netlist patterns (Some mode) (rules_of (take i forms)) (rules_of list) → (FormKeeps netlist patterns mode (rule_of form) → ⊥)
+      → AreKeeping netlist patterns (Some mode) (rules_of (take (i + 1) forms)) (rules_of list)
+  left_next before loses =
+      subst (λ rules. AreKeeping netlist patterns (Some mode) rules (rules_of list)) (sym (next_rules forms i form lt is))
+      (left_more netlist patterns (Some mode) (rules_of (take i forms)) (rules_of list) (rule_of form) before loses)
+
+  module _ (more : List Form) (copy : Form) (pushed : more ≡ list ++ copy ∷ []) (same : rule_of copy ≡ rule_of form) where
+    pushed_rules : rules_of more ≡ rules_of list ++ rule_of form ∷ []
+    pushed_rules =
+        ap rules_of pushed ∙ map-append rule_of list (copy ∷ []) ∙ ap (λ (r : Rule). rules_of list ++ r ∷ []) same
+
+    pub kept_next : AreKeeping netlist patterns (Some mode) (rules_of (take i forms)) (rules_of list) → FormKeeps netlist patterns mode (rule_of form)
+        → AreKeeping netlist patterns (Some mode) (rules_of (take (i + 1) forms)) (rules_of more)
+    kept_next before keeps =
+        subst (λ rules. AreKeeping netlist patterns (Some mode) rules (rules_of more)) (sym (next_rules forms i form lt is))
+        (subst (AreKeeping netlist patterns (Some mode) (rules_of (take i forms) ++ rule_of form ∷ [])) (sym pushed_rules)
+        (kept_more netlist patterns (Some mode) (rules_of (take i forms)) (rules_of list) (rule_of form) before keeps))
+
+    pub low_next : AreLow (rules_of list) → IsLow (rule_of form) → AreLow (rules_of more)
+    low_next low own = subst AreLow (sym pushed_rules) (low_more (rules_of list) (rule_of form) low own)
+
+    pub reach_next : (reach now : ℕ) → reach ≡ greatest_reach (rules_of list) → now ≡ max reach (goal_reach (rule_of form).goal) → now ≡ greatest_reach (rules_of more)
+    reach_next reach now before told =
+        let whole : greatest_reach (rules_of more) ≡ max (greatest_reach (rules_of list)) (goal_reach (rule_of form).goal) =
+        ap greatest_reach pushed_rules ∙ reach_more (rules_of list) (rule_of form) in
+        told ∙ ap (λ n. max n (goal_reach (rule_of form).goal)) before ∙ sym whole

@@ -1,0 +1,4 @@
+pub mod Best
+pub mod KeptForms
+pub mod Putting
+pub mod Turning

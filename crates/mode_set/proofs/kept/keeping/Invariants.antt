@@ -1,0 +1,19 @@
+use Rattle.std.proofs.Common.{◌≡◌, Some, take}
+use Rattle.bit_bdd.specs.Diagrams.{Extends}
+use Rattle.form_model.specs.Registers.{AreLow}
+use Rattle.form_model.specs.Rules.{rules_of}
+use Rattle.form_set.specs.Listing.{greatest_reach}
+use Rattle.mode_set.specs.Keeping.{AreKeeping}
+use Rattle.transfer_set.specs.Ready.{IsReady}
+use Rattle.transfer_set.specs.Rows.{row_patterns}
+use Rattle.mode_set.proofs.kept.keeping.Given as goal
+
+-- those of the forms before the one that comes next
+abbrev pub invariant-loop-form : goal.invariant-loop-form
+invariant-loop-form l = record {
+  grows : Extends l.initial.book l.book;
+  ready : IsReady l.checked.netlist l.book l.pool l.patterns;
+  low : AreLow (rules_of l.list.items);
+  kept : AreKeeping l.checked.netlist (row_patterns l.pool l.patterns.rows) (Some l.mode) (rules_of (take l.form-index l.forms.list.items)) (rules_of l.list.items);
+  far : l.reach ≡ greatest_reach (rules_of l.list.items);
+}

@@ -1,0 +1,15 @@
+use Rattle.std.proofs.Common.{Some, take}
+use Rattle.bit_bdd.specs.Diagrams.{Extends}
+use Rattle.form_model.specs.Rules.{rules_of}
+use Rattle.mode_set.specs.ModeWords.{IsLeastModeWord}
+use Rattle.transfer_set.specs.Ready.{IsReady}
+use Rattle.transfer_set.specs.Rows.{row_patterns}
+use Rattle.mode_set.proofs.puts.mode_word.Given as goal
+
+-- the least word of the forms before the one that comes next
+abbrev pub invariant-loop-form : goal.invariant-loop-form
+invariant-loop-form l = record {
+  grows : Extends l.initial.book l.book;
+  ready : IsReady l.checked.netlist l.book l.pool l.patterns;
+  least : IsLeastModeWord l.checked.netlist (Some l.mode) (row_patterns l.pool l.patterns.rows) (rules_of (take l.form-index l.forms.list.items)) l.value l.least;
+}

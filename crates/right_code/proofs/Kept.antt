@@ -1,0 +1,68 @@
+-- The forms of a list that keep the mode: each is one of the list, and keeps it.
+use Rattle.std.proofs.Common.{ℕ, zero, suc, ◌≡◌, inl, inr, List, [], ◌∷◌, Option, Some, None, sym, ◌∙◌, ap, subst, slice_get}
+use Rattle.std.specs.Int.{bit_at}
+use Rattle.net_model.specs.declared.hardware.Netlist.{Netlist}
+use Rattle.net_model.specs.Patterns.{Pattern}
+use Rattle.form_model.specs.Rules.{Kind, Rule, into_reg, into_memory, into_file, jumps, branches}
+use Rattle.emit_seq.specs.Settles.{IsStepping}
+use Rattle.mode_set.specs.Keeping.{AreKeeping, FormKeeps, FormKeepsMode, KindKeeps}
+use Rattle.right_code.proofs.ModeKept.{AllKeep, FormsKeep}
+
+-- each form of one list is one of another
+abbrev pub ArePart : List Rule → List Rule → Type 0
+ArePart rules all = (k : ℕ) (rule : Rule) → slice_get rules k ≡ Some rule → (j : ℕ) × (slice_get all j ≡ Some rule)
+
+-- a form that is kept is one of all
+pub part_of : (netlist : Netlist) (patterns : List Pattern) (o : Option ℕ) (all kept : List Rule) → AreKeeping netlist patterns o all kept → ArePart kept all
+part_of netlist patterns o [] kept h k rule at = absurd (none kept h at)
+  where
+    none : (list : List Rule) → list ≡ [] → slice_get list k ≡ Some rule → ⊥
+    none [] e f = absurd (cc f)
+    none (x ∷ list) e f = absurd (cc e)
+part_of netlist patterns o (r ∷ all) kept h k rule at = elim h.2 as (λ _. (j : ℕ) × (slice_get (r ∷ all) j ≡ Some rule)) [
+  | inl x ↦ first k (ap (λ (list : List Rule). slice_get list k) (sym x.1) ∙ at) (λ i f. part_of netlist patterns o all h.0 h.1 i rule f)
+  | inr x ↦ later (part_of netlist patterns o all h.0 h.1 k rule (ap (λ (list : List Rule). slice_get list k) (sym x.1) ∙ at))
+]
+  where
+    later : (j : ℕ) × (slice_get all j ≡ Some rule) → (j : ℕ) × (slice_get (r ∷ all) j ≡ Some rule)
+    later p = (suc p.0, p.1)
+
+    first : (k : ℕ) → slice_get (r ∷ h.0) k ≡ Some rule → ((i : ℕ) → slice_get h.0 i ≡ Some rule → (j : ℕ) × (slice_get all j ≡ Some rule)) → (j : ℕ) × (slice_get (r ∷ all) j ≡ Some rule)
+    first zero f more = (0, f)
+    first (suc k) f more = later (more k f)
+
+-- and it keeps the mode
+pub kept_form : (netlist : Netlist) (patterns : List Pattern) (o : Option ℕ) (all kept : List Rule) → AreKeeping netlist patterns o all kept → (k : ℕ) (rule : Rule) → slice_get kept k ≡ Some rule → FormKeepsMode netlist patterns o rule
+kept_form netlist patterns o [] kept h k rule at = absurd (none kept h at)
+  where
+    none : (list : List Rule) → list ≡ [] → slice_get list k ≡ Some rule → ⊥
+    none [] e f = absurd (cc f)
+    none (x ∷ list) e f = absurd (cc e)
+kept_form netlist patterns o (r ∷ all) kept h k rule at = elim h.2 as (λ _. FormKeepsMode netlist patterns o rule) [
+  | inl x ↦ first k (ap (λ (list : List Rule). slice_get list k) (sym x.1) ∙ at) x.0 (λ i f. kept_form netlist patterns o all h.0 h.1 i rule f)
+  | inr x ↦ kept_form netlist patterns o all h.0 h.1 k rule (ap (λ (list : List Rule). slice_get list k) (sym x.1) ∙ at)
+]
+  where
+    same : (a b : Rule) → Some a ≡ Some b → a ≡ b
+    same a b e = cc
+
+    first : (k : ℕ) → slice_get (r ∷ h.0) k ≡ Some rule → FormKeepsMode netlist patterns o r → ((i : ℕ) → slice_get h.0 i ≡ Some rule → FormKeepsMode netlist patterns o rule) → FormKeepsMode netlist patterns o rule
+    first zero f own more = subst (FormKeepsMode netlist patterns o) (same r rule f) own
+    first (suc k) f own more = more k f
+
+-- so no clobbers of it hold the mode, unless it is a jump or a branch
+kind_keeps : (netlist : Netlist) (pattern : Pattern) (mode : ℕ) (rule : Rule) (k : Kind) → IsStepping k → KindKeeps netlist pattern mode rule k → bit_at rule.clobbers mode ≡ 0
+kind_keeps netlist pattern mode rule (into_reg id) s h = h
+kind_keeps netlist pattern mode rule into_memory s h = h
+kind_keeps netlist pattern mode rule into_file s h = h
+kind_keeps netlist pattern mode rule (jumps reach) s h = absurd s
+kind_keeps netlist pattern mode rule (branches when_one to) s h = absurd s
+
+pub keep_of : (netlist : Netlist) (patterns : List Pattern) (mode : ℕ) (all kept : List Rule) → AreKeeping netlist patterns (Some mode) all kept → AllKeep mode kept
+keep_of netlist patterns mode all kept h k rule at step =
+    let f : FormKeeps netlist patterns mode rule = kept_form netlist patterns (Some mode) all kept h k rule at in
+    kind_keeps netlist f.pattern mode rule rule.goal step f.keeps
+
+pub forms_keep : (netlist : Netlist) (patterns : List Pattern) (o : Option ℕ) (all kept : List Rule) → AreKeeping netlist patterns o all kept → FormsKeep o kept
+forms_keep netlist patterns None all kept h = tt
+forms_keep netlist patterns (Some mode) all kept h = keep_of netlist patterns mode all kept h
