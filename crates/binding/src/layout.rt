@@ -14,7 +14,8 @@ use rec_bits::{Items, NoMemory};
 use src_model::{Typed, Var};
 use std::alloc::Global;
 
-fn cells_in(var: &Var) -> u64
+/// The cells of a variable: one, or those of an array.
+pub fn cells_in(var: &Var) -> u64
     ensures { result ≡ cells_in var.now }
 {
     var.len.unwrap_or(1)
@@ -33,7 +34,9 @@ fn cell_count(vars: &[Var]) -> u64
     count
 }
 
-fn place(alloc: Global, var: &Var, address: u32) -> Result<Place, NoMemory>
+/// The place of a variable whose first cell has this address. The variable has fewer than 2^32
+/// cells.
+pub fn place(alloc: Global, var: &Var, address: u32) -> Result<Place, NoMemory>
     requires { cells_in var.now < 2 ^ 32 }
     ensures { IfOk result (λ made. made ≡ record { name = var.now.name; address = address; len = cells_in var.now }) }
 {

@@ -3,7 +3,8 @@
 //! Promise: `bind` gives the temporary cells and then the variables in the order of their
 //! declarations, arrays whole (`places`: `layout_of`), disjoint and within the memory (`apart`:
 //! `Apart`), or `DataFull` exactly where the program needs more cells than there are, with both
-//! numbers (`refused`: `IsBindFault`).
+//! numbers (`refused`: `IsBindFault`). `cells_in` and `place` are one variable's cells and place,
+//! for other layouts.
 //!
 //! Files:
 //!
@@ -18,4 +19,4 @@ mod fault;
 mod layout;
 
 pub use fault::BindFault;
-pub use layout::bind;
+pub use layout::{bind, cells_in, place};

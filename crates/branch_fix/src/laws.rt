@@ -8,18 +8,18 @@ ghost use Rattle.net_model.specs.Meaning.{mean};
 ghost use Rattle.net_model.specs.Nets.{memory_size, memory_width};
 ghost use Rattle.src_model.specs.Written.{Listing, acts_of};
 ghost use Rattle.src_model.specs.Sizes.{statements_in};
-ghost use Rattle.src_model.specs.Meaning.{cell_count};
 ghost use Rattle.src_model.specs.Rules.{first_fault};
 ghost use Rattle.src_model.specs.Trace.{strace};
 ghost use Rattle.code_model.specs.declared.image.Image.{Image};
-ghost use Rattle.code_model.specs.Places.{words_of, places_from};
-ghost use Rattle.code_model.specs.Layout.{variables_of};
+ghost use Rattle.code_model.specs.Places.{words_of};
 ghost use Rattle.code_model.specs.Right.{TracesRight};
 ghost use Rattle.form_model.specs.declared.flow.Flow.{Flow};
 ghost use Rattle.form_model.specs.Rules.{Rule, absolute, relative};
 ghost use Rattle.form_model.specs.Shapes.{shows};
-ghost use Rattle.src_trees.specs.Flows.{program_flow, program_works};
-ghost use Rattle.src_trees.specs.Seen.{memory_map, InReach};
+ghost use Rattle.src_trees.specs.Flows.{program_flow};
+ghost use Rattle.src_trees.specs.Held.{HasCellRoom, HoldsVars};
+ghost use Rattle.src_trees.specs.Lowered.{MemoryMap, Work};
+ghost use Rattle.src_trees.specs.Meant.{DoProgram};
 ghost use Rattle.branch_fix.specs.declared.part.Fork.{Fork};
 ghost use Rattle.branch_fix.specs.declared.part.Part.{Part};
 ghost use Rattle.branch_fix.specs.declared.part.Part.TheVariants.{Test};
@@ -30,18 +30,17 @@ ghost use Rattle.branch_fix.specs.Bounds.{bound_of, control_words, program_bound
 ghost use Rattle.branch_fix.specs.Costs.{block_costs, SizesWithin};
 ghost use Rattle.branch_fix.specs.Made.{IsMade};
 
-/// An image whose words stand for the parts of a program's flow, and whose marks are theirs, traces
-/// the program, and stands in mode 0 at each mark.
+/// An image whose words stand for the parts of a program's flow, by jobs that do what its statements
+/// say, and whose marks are the parts', traces the program, and stands in mode 0 at each mark.
 pub fn law_of_layouts()
     ensures { (netlist : Netlist) (image : Image)
-        (bits addr temps : ℕ) (l : Listing) (rules : List Rule) (parts : List Part) →
-        first_fault bits l ≡ None → memory_width netlist.storages ≡ bits →
-        InReach bits addr temps l.vars → temps + cell_count l.vars ≤ memory_size netlist.storages →
-        image.places ≡ places_from temps (variables_of l.vars) →
-        IsMade netlist image temps rules (program_flow l)
-        (program_works (memory_map bits addr temps l.vars) l) parts →
+        (m : MemoryMap) (temps : ℕ) (l : Listing) (jobs : List Work) (rules : List Rule) (parts : List Part) →
+        first_fault m.word l ≡ None → memory_width netlist.storages ≡ m.word →
+        HoldsVars temps l.vars m → HasCellRoom temps m (memory_size netlist.storages) →
+        image.places ≡ m.places → DoProgram m temps l jobs →
+        IsMade netlist image temps rules (program_flow l) jobs parts →
         length (words_of image) ≡ total parts →
-        TracesRight netlist image (strace bits l) }
+        TracesRight netlist image (strace m.word l) }
 {}
 
 /// The rounds settle on one list of parts, which stand for the places of the flow one by one. Each

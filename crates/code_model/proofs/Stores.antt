@@ -1,14 +1,14 @@
--- A cell of the memory that a place covers, and the store.
+-- Parts of lists of cells, and the cells of places in a row.
 use Rattle.std.proofs.Common.{ℕ, zero, suc, ◌≡◌, ◌+◌, List, [], ◌∷◌, ◌++◌, take, drop, refl, sym, ◌∙◌, ap, arith, slice_set}
 use Rattle.code_model.specs.Places.{cells_at, cells_of, places_from}
 
-drop-set : (at k n : ℕ) (cells : List ℕ) (value : ℕ) → n ≡ at + k → drop at (slice_set cells n value) ≡ slice_set (drop at cells) k value
+pub drop-set : (at k n : ℕ) (cells : List ℕ) (value : ℕ) → n ≡ at + k → drop at (slice_set cells n value) ≡ slice_set (drop at cells) k value
 drop-set zero k n cells value e = let f : n ≡ k = omega arith in rw f refl
 drop-set (suc at) k n [] value e = refl
 drop-set (suc at) k zero (c ∷ cells) value e = absurd (omega arith)
 drop-set (suc at) k (suc n) (c ∷ cells) value e = drop-set at k n cells value (omega arith)
 
-take-set : (n k : ℕ) (cells : List ℕ) (value : ℕ) → take n (slice_set cells k value) ≡ slice_set (take n cells) k value
+pub take-set : (n k : ℕ) (cells : List ℕ) (value : ℕ) → take n (slice_set cells k value) ≡ slice_set (take n cells) k value
 take-set zero k cells value = refl
 take-set (suc n) k [] value = refl
 take-set (suc n) zero (c ∷ cells) value = refl
@@ -21,7 +21,7 @@ take-plus (suc a) zero (suc n) [] e = refl
 take-plus (suc a) (suc b) (suc n) [] e = refl
 take-plus (suc a) b (suc n) (x ∷ xs) e = ap (λ (ys : List ℕ). x ∷ ys) (take-plus a b n xs (omega arith))
 
-drop-plus : (a b n : ℕ) (xs : List ℕ) → n ≡ b + a → drop a (drop b xs) ≡ drop n xs
+pub drop-plus : (a b n : ℕ) (xs : List ℕ) → n ≡ b + a → drop a (drop b xs) ≡ drop n xs
 drop-plus a zero n xs e = let f : n ≡ a = omega arith in rw f refl
 drop-plus a (suc b) zero xs e = absurd (omega arith)
 drop-plus zero (suc b) (suc n) [] e = refl
@@ -35,12 +35,3 @@ cells_in_row at (var ∷ vars) cells =
     ap (λ (xs : List ℕ). take var.1 (drop at cells) ++ xs)
     (cells_in_row (at + var.1) vars cells ∙ ap (take (cells_of vars)) (sym (drop-plus var.1 at (at + var.1) cells refl)))
     ∙ take-plus var.1 (cells_of vars) (var.1 + cells_of vars) (drop at cells) refl
-
--- a write to a variable's cell is a write to the store
-pub store_set : (at k : ℕ) (vars : List (List ℕ × ℕ)) (cells : List ℕ) (value : ℕ) →
-    cells_at (places_from at vars) (slice_set cells (at + k) value) ≡ slice_set (cells_at (places_from at vars) cells) k value
-store_set at k vars cells value =
-    cells_in_row at vars (slice_set cells (at + k) value)
-    ∙ ap (take (cells_of vars)) (drop-set at k (at + k) cells value refl)
-    ∙ take-set (cells_of vars) k (drop at cells) value
-    ∙ ap (λ (xs : List ℕ). slice_set xs k value) (sym (cells_in_row at vars cells))

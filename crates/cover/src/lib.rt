@@ -29,13 +29,6 @@
 //! While a row is closed, an entry that has no cost gets one that is 1 more than another's
 //! (`IsRoomy`).
 //!
-//! No cost passes 64 bits, so costs are added without a test. A tree of n subtrees that has a cover
-//! has one of at most 36 n forms (`FewLemmas`): in the row of each subtree chain rules lead through
-//! 18 entries at most, and where the subtree is a cut as a whole, so they do in a second row. There
-//! are so few subtrees (`AreFew`), since one block of memory has a list of rows for each of them.
-//! While a row is closed, an entry that has no cost gets one that is 1 more than another's
-//! (`IsRoomy`).
-//!
 //! Files:
 //!
 //! - `covers`: what `cover` answers.

@@ -63,8 +63,8 @@ fn keeps(
 /// don't hold it; a jump or a branch where every setting has a word of its pattern that keeps the
 /// data memory and the mode.
 ///
-/// `forms` are forms of the netlist with these patterns. The book grows, and what it held means what
-/// it meant. Want of memory is the only refusal.
+/// `forms` are forms of the netlist with these patterns. The book grows, and what it held means
+/// what it meant. Want of memory is the only refusal.
 pub fn keeping(
     alloc: Global,
     checked: &Checked,
@@ -76,7 +76,8 @@ pub fn keeping(
 ) -> Result<Forms, NoMemory>
     requires ready { IsReady checked.now.netlist book.old pool.now patterns.now }
     requires mode { mode < length checked.now.netlist.storages }
-    requires patterns { AllByRecursion (λ (form : TheForm). form.pattern < length patterns.now.rows) forms.now.list.items }
+    requires patterns { AllByRecursion (λ (form : TheForm). form.pattern < length patterns.now.rows)
+        forms.now.list.items }
     ensures grows { Extends book.old book.new }
     ensures ready { IsReady checked.now.netlist book.new pool.now patterns.now }
     ensures kept { IfOk result (λ kept. AreKeeping checked.now.netlist

@@ -2,10 +2,11 @@
 //!
 //! Promise: `keeping` gives exactly the forms of a mode that keep it, in their order, with their
 //! greatest reach (`kept`: `AreKeeping`, `reach`); `plan_job` the least mode of least cost of a job
-//! and its chosen cover there, or that it has none (`planned`: `IsPlanned`, `none`: `HasNoPlan`);
-//! `mode_jump_word` the least word of a jump or branch that keeps the mode (`word`: `FitsTurn`).
-//! `can_put` tells whether a form puts a number into the mode (`CanPut`), and `mode_word` gives the
-//! least word that does, with its pattern (`word`: `IsModeWord`).
+//! and its chosen cover there, with that cover's cost, or that it has none (`planned`: `IsPlanned`,
+//! `cost`: `job_cost`, `none`: `HasNoPlan`); `mode_jump_word` the least word of a jump or branch
+//! that keeps the mode, or that there is none (`word`: `FitsTurn`). `can_put` tells whether a form
+//! puts a number into the mode (`CanPut`), and `mode_word` gives the least word that does, with its
+//! pattern, or that there is none (`word`: `IsLeastModeWord`).
 //!
 //! Files:
 //!
@@ -14,9 +15,10 @@
 //! - `jumps`, `puts`: words of jumps and branches, and words that put a number into the mode.
 //! - `specs/`: `Keeping` (what a netlist is told in a mode: its forms that keep the mode or put a
 //!   number into it, and the modes that can be used), `Costs` (costs by mode, and the mode that is
-//!   chosen for a job), `Plans`, `Words`, `ModeWords`; `Worked` is computed. `specs/Inner/`: `Best`.
-//! - `proofs/`: `KeptForms` for lists of forms, `Best` for the plan, `Turning` and `Putting` for
-//!   words.
+//!   chosen for a job), `Plans`, `Words`, `ModeWords`; `Worked` is computed. `specs/Inner/`: `Best`
+//!   (the plan of one mode, and the best of the first modes).
+//! - `proofs/`: `KeptForms` for lists of forms, `Best` for the plan, `Turning` for the words of jumps
+//!   and branches, `Putting` for those that put a number into the mode.
 #![tactic(auto)]
 
 mod copies;

@@ -28,8 +28,8 @@ pub struct ModeWord {
     pub word: u64,
 }
 
-// The setting under which a form puts a number into the mode, if it does: it goes into the mode, and
-// its value is a field shape of the first edition, which has no sums.
+// The setting under which a form puts a number into the mode, if it does: it goes into the mode,
+// and its value is a field shape of the first edition, which has no sums.
 fn put_setting(form: &Form, mode: u32, value: u64) -> Result<Option<u64>, NoMemory>
     ensures { IfOk result (λ setting. MatchOption setting (Puts mode value (rule_of form.now) → ⊥)
         (λ bits. Puts mode value (rule_of form.now)
@@ -101,8 +101,8 @@ fn lesser(known: Option<ModeWord>, next: Option<ModeWord>) -> Option<ModeWord>
 /// The least of the words of the forms that put a number into the mode, which puts it there, steps
 /// and keeps the data memory, with the pattern that it is of; `None` exactly where there is none.
 /// `forms` are all forms of the netlist, which is of the first edition, as that of a mode is: there
-/// is no register file to keep. The book grows, and what it held means what it meant. Want of memory
-/// is the only refusal.
+/// is no register file to keep. The book grows, and what it held means what it meant. Want of
+/// memory is the only refusal.
 pub fn mode_word(
     alloc: Global,
     checked: &Checked,

@@ -6,7 +6,7 @@ use Rattle.net_model.specs.declared.hardware.Code.{Code}
 use Rattle.net_model.specs.declared.hardware.Netlist.{Netlist}
 use Rattle.net_model.specs.CheckedRules.{code_size}
 use Rattle.net_model.specs.ModeRules.{base_at}
-use Rattle.net_model.specs.Nets.{code_bits, memory_size, word_width}
+use Rattle.net_model.specs.Nets.{code_bits, word_width}
 use Rattle.net_model.specs.Patterns.{Pattern}
 use Rattle.net_model.proofs.Bases.{base_of}
 use Rattle.net_model.proofs.ModeFaults.{some_modes}
@@ -16,8 +16,7 @@ use Rattle.code_model.specs.declared.image.Image.{Image}
 use Rattle.code_model.specs.declared.image.Places.{Places}
 use Rattle.code_model.specs.declared.image.Word.{Word}
 use Rattle.code_model.specs.ImageFits.{CostFits, IsFitting, PlaceFits, limits_of}
-use Rattle.code_model.specs.Layout.{variables_of}
-use Rattle.code_model.specs.Places.{Apart, places_from, words_of}
+use Rattle.code_model.specs.Places.{words_of}
 use Rattle.block_words.specs.Laws.{operation_in}
 use Rattle.form_model.specs.Covers.{Stock}
 use Rattle.form_model.specs.Live.{Regs, regs_of}
@@ -32,7 +31,6 @@ use Rattle.word_fit.specs.Fits.{FitsTurning}
 use Rattle.src_trees.specs.Flows.{program_flow}
 use Rattle.src_trees.specs.Lowered.{Work}
 use Rattle.src_trees.proofs.LowerLemmas.{in_few}
-use Rattle.src_trees.proofs.Parts.{works_in_length}
 use Rattle.branch_fix.specs.Bounds.{bound_of, control_words, program_bound, sum_of}
 use Rattle.branch_fix.specs.Costs.{SizesWithin, block_costs}
 use Rattle.branch_fix.specs.Laid.{IsLaid, outline}
@@ -43,7 +41,7 @@ use Rattle.branch_fix.proofs.Costs.{bound_is, program_words}
 use Rattle.branch_fix.proofs.Shapes.{program_is_flow}
 use Rattle.right_code.specs.Bounded.{HasBound}
 use Rattle.right_code.specs.Covered.{AllPlanned, mode_stock, numbered, plan_costs}
-use Rattle.right_code.specs.Tasks.{IsChecked, Task, task_memory, task_works}
+use Rattle.right_code.specs.Tasks.{IsChecked, Task, task_works}
 use Rattle.right_code.proofs.OneBound.{bound_one}
 use Rattle.right_code.proofs.Right.{jump_words_of, right_image}
 use Rattle.compaction.specs.declared.packer.PackedBlock.{PackedBlock}
@@ -122,7 +120,7 @@ module _ (modes : Modes) (program : PlannedProgram) (task : Task) (isas : Isas t
     within =
         subst (λ f. sum_of (sizes blocks) + control_words f ≤ bound_of f (costs_in program)) (sym p.flow)
         (subst (λ cs. sum_of (sizes blocks) + control_words (program_flow task.listing) ≤ bound_of (program_flow task.listing) cs) (sym p.costs)
-        (bound_is task.listing (plan_costs (works_in program) (plans_in program)) (sizes blocks) (costs_many ∙ works_in_length (task_memory task) (acts_of task.listing.body))
+        (bound_is task.listing (plan_costs (works_in program) (plans_in program)) (sizes blocks) (costs_many ∙ p.checked.jobs.count)
         (subst (λ f. SizesWithin (sizes blocks) (block_costs f (plan_costs (works_in program) (plans_in program)) f 0)) p.flow
         (code_within task isas (works_in program) (plans_in program) (even modes program task isas p) (covered modes program task isas p) (test_mode modes program task isas p)
         program.flow.now blocks branches (tests modes program task isas p) (plan_of_job modes program task isas p) code))))
@@ -176,10 +174,8 @@ module _ (modes : Modes) (program : PlannedProgram) (task : Task) (isas : Isas t
             (bound_of_costs ∙ bound_there) image
             (words_moved (machine_netlist machine) (base_at task.netlist 0) (machine_patterns machine) (isas 0).patterns (regs_of (mode_bits modes.special)) (regs_of (mode_bits task.netlist.special)) blocks laid.items image.words
             (p.modes.nets 0 machine there) (p.modes.patterns 0 machine there) (ap (λ (o : Option ℕ). regs_of (mode_bits o)) p.modes.special) items)
-            marks (costs ∙ ap (numbered 0) costs_are) (bits ∙ bits_there) (temps ∙ ap (λ (x : Places). x.temps) placed.layout)
-            (list ∙ ap (λ (x : Places). x.list) placed.layout)
-            (subst (λ t. Apart t image.places (memory_size task.netlist.storages)) (sym temps)
-            (subst (λ ps. Apart places.temps ps (memory_size task.netlist.storages)) (sym list) placed.apart)) in
+            marks (costs ∙ ap (numbered 0) costs_are) (bits ∙ bits_there)
+            (record { temps = temps ∙ placed.temps; places = list ∙ placed.list; held = p.checked.jobs.held; room = p.checked.jobs.room }) in
             record { made = made.0; reached = made.1 }
 
 -- ---- how long code may be
@@ -242,8 +238,7 @@ module _ (modes : Modes) (program : PlannedProgram) (task : Task) (isas : Isas t
     is_right close = record { right = right_image task p.checked image made.made in_room made.reached; near = close }
 
     places_are : (places : Places) → ArePlaces task places → image.places ≡ places.list
-    places_are places placed =
-        made.made.layout.places ∙ ap (λ n. places_from n (variables_of task.listing.vars)) made.made.layout.temps ∙ sym (ap (λ (x : Places). x.list) placed.layout)
+    places_are places placed = made.made.layout.places ∙ sym placed.list
 
     pub is_fitting : (places : Places) → ArePlaces task places → AllByRecursion PlaceFits places.list → AllByRecursion CostFits image.costs → IsFitting (limits_of task.netlist) image
     is_fitting places placed named costs =
@@ -255,7 +250,7 @@ module _ (modes : Modes) (program : PlannedProgram) (task : Task) (isas : Isas t
 pub few_works : (task : Task) → IsChecked task → length (task_works task) ≤ 65536
 few_works task checked =
     let statements = (rules_hold task.width task.listing checked.program).few_statements in
-    let works = works_in_length (task_memory task) (acts_of task.listing.body) in
+    let works = checked.jobs.count in
     omega (arith, statements, works)
 
 -- and its flow few places

@@ -19,7 +19,8 @@ use Rattle.right_code.specs.Covered.{mode_stock, plan_costs}
 use Rattle.right_code.specs.Cuts.{AreBlockCuts, AreCutWords, Cut, cuts_of, join_cut, join_first, join_zero, plan_at, plans_at, plans_of}
 use Rattle.right_code.specs.Jobs.{IsCovered, job_steps, jobs_steps, tree_or_none}
 use Rattle.right_code.specs.Tasks.{Task}
-use Rattle.right_code.proofs.Tasks.{AreTests, tests_get}
+use Rattle.right_code.specs.Works.{AreTests}
+use Rattle.right_code.proofs.Tasks.{tests_get}
 use Rattle.compaction.specs.declared.packer.PackedBlock.{PackedBlock}
 use Rattle.net_code.specs.Inner.Coded.{IsBlockCode}
 use Rattle.net_code.proofs.Making.{sizes, sizes_at}

@@ -8,6 +8,8 @@ use Rattle.net_model.specs.ModeRules.{base_at, modes_in}
 use Rattle.net_model.specs.Terms.{Term}
 use Rattle.net_model.proofs.ModeFaults.{some_modes}
 use Rattle.src_model.specs.Rules.{temp_count}
+use Rattle.code_model.specs.declared.image.Places.{Places}
+use Rattle.form_model.specs.declared.flow.Blocks.{Blocks}
 use Rattle.form_model.specs.declared.forms.Forms.{Forms}
 use Rattle.form_model.specs.declared.trees.Job.{Job}
 use Rattle.form_model.specs.Covers.{Choice, Covers, IsChosen, Stock}
@@ -32,6 +34,7 @@ use Rattle.net_code.specs.declared.views.Passage.{Passage}
 use Rattle.net_code.specs.declared.views.PlannedProgram.{PlannedProgram}
 use Rattle.net_code.specs.Machines.{machine_patterns}
 use Rattle.net_code.specs.Inner.Planning.{AreFormsBelow, AreFormsIn, AreMachinesOf, AreModesOf, ArePassages, HasModes, IsPassage, IsPlanning, all_forms, all_rules, plans_in, rules_or_none, told_costs}
+use Rattle.net_code.specs.Inner.Imaged.{IsCodedIn}
 use Rattle.net_code.specs.Inner.Uncovered.{IsUncovered}
 use Rattle.net_code.specs.Refusals.{HasJumps, IsCodeFault, IsFormless, IsJumpless, IsStepless}
 use Rattle.net_code.proofs.Held.{can_within, held_is, held_small, same_some, there, told_stock}
@@ -265,6 +268,15 @@ module _ (modes : Modes) (task : Task) (isas : Isas task.netlist) (checked : IsC
   uncovered steps jumps works same NoJump h = absurd h
   uncovered steps jumps works same (NoReach b r) h = absurd h
   uncovered steps jumps works same (ImageFull l s b) h = absurd h
+
+-- what was made of the jobs that were given for a task is planned for it
+pub coded_planning : (modes : Modes) (usable : List Bool) (places : Places) (blocks : Blocks) (task : Task) (coded : IsCodedIn modes usable places blocks task) (program : PlannedProgram) (jobs : List Job) (plans : List Plan)
+    → jobs ≡ blocks.jobs.items → program.temps ≡ places.temps → program.flow.now ≡ blocks.flow → program.jobs.now ≡ jobs → program.plans.now ≡ plans
+    → AllPlanned (stock_at modes.forms.now places.temps) (UsableAt usable) (works_of jobs) (map planned_of plans) → told_costs plans ≡ plan_costs (works_of jobs) (map planned_of plans)
+    → IsPlanning modes program task coded.told.isas
+coded_planning modes usable places blocks task coded program jobs plans same temps flow jobs_are plans_are planned costs =
+    task_planning modes task coded.told.isas coded.checked coded.told.are places.temps coded.placed.temps usable coded.told.usable
+    program jobs plans temps (flow ∙ coded.flow) jobs_are (ap works_of same ∙ coded.works) plans_are planned costs
 
 -- a netlist of whose forms no code can be made
 pub formless_fault : (task : Task) (fault : CodeFault) → IsFormless task.netlist fault → IsCodeFault task fault

@@ -1,13 +1,11 @@
 -- The image of a program whose jobs have their plans.
-use Rattle.std.proofs.Common.{◌≡◌, ℕ, ◌≤◌, List, length, sym, ap, subst, ◌∙◌, arith}
+use Rattle.std.proofs.Common.{◌≡◌, ℕ, ◌≤◌, List, length, sym, subst, ◌∙◌, arith}
 use Rattle.std.proofs.lemmas.List.{length-map}
 use Rattle.net_model.specs.ModeRules.{base_at}
-use Rattle.net_model.specs.Nets.{memory_size, word_width}
-use Rattle.src_model.specs.Rules.{temp_count}
+use Rattle.net_model.specs.Nets.{word_width}
 use Rattle.code_model.specs.declared.image.Image.{Image}
 use Rattle.code_model.specs.declared.image.Word.{Word}
-use Rattle.code_model.specs.Layout.{variables_of}
-use Rattle.code_model.specs.Places.{Apart, places_from, words_of}
+use Rattle.code_model.specs.Places.{words_of}
 use Rattle.form_model.specs.Live.{regs_of}
 use Rattle.form_model.specs.Rules.{Rule}
 use Rattle.form_set.specs.Listing.{greatest_reach}
@@ -19,7 +17,7 @@ use Rattle.branch_fix.specs.Bounds.{program_bound}
 use Rattle.branch_fix.specs.Laid.{IsLaid, Outline}
 use Rattle.branch_fix.specs.Marked.{AreMarked}
 use Rattle.right_code.specs.Covered.{ArePlans, numbered, plan_costs}
-use Rattle.right_code.specs.Images.{IsMadeFor}
+use Rattle.right_code.specs.Images.{IsLaidAt, IsMadeFor}
 use Rattle.right_code.specs.Tasks.{Task, task_works}
 use Rattle.right_code.specs.Words.{ListItems, StandItems}
 use Rattle.compaction.specs.declared.packer.PackedBlock.{PackedBlock}
@@ -42,9 +40,8 @@ module _ (task : Task) (isas : Isas task.netlist) (register : IsModeRegister tas
     long = length-map image.words (λ (w : Word). w.word) ∙ words_long (base_at task.netlist 0) (isas 0).patterns (regs_of (mode_bits task.netlist.special)) blocks laid.items image.words items
 
     pub image_made : image.marks ≡ laid.marks → image.costs ≡ numbered 0 (plan_costs (task_works task) plans) → image.bits ≡ word_width task.netlist
-        → image.temps ≡ temp_count task.width task.listing → image.places ≡ places_from (temp_count task.width task.listing) (variables_of task.listing.vars)
-        → Apart image.temps image.places (memory_size task.netlist.storages) → (made : IsMadeFor task image) × (length (words_of image) ≤ greatest_reach (made.isas 0).rules)
-    image_made marks costs bits temps places apart =
+        → IsLaidAt task image → (made : IsMadeFor task image) × (length (words_of image) ≤ greatest_reach (made.isas 0).rules)
+    image_made marks costs bits laid_at =
         let whole = is.long in
         let most_words = is.most in
         let reaches = is.reached in
@@ -52,7 +49,7 @@ module _ (task : Task) (isas : Isas task.netlist) (register : IsModeRegister tas
           record {
             isas = isas;
             bits = bits;
-            layout = record { temps = temps; places = places ∙ ap (λ n. places_from n (variables_of task.listing.vars)) (sym temps); apart = apart };
+            layout = laid_at;
             plans = plans;
             planned = planned;
             costs = costs;

@@ -2,4 +2,5 @@ pub mod Machines
 pub mod Blocks
 pub mod Trials
 pub mod Refusals
+pub mod Tasks
 pub mod Inner

@@ -2,35 +2,33 @@
 
 ghost use Rattle.std.specs.Prelude.{◌≡◌, ◌+◌, ◌≤◌, ◌<◌, ◌^◌, [], ◌∷◌, ◌++◌, IfOk, IfErr, OnOk, length, map};
 ghost use Rattle.std.specs.List.{AllByRecursion};
-ghost use Rattle.net_model.specs.Nets.{memory_size};
 ghost use Rattle.src_model.specs.Written.{listing_of};
 ghost use Rattle.code_model.specs.ImageFits.{CostFits, IsFitting, PlaceFits, limits_of};
-ghost use Rattle.code_model.specs.Layout.{layout_of};
-ghost use Rattle.code_model.specs.Places.{Apart};
+ghost use Rattle.src_trees.specs.Flows.{program_flow};
 ghost use Rattle.branch_fix.specs.Bounds.{bound_of, control_words, sum_of};
 ghost use Rattle.branch_fix.specs.Laid.{IsLaid, outline};
 ghost use Rattle.compaction.specs.declared.packer.PackedBlock.{PackedBlock as TheBlock};
 ghost use Rattle.right_code.specs.Images.{IsRightImage};
-ghost use Rattle.right_code.specs.Tasks.{IsChecked, read_task, Task};
+ghost use Rattle.right_code.specs.Tasks.{IsChecked, Task};
 ghost use Rattle.net_extract.specs.Extraction.{AreIsas};
 ghost use Rattle.net_extract.specs.declared.netlists.Isa.{Isa as TheIsa};
-ghost use Rattle.net_code.specs.Inner.Planning.{AddsOperations, AreMachinesOf, AreOperations, AreReady, AreReadyAll, AreViews, HasModes, IsView, costs_in, reach_at};
-ghost use Rattle.net_code.specs.Inner.Imaged.{HasTask, IsImageMade, IsLengthFault, IsTaskImage, OfTask};
-ghost use Rattle.net_code.specs.Refusals.{IsCodeFault, IsJumpless, IsReached, IsStepless};
+ghost use Rattle.net_code.specs.Inner.Planning.{AddsOperations, AreMachinesOf, AreOperations, AreReady, AreReadyAll, AreViews, IsView, costs_in, reach_at};
+ghost use Rattle.net_code.specs.Inner.Imaged.{AreCodedIn, HasTask, IsImageMade, IsLengthFault, IsTaskImage, OfCoded, OfTask};
+ghost use Rattle.net_code.specs.Refusals.{IsCodeFault, IsReached};
+ghost use Rattle.net_code.specs.Tasks.{coded_task};
 
 use crate::blocks::block_code;
 use crate::covers::{cost_lines, costs_of, plans_of};
 use crate::cuts::mode_set;
 use crate::fault::CodeFault;
-use crate::jobs::blocks_of;
 use crate::modes::{forms_by_mode, passages, usable_modes};
 use crate::views::{Modes, Operations, PlannedProgram};
 use crate::words::words_of_items;
 use bit_bdd::Book;
 use branch_fix::{Laid, LayFault, bound, lay_out};
-use code_model::{Image, Places};
+use code_model::{Image, Place, Places};
 use compaction::{Machine, PackedBlock, tables_of};
-use form_model::Forms;
+use form_model::{Blocks, Forms};
 use net_extract::Isa as Extracted;
 use net_model::{Checked, Modes as NetModes};
 use rec_bits::{Items, NoMemory};
@@ -233,39 +231,34 @@ fn machines_of<'a>(
     Ok(machines)
 }
 
-// The image of a program, where it is told what the netlist is in its modes and which of them can
-// be used.
+// The image of a program with these jobs, for what a netlist is in its modes.
 fn planned_image(
     alloc: Global,
-    modes: &NetModes,
-    view: &Modes<'_>,
+    modes: &Modes<'_>,
     usable: &[bool],
     books: &mut [Book],
-    typed: &Typed,
     places: Places,
+    blocks: &Blocks,
 ) -> Result<Image, CodeFault>
-    requires told { HasModes view.now usable.now (read_task modes.now typed.now) }
-    requires steps { ¬ IsStepless modes.now.netlist }
-    requires jumps { ¬ IsJumpless modes.now.netlist }
-    requires ready { AreReady view.now books.old }
-    requires checked { IsChecked (read_task modes.now typed.now) }
-    requires places { places ≡ layout_of typed.now.width (listing_of typed.now.program) }
-    requires apart { Apart places.temps places.list (memory_size modes.now.netlist.storages) }
+    requires ready { AreReady modes.now books.old }
+    requires coded { AreCodedIn modes.now usable.now places blocks.now }
     requires named { AllByRecursion PlaceFits places.list }
-    ensures right { IfOk result (IsRightImage (read_task modes.now typed.now)) }
-    ensures fits { IfOk result (IsFitting (limits_of modes.now.netlist)) }
-    ensures reached { IfOk result (λ _. IsReached (read_task modes.now typed.now)) }
-    ensures refused { IfErr result (IsCodeFault (read_task modes.now typed.now)) }
+    ensures right { IfOk result (λ image. OfCoded modes.now usable.now places blocks.now
+        (λ (task : Task). IsRightImage task image)) }
+    ensures fits { IfOk result (λ image. OfCoded modes.now usable.now places blocks.now
+        (λ (task : Task). IsFitting (limits_of task.netlist) image)) }
+    ensures reached { IfOk result (λ _. OfCoded modes.now usable.now places blocks.now IsReached) }
+    ensures refused { IfErr result (λ fault. OfCoded modes.now usable.now places blocks.now
+        (λ (task : Task). IsCodeFault task fault)) }
 {
-    let blocks = blocks_of(alloc, modes, typed, &places)?;
-    let plans = plans_of(alloc, view.forms, usable, &blocks.jobs, places.temps)?;
+    let plans = plans_of(alloc, modes.forms, usable, &blocks.jobs, places.temps)?;
     let program = PlannedProgram {
         temps: places.temps,
         flow: blocks.flow.as_slice(),
         jobs: &blocks.jobs,
         plans: &plans,
     };
-    covered_image(alloc, view, books, &program, places)
+    covered_image(alloc, modes, books, &program, places)
 }
 
 // The image of a program for what a netlist is in its modes.
@@ -275,18 +268,18 @@ fn image_for(
     machines: &[Machine<'_>],
     books: &mut [Book],
     typed: &Typed,
-    places: Places,
+    places: Items<Place>,
+    blocks: &Blocks,
 ) -> Result<Image, CodeFault>
     requires machines { AreMachinesOf machines.now modes.now.netlist }
     requires ready { AreReadyAll machines.now books.old }
-    requires checked { IsChecked (read_task modes.now typed.now) }
-    requires places { places ≡ layout_of typed.now.width (listing_of typed.now.program) }
-    requires apart { Apart places.temps places.list (memory_size modes.now.netlist.storages) }
-    requires named { AllByRecursion PlaceFits places.list }
-    ensures right { IfOk result (IsRightImage (read_task modes.now typed.now)) }
+    requires checked { IsChecked (coded_task modes.now.netlist typed.now places blocks.now) }
+    requires flow { blocks.now.flow ≡ program_flow (listing_of typed.now.program) }
+    requires named { AllByRecursion PlaceFits places }
+    ensures right { IfOk result (IsRightImage (coded_task modes.now.netlist typed.now places blocks.now)) }
     ensures fits { IfOk result (IsFitting (limits_of modes.now.netlist)) }
-    ensures reached { IfOk result (λ _. IsReached (read_task modes.now typed.now)) }
-    ensures refused { IfErr result (IsCodeFault (read_task modes.now typed.now)) }
+    ensures reached { IfOk result (λ _. IsReached (coded_task modes.now.netlist typed.now places blocks.now)) }
+    ensures refused { IfErr result (IsCodeFault (coded_task modes.now.netlist typed.now places blocks.now)) }
 {
     let netlist = modes.netlist();
     let forms = forms_by_mode(alloc, machines, books, netlist)?;
@@ -298,30 +291,34 @@ fn image_for(
         special: netlist.special,
         passages: &passages,
     };
-    planned_image(alloc, modes, &view, &usable, books, typed, places)
+    let places = Places {
+        temps: typed.temps(),
+        list: places,
+    };
+    planned_image(alloc, &view, &usable, books, places, blocks)
 }
 
 /// The image of a program that was checked for the words of the netlist's data memory, whose
-/// variables stand at the places of its layout. `extracted` has the instruction set of each mode of
-/// the netlist, in their order.
+/// variables stand at these places behind its temporary cells, and whose flow and jobs are these.
+/// `extracted` has the instruction set of each mode of the netlist, in their order.
 pub fn image_of(
     alloc: Global,
     modes: &NetModes,
     extracted: Items<Extracted>,
     typed: &Typed,
-    places: Places,
+    places: Items<Place>,
+    blocks: &Blocks,
 ) -> Result<Image, CodeFault>
     requires isas { AreIsas modes.now.bases extracted }
-    requires checked { IsChecked (read_task modes.now typed.now) }
-    requires places { places ≡ layout_of typed.now.width (listing_of typed.now.program) }
-    requires apart { Apart places.temps places.list (memory_size modes.now.netlist.storages) }
-    requires named { AllByRecursion PlaceFits places.list }
-    ensures right { IfOk result (IsRightImage (read_task modes.now typed.now)) }
+    requires checked { IsChecked (coded_task modes.now.netlist typed.now places blocks.now) }
+    requires flow { blocks.now.flow ≡ program_flow (listing_of typed.now.program) }
+    requires named { AllByRecursion PlaceFits places }
+    ensures right { IfOk result (IsRightImage (coded_task modes.now.netlist typed.now places blocks.now)) }
     ensures fits { IfOk result (IsFitting (limits_of modes.now.netlist)) }
-    ensures reached { IfOk result (λ _. IsReached (read_task modes.now typed.now)) }
-    ensures refused { IfErr result (IsCodeFault (read_task modes.now typed.now)) }
+    ensures reached { IfOk result (λ _. IsReached (coded_task modes.now.netlist typed.now places blocks.now)) }
+    ensures refused { IfErr result (IsCodeFault (coded_task modes.now.netlist typed.now places blocks.now)) }
 {
     let (mut books, rest) = apart(alloc, extracted)?;
     let machines = machines_of(alloc, modes.bases(), &rest)?;
-    image_for(alloc, modes, &machines, &mut books, typed, places)
+    image_for(alloc, modes, &machines, &mut books, typed, places, blocks)
 }

@@ -1,14 +1,15 @@
 //! From a netlist and a program that were read to the code of the program.
 //!
-//! Promise: `image_of` gives an image that is right code for the task of the netlist and the
-//! program (`right`: `IsRightImage`), whose numbers and words fit an image's text (`fits`:
-//! `IsFitting`), and then none of the reasons before a full image applies (`reached`: `IsReached`).
-//! No step, no jump, no cover and no reach come exactly where they are the first that applies; a
-//! full image only where an image that is made for the task is longer than the code, and then so is
-//! the bound (`refused`: `IsCodeFault`). `usable_forms` gives the forms of a netlist without modes,
-//! or the first refusal alone (`refused`: `IsFormless`), and `blocks_of` the flow and the jobs of
-//! the program (`flow`: `program_flow`, `jobs`: `task_works`), for whoever asks why there is no
-//! image.
+//! Promise: `image_of` gives an image that is right code for the task of the netlist, the program,
+//! the places of its variables and its jobs (`right`: `IsRightImage` of `coded_task`), whose
+//! numbers and words fit an image's text (`fits`: `IsFitting`), and then none of the reasons before
+//! a full image applies (`reached`: `IsReached`). No step, no jump, no cover and no reach come
+//! exactly where they are the first that applies; a full image only where an image that is made for
+//! the task is longer than the code, and then so is the bound (`refused`: `IsCodeFault`).
+//! `usable_forms` gives the forms of a netlist without modes, or the first refusal alone
+//! (`refused`: `IsFormless`), for whoever asks why there is no image, and `blocks_of` the flow and
+//! the jobs of a program whose variables stand behind its temporary cells (`flow`: `program_flow`,
+//! `jobs`: `task_works`).
 //!
 //! What serves without a program, too: `only_control`, whether all forms of a list are jumps or
 //! branches; `chosen_cover`, the cover of one job, or None exactly where it has none (`tried`:
@@ -34,7 +35,7 @@
 //!   words.
 //! - `words`: the words of the layout's items, with their lists.
 //! - `image`: the layout, the bound, and `image_of`.
-//! - `specs/`: `Refusals`, `Machines`, `Blocks` and `Trials`, cited by public contracts with
+//! - `specs/`: `Refusals`, `Tasks`, `Machines`, `Blocks` and `Trials`, cited by public contracts with
 //!   `right_code/specs`. `specs/Inner/`: what goes with the code: `Planning`, `Coded`, `Imaged`,
 //!   `Views`, `Uncovered`, `Registers`, `Memories`.
 //! - `proofs/`: `Whole` and `Making` put the image together, `Coding`, `Cutting`, `Running`,

@@ -1,5 +1,5 @@
--- The places of a program's variables, and the limits of a netlist's code.
-use Rattle.std.proofs.Common.{◌≤◌, ◌+◌, ℕ, List, [], ◌∷◌, subst, arith}
+-- The places of a program's variables, and the limits of a netlist's code and memory.
+use Rattle.std.proofs.Common.{◌≡◌, ◌≤◌, ◌+◌, ◌∙◌, ℕ, List, [], ◌∷◌, ap, subst, arith}
 use Rattle.std.specs.List.{AllByRecursion}
 use Rattle.net_model.specs.declared.hardware.Code.{Code}
 use Rattle.net_model.specs.declared.hardware.Netlist.{Netlist}
@@ -17,6 +17,11 @@ use Rattle.code_model.specs.ImageFits.{PlaceFits, limits_in, limits_of}
 use Rattle.code_model.specs.Layout.{variables_of}
 use Rattle.code_model.specs.Places.{Apart, places_from}
 use Rattle.src_front.specs.Fronts.{AreNamed}
+use Rattle.net_code.proofs.Memories.{first_storages}
+
+-- a number that the storages of a netlist in mode 0 give is that of the netlist
+pub of_first : (count : List Storage → ℕ) (netlist base : Netlist) (n : ℕ) → base ≡ base_at netlist 0 → n ≡ count base.storages → n ≡ count netlist.storages
+of_first count netlist base n first is = is ∙ ap count (first_storages netlist base first)
 
 -- an instruction word has at most 64 bits
 few_bits : (netlist : Netlist) (codes : List Code) → AllByRecursion (CodeKeeps netlist) codes → (limits_in codes).bits ≤ 64

@@ -15,7 +15,7 @@ use Rattle.binding.specs.Refusals.{IsBindFault}
 use Rattle.binding.specs.declared.fault.BindFault.{BindFault}
 use Rattle.binding.specs.declared.fault.BindFault.TheVariants.{DataFull as NoRoom, Memory as BindMemory}
 use Rattle.right_code.specs.Covered.{HasBareTree}
-use Rattle.right_code.specs.Tasks.{Task, Property, read_task}
+use Rattle.right_code.specs.Tasks.{Task, Property, read_task, row_task}
 use Rattle.right_code.proofs.Bare.{no_bare, one_bare}
 use Rattle.right_code.proofs.OneBound.{bound_one}
 use Rattle.net_code.specs.Refusals.{HasSteps, HasJumps, IsBeyondReach, IsCodeFault, IsCoverable, IsJumpless, IsReached, IsStepless, IsImageTooLong}
@@ -77,18 +77,18 @@ fault_of_program net src modes width read wide Memory h = tt
 
 -- ---- two texts say one task
 
-abbrev task_with : Netlist → ℕ → Listing → Task
-task_with netlist width listing = record { netlist = netlist; width = width; listing = listing }
-
-same_task : (n m : Netlist) (w v : ℕ) (l k : Listing) → n ≡ m → w ≡ v → l ≡ k → task_with n w l ≡ task_with m v k
-same_task n m w v l k e f g = rw (e, f, g) refl
+same_task : (n m : Netlist) (w v : ℕ) (l k : Listing) → n ≡ m → w ≡ v → l ≡ k → row_task n w l ≡ row_task m v k
+same_task n m w v l k e f g =
+    ap (λ (x : Netlist). row_task x w l) e ∙ ap (λ (x : ℕ). row_task m x l) f ∙ ap (λ (x : Listing). row_task m v x) g
 
 module _ (net src : List ℕ) where
   one_task : (a b : Task) → IsTask net src a → IsTask net src b → a ≡ b
   one_task a b p q =
       let e : p.entries ≡ q.entries = p.net_file.file.says.only q.entries q.net_file.file.says.text in
-      same_task a.netlist b.netlist a.width b.width a.listing b.listing (p.netlist ∙ (ap netlist_of e ∙ sym q.netlist)) (p.width ∙ (ap data_width e ∙ sym q.width))
+      p.row
+      ∙ same_task a.netlist b.netlist a.width b.width a.listing b.listing (p.netlist ∙ (ap netlist_of e ∙ sym q.netlist)) (p.width ∙ (ap data_width e ∙ sym q.width))
       (p.src_file.says.only b.listing q.src_file.says.text)
+      ∙ sym q.row
 
   -- what holds of it, and what else does, holds of the same task
   pub together : (P Q : Property) (G : Type 0) → ((task : Task) → P task → Q task → G) → TaskHolds net src P → TaskHolds net src Q → G
@@ -172,6 +172,7 @@ module _ (net src : List ℕ) (modes : Moded) (typed : Typed) (read : IsRoutedMo
     netlist = read.netlist.netlist;
     width = wide ∙ ap (λ (n : Netlist). memory_width n.storages) read.netlist.netlist;
     src_file = file;
+    row = refl;
   }
 
   -- what holds of it holds of them

@@ -22,7 +22,7 @@ ghost use Rattle.net_compile.specs.declared.fault.CompileFault.{CompileFault};
 use crate::fault::CompileFault;
 use binding::bind;
 use code_model::{Image, Places};
-use net_code::image_of;
+use net_code::{blocks_of, image_of};
 use net_extract::{Isa, read_extracted};
 use net_model::Modes;
 use rec_bits::{Items, NoMemory};
@@ -105,7 +105,8 @@ pub fn image_for(
     ensures refused { IfErr result (IsTaskFault (read_task modes.now typed.now)) }
 {
     let places = places(alloc, modes, typed)?;
-    let image = image_of(alloc, modes, isas, typed, places)?;
+    let blocks = blocks_of(alloc, modes, typed, &places)?;
+    let image = image_of(alloc, modes, isas, typed, places.list, &blocks)?;
     Ok(image)
 }
 

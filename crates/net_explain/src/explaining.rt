@@ -6,6 +6,7 @@ ghost use Rattle.form_model.specs.Rules.{rules_of};
 ghost use Rattle.form_model.specs.Covers.{stock_with};
 ghost use Rattle.job_places.specs.Places.{program_spots};
 ghost use Rattle.net_extract.specs.Extraction.{IsIsaOf};
+ghost use Rattle.net_compile.specs.Code.{HasRoom};
 ghost use Rattle.net_model.specs.Nets.{memory_width};
 ghost use Rattle.right_code.specs.Tasks.{IsChecked, read_task, task_works};
 ghost use Rattle.src_front.specs.Fronts.{AreNamed};
@@ -40,6 +41,7 @@ fn told_jobs(
     requires checked { IsChecked (read_task modes.now typed.now) }
     requires alone { IsAlone modes.now }
     requires places { places.now ≡ layout_of typed.now.width (listing_of typed.now.program) }
+    requires room { HasRoom (read_task modes.now typed.now) }
     ensures { IfOk result (λ text. AreJobTexts modes.now.netlist
         (stock_with forms.now.list.items places.now.temps forms.now.file) src.now 0
         (program_spots (listing_of typed.now.program)) (task_works (read_task modes.now typed.now)) text.items) }

@@ -18,8 +18,8 @@ use Rattle.src_trees.proofs.Behind.{Alike, all_done_behind, all_lie_behind}
 use Rattle.word_fit.specs.Fits.{fits_over}
 use Rattle.word_fit.specs.Runs.{RunsTo, StandAt}
 use Rattle.word_fit.proofs.Least.{all_fit}
-use Rattle.right_code.specs.Jobs.{IsCovered, job_steps}
-use Rattle.right_code.specs.Inner.Jobs.{HasOne, LeavesDone}
+use Rattle.right_code.specs.Jobs.{HasOne, IsCovered, job_steps}
+use Rattle.right_code.specs.Inner.Jobs.{LeavesDone}
 use Rattle.right_code.proofs.Jobs.{job_left}
 use Rattle.right_code.proofs.Walked.{filed}
 use Rattle.test_code.specs.Tried.{AreJobWords, AreWordsOf}

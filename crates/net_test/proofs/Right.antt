@@ -16,7 +16,7 @@ use Rattle.form_model.specs.Covers.{Choice, Stock}
 use Rattle.src_trees.specs.Doing.{all_done}
 use Rattle.src_trees.specs.Lowered.{Work}
 use Rattle.word_fit.specs.Runs.{StandAt}
-use Rattle.right_code.specs.Inner.Jobs.{HasOne}
+use Rattle.right_code.specs.Jobs.{HasOne}
 use Rattle.right_code.specs.Inner.Known.{AreKnown}
 use Rattle.right_code.proofs.Known.{known_of}
 use Rattle.right_code.proofs.Listed.{are_formed}

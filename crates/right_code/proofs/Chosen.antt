@@ -18,8 +18,8 @@ use Rattle.src_trees.specs.Lowered.{Work}
 use Rattle.src_trees.specs.Blocks.{job_list, job_at, jobs_at}
 use Rattle.src_trees.specs.Seen.{InReach}
 use Rattle.src_trees.specs.Measures.{AllSmall}
-use Rattle.right_code.specs.Jobs.{IsCovered}
-use Rattle.right_code.specs.Inner.Jobs.{AreCovered, HasOne}
+use Rattle.right_code.specs.Jobs.{HasOne, IsCovered}
+use Rattle.right_code.specs.Inner.Jobs.{AreCovered}
 use Rattle.right_code.specs.Inner.Forks.{test_of}
 use Rattle.form_model.specs.Rules.{Destination, tested}
 use Rattle.right_code.specs.Inner.Blocks.{Kit}
@@ -30,7 +30,7 @@ use Rattle.net_model.specs.ModeRules.{base_at}
 use Rattle.right_code.specs.Cuts.{Cut, cuts_of, join_cut, join_first, join_zero, plan_at, plan_choices, plans_at, plans_of}
 use Rattle.right_code.specs.Tasks.{Task, task_works}
 use Rattle.right_code.proofs.Covered.{covered_of}
-use Rattle.right_code.proofs.Tasks.{AllOne}
+use Rattle.right_code.specs.Works.{AllOne}
 
 -- a job that goes nowhere is a test's
 pub as_test : (job : Work) → job.destination ≡ tested → test_of job ≡ job

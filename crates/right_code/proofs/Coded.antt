@@ -8,19 +8,18 @@ use Rattle.net_model.specs.declared.hardware.Storage.TheVariants.{Register, Memo
 use Rattle.net_model.specs.CheckedRules.{IsCounter, code_size}
 use Rattle.net_model.specs.Nets.{storage_bits, counter_of, counter_width, memory_size, memory_width}
 use Rattle.src_model.specs.Written.{Listing, acts_of}
-use Rattle.src_model.specs.Meaning.{cell_count}
 use Rattle.src_model.specs.Rules.{first_fault}
 use Rattle.src_model.specs.Trace.{strace}
 use Rattle.code_model.specs.declared.image.Image.{Image}
-use Rattle.code_model.specs.Places.{words_of, places_from}
-use Rattle.code_model.specs.Layout.{variables_of}
+use Rattle.code_model.specs.Places.{words_of}
 use Rattle.code_model.specs.Right.{TracesRight}
 use Rattle.form_model.specs.declared.flow.Flow.{Flow}
 use Rattle.form_model.specs.declared.flow.Flow.TheVariants.{End as Ended}
 use Rattle.form_model.specs.Rules.{Rule}
-use Rattle.src_trees.specs.Lowered.{Work}
-use Rattle.src_trees.specs.Flows.{places_in, program_flow, program_works}
-use Rattle.src_trees.specs.Seen.{memory_map, InReach}
+use Rattle.src_trees.specs.Lowered.{MemoryMap, Work}
+use Rattle.src_trees.specs.Flows.{places_in, program_flow}
+use Rattle.src_trees.specs.Held.{HasCellRoom, HoldsVars}
+use Rattle.src_trees.specs.Meant.{DoProgram}
 use Rattle.branch_fix.specs.declared.part.Part.{Part}
 use Rattle.branch_fix.specs.declared.part.Part.TheVariants.{Block, Inner, Test, Jump, End}
 use Rattle.branch_fix.specs.Parts.{address, total, room, branch_words, rule_at_one, PartsFit, FitsPart}
@@ -175,10 +174,10 @@ module _ (m : Machine) (kit : Kit) (are : IsKit m 0 kit) (image : Image) where
       }
 
   -- and traces the program, with each mark in mode 0
-  pub code_right : (bits addr : ℕ) (l : Listing) (parts : List Part) → first_fault bits l ≡ None → memory_width m.netlist.storages ≡ bits → InReach bits addr m.temps l.vars
-      → m.temps + cell_count l.vars ≤ memory_size m.netlist.storages → image.places ≡ places_from m.temps (variables_of l.vars)
-      → IsMadeCode m kit image (program_flow l) (program_works (memory_map bits addr m.temps l.vars) l) parts
-      → length (words_of image) ≡ total parts → TracesRight m.netlist image (strace bits l)
-  code_right bits addr l parts kept wide reach room places made long =
-      laid_right m.netlist image bits addr m.temps l kit.stock.rules parts kept wide reach room places
-      (made_is (program_flow l) (program_works (memory_map bits addr m.temps l.vars) l) parts (places_in (acts_of l.body)) (program_is_flow l) made) long
+  pub code_right : (mem : MemoryMap) (l : Listing) (jobs : List Work) (parts : List Part) → first_fault mem.word l ≡ None → memory_width m.netlist.storages ≡ mem.word → HoldsVars m.temps l.vars mem
+      → HasCellRoom m.temps mem (memory_size m.netlist.storages) → image.places ≡ mem.places → DoProgram mem m.temps l jobs
+      → IsMadeCode m kit image (program_flow l) jobs parts
+      → length (words_of image) ≡ total parts → TracesRight m.netlist image (strace mem.word l)
+  code_right mem l jobs parts kept wide held room places does made long =
+      laid_right m.netlist image mem m.temps l jobs kit.stock.rules parts kept wide held room places does
+      (made_is (program_flow l) jobs parts (places_in (acts_of l.body)) (program_is_flow l) made) long

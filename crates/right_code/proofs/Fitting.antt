@@ -37,7 +37,8 @@ use Rattle.right_code.specs.Inner.Laid.{AreSectionsReady, IsBlockReady, IsLaidCo
 use Rattle.right_code.specs.Words.{AreGroupWords, StandItems}
 use Rattle.right_code.proofs.Coded.{there}
 use Rattle.right_code.proofs.Inside.{get_there}
-use Rattle.right_code.proofs.Tasks.{IsTestWork, AreTests, test_work_of}
+use Rattle.right_code.specs.Works.{IsTestWork, AreTests}
+use Rattle.right_code.proofs.Tasks.{test_work_of}
 
 -- ---- a block begins at a part of a block
 

@@ -20,8 +20,8 @@ use Rattle.src_trees.specs.Lowered.{Work}
 use Rattle.src_trees.specs.Seen.{tree_value, ReadsCells}
 use Rattle.src_trees.specs.Doing.{job_value, put_at, done, all_done, AllRead, DestinationLies, Lies, AllLie}
 use Rattle.src_trees.proofs.Behind.{Alike, all_done_behind, all_lie_behind}
-use Rattle.right_code.specs.Jobs.{tree_or_none, tree_used, job_steps, jobs_steps, AreTrees, IsTreeDestination, IsCovered}
-use Rattle.right_code.specs.Inner.Jobs.{IsOne, HasOne, AreCovered, LeavesDone}
+use Rattle.right_code.specs.Jobs.{tree_or_none, tree_used, job_steps, jobs_steps, AreTrees, IsOne, HasOne, IsTreeDestination, IsCovered}
+use Rattle.right_code.specs.Inner.Jobs.{AreCovered, LeavesDone}
 use Rattle.right_code.proofs.Meant.{tree_mean, tree_reads, same_behind}
 
 -- the tree that is used is a tree of the job

@@ -25,6 +25,7 @@ pub mod OneBound
 pub mod OneForms
 pub mod Ordered
 pub mod Plain
+pub mod Rows
 pub mod Right
 pub mod Spares
 pub mod Standing

@@ -1,18 +1,16 @@
 -- An image that is made for a task is code as the layout orders it, and traces the program with each
 -- mark in mode 0.
-use Rattle.std.proofs.Common.{ℕ, zero, suc, ◌≡◌, ◌≤◌, ◌+◌, ◌==◌, ◌||◌, Bool, true, if◌then◌else◌, List, [], ◌∷◌, ◌++◌, length, Option, Some, None, refl, sym, ◌∙◌, ap, arith, subst, slice_get}
+use Rattle.std.proofs.Common.{ℕ, zero, suc, ◌≡◌, ◌≤◌, ◌==◌, ◌||◌, Bool, true, if◌then◌else◌, List, [], ◌∷◌, ◌++◌, length, Option, Some, None, refl, sym, ◌∙◌, ap, arith, subst, slice_get}
 use Rattle.net_model.specs.declared.hardware.Netlist.{Netlist}
 use Rattle.net_model.specs.declared.hardware.Storage.{Storage}
-use Rattle.net_model.specs.CheckedRules.{code_size, memory_addr_width}
+use Rattle.net_model.specs.CheckedRules.{code_size}
 use Rattle.net_model.specs.declared.hardware.Space.TheVariants.{File as InFile}
 use Rattle.net_model.specs.Nets.{IsRegister, file_place, memory_size, memory_width, size_in}
 use Rattle.net_model.specs.Patterns.{Pattern}
-use Rattle.src_model.specs.Meaning.{cell_count}
 use Rattle.src_model.specs.Rules.{first_fault, temp_count}
 use Rattle.src_model.specs.Trace.{strace}
 use Rattle.code_model.specs.declared.image.Image.{Image}
-use Rattle.code_model.specs.Layout.{variables_of}
-use Rattle.code_model.specs.Places.{places_from, words_of}
+use Rattle.code_model.specs.Places.{words_of}
 use Rattle.form_model.specs.declared.flow.Flow.{Flow}
 use Rattle.form_model.specs.declared.forms.Step.{Step}
 use Rattle.form_model.specs.Covers.{Choice, Stock}
@@ -30,9 +28,10 @@ use Rattle.net_model.proofs.Bases.{base_of}
 use Rattle.mode_set.specs.Keeping.{AreKeeping, IsModeRegister, held}
 use Rattle.src_trees.specs.Blocks.{jobs_at}
 use Rattle.src_trees.specs.Flows.{program_flow}
+use Rattle.src_trees.specs.Held.{HasCellRoom, HoldsVars}
+use Rattle.src_trees.specs.Meant.{DoProgram}
 use Rattle.src_trees.specs.Lowered.{Work}
 use Rattle.src_trees.specs.Measures.{AllSmall}
-use Rattle.src_trees.specs.Seen.{InReach}
 use Rattle.branch_fix.specs.Parts.{PartsFit}
 use Rattle.branch_fix.specs.Sections.{Section, section_jobs}
 use Rattle.branch_fix.proofs.Laying.{settled_fit}
@@ -40,7 +39,7 @@ use Rattle.right_code.specs.Jobs.{IsCovered, job_steps, jobs_steps, tree_used}
 use Rattle.mode_set.specs.ModeWords.{FitsModeWord}
 use Rattle.right_code.specs.Cuts.{AreBlockCuts, AreCutWords, AreJobWords, Cut, cuts_of, plans_at, with_mode}
 use Rattle.right_code.specs.Images.{AreTestWords, IsMadeFor}
-use Rattle.right_code.specs.Tasks.{Task, task_works}
+use Rattle.right_code.specs.Tasks.{Task, task_memory, task_temps, task_works}
 use Rattle.right_code.specs.Inner.Blocks.{IsKit, IsModeWordMade, Kit, Machine}
 use Rattle.right_code.specs.Inner.Forks.{test_of}
 use Rattle.right_code.specs.Inner.Jobs.{AreCovered}
@@ -51,7 +50,8 @@ use Rattle.right_code.proofs.Kept.{keep_of}
 use Rattle.right_code.proofs.ModeKept.{StepsApart, job_apart, jobs_apart, packed_keep}
 use Rattle.right_code.proofs.Ordered.{ordered_right}
 use Rattle.right_code.proofs.Standing.{shown_some}
-use Rattle.right_code.proofs.Tasks.{AllOne, AreTests, IsTestWork, test_work_of}
+use Rattle.right_code.specs.Works.{AllOne, AreTests, IsTestWork}
+use Rattle.right_code.proofs.Tasks.{test_work_of}
 
 -- ---- what forms of a mode give
 
@@ -225,9 +225,8 @@ module _ (task : Task) (image : Image) (made : IsMadeFor task image) where
 
     -- from every start state in mode 0
     pub made_traces : length (words_of image) ≤ code_size task.netlist.codes → length (words_of image) ≤ greatest_reach (made.isas 0).rules → AreTurns (net_in 0) (made.isas 0).patterns (made.isas 0).rules (greatest_reach (made.isas 0).rules)
-        → first_fault task.width task.listing ≡ None → memory_width task.netlist.storages ≡ task.width → InReach task.width (memory_addr_width task.netlist.storages) (temp_count task.width task.listing) task.listing.vars
-        → temp_count task.width task.listing + cell_count task.listing.vars ≤ memory_size task.netlist.storages
+        → first_fault task.width task.listing ≡ None → memory_width task.netlist.storages ≡ task.width → HoldsVars (task_temps task) task.listing.vars (task_memory task)
+        → HasCellRoom (task_temps task) (task_memory task) (memory_size task.netlist.storages) → DoProgram (task_memory task) (task_temps task) task.listing task.works
         → TracesRight task.netlist image (strace task.width task.listing)
-    made_traces room reached turns program wide near cells =
-        ordered_right machine (kit_in 0) (is_kit 0 refl) image (greatest_reach (made.isas 0).rules) turns task.width (memory_addr_width task.netlist.storages) task.listing made.parts program wide near cells
-        (made.layout.places ∙ ap (λ n. places_from n (variables_of task.listing.vars)) made.layout.temps) (made_laid room reached)
+    made_traces room reached turns program wide holds cells does =
+        ordered_right machine (kit_in 0) (is_kit 0 refl) image (greatest_reach (made.isas 0).rules) turns (task_memory task) task.listing task.works made.parts program wide holds cells made.layout.places does (made_laid room reached)

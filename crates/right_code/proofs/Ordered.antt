@@ -1,16 +1,14 @@
 -- Code as the layout orders it is made of its parts.
-use Rattle.std.proofs.Common.{Option, ℕ, ◌≡◌, ◌≤◌, ◌<◌, ◌+◌, ◌++◌, unwrap_or, zero, suc, Bool, true, false, List, [], ◌∷◌, length, Some, None, slice_get, slice_index, sym, ◌∙◌, ap, arith, subst}
+use Rattle.std.proofs.Common.{Option, ℕ, ◌≡◌, ◌<◌, ◌+◌, ◌++◌, unwrap_or, zero, suc, Bool, true, false, List, [], ◌∷◌, length, Some, None, slice_get, slice_index, sym, ◌∙◌, ap, arith, subst}
 use Rattle.net_model.specs.declared.hardware.Netlist.{Netlist}
 use Rattle.net_model.specs.CheckedRules.{KeepsRules}
 use Rattle.net_model.specs.Nets.{memory_size, memory_width}
 use Rattle.net_model.specs.Patterns.{Pattern}
 use Rattle.src_model.specs.Written.{Listing, acts_of}
-use Rattle.src_model.specs.Meaning.{cell_count}
 use Rattle.src_model.specs.Rules.{first_fault}
 use Rattle.src_model.specs.Trace.{strace}
 use Rattle.code_model.specs.declared.image.Image.{Image}
-use Rattle.code_model.specs.Places.{words_of, places_from}
-use Rattle.code_model.specs.Layout.{variables_of}
+use Rattle.code_model.specs.Places.{words_of}
 use Rattle.form_model.specs.declared.flow.Flow.{Flow}
 use Rattle.form_model.specs.Shapes.{shape_setting}
 use Rattle.form_model.specs.Rules.{Rule}
@@ -19,9 +17,10 @@ use Rattle.block_words.specs.Laws.{operation_in}
 use Rattle.form_model.specs.Steps.{branch_setting}
 use Rattle.word_fit.specs.Fits.{fits_over, FitsJump}
 use Rattle.word_fit.proofs.Least.{all_fit}
-use Rattle.src_trees.specs.Lowered.{Work}
-use Rattle.src_trees.specs.Flows.{places_in, program_flow, program_works}
-use Rattle.src_trees.specs.Seen.{memory_map, InReach}
+use Rattle.src_trees.specs.Lowered.{MemoryMap, Work}
+use Rattle.src_trees.specs.Flows.{places_in, program_flow}
+use Rattle.src_trees.specs.Held.{HasCellRoom, HoldsVars}
+use Rattle.src_trees.specs.Meant.{DoProgram}
 use Rattle.branch_fix.specs.Parts.{rule_at_one, kind_at_one, room, starts, address}
 use Rattle.branch_fix.specs.Items.{groups, jump_form, jump_step, branch_step, behind, part_items}
 use Rattle.branch_fix.specs.Made.{image_word}
@@ -226,11 +225,11 @@ module _ (m : Machine) (kit : Kit) (order : List ℕ) (keeps : KeepsRules kit.ne
 
 -- and traces the program, with each mark in mode 0
 pub ordered_right : (m : Machine) (kit : Kit) (are : IsKit m 0 kit) (image : Image) (reach : ℕ)
-    → AreTurns kit.netlist kit.patterns kit.stock.rules reach → (bits addr : ℕ) (l : Listing) (parts : List Part) → first_fault bits l ≡ None → memory_width m.netlist.storages ≡ bits → InReach bits addr m.temps l.vars
-    → m.temps + cell_count l.vars ≤ memory_size m.netlist.storages → image.places ≡ places_from m.temps (variables_of l.vars)
-    → IsLaidCode m kit image (program_flow l) (program_works (memory_map bits addr m.temps l.vars) l) parts reach
-    → TracesRight m.netlist image (strace bits l)
-ordered_right m kit are image reach turns bits addr l parts kept wide inreach room places laid =
-    code_right m kit are image bits addr l parts kept wide inreach room places
-    (laid_made m kit are.order are.keeps image reach turns (program_flow l) (program_works (memory_map bits addr m.temps l.vars) l) parts (places_in (acts_of l.body)) (program_is_flow l) (program_upto l) laid)
+    → AreTurns kit.netlist kit.patterns kit.stock.rules reach → (mem : MemoryMap) (l : Listing) (jobs : List Work) (parts : List Part) → first_fault mem.word l ≡ None → memory_width m.netlist.storages ≡ mem.word
+    → HoldsVars m.temps l.vars mem → HasCellRoom m.temps mem (memory_size m.netlist.storages) → image.places ≡ mem.places → DoProgram mem m.temps l jobs
+    → IsLaidCode m kit image (program_flow l) jobs parts reach
+    → TracesRight m.netlist image (strace mem.word l)
+ordered_right m kit are image reach turns mem l jobs parts kept wide held room places does laid =
+    code_right m kit are image mem l jobs parts kept wide held room places does
+    (laid_made m kit are.order are.keeps image reach turns (program_flow l) jobs parts (places_in (acts_of l.body)) (program_is_flow l) (program_upto l) laid)
     laid.long

@@ -1,16 +1,14 @@
 -- An image that is made for a task traces its program.
 use Rattle.std.proofs.lemmas.Bool.{ltb-true}
-use Rattle.net_model.specs.Nets.{storage_bits, memory_size, memory_width, size_in}
-use Rattle.std.proofs.Common.{◌≡◌, zero, suc, [], ◌∷◌, Option, Some, None, slice_get, nat_lt, if◌then◌else◌, Bool, true, false, ℕ, ◌≤◌, ◌<◌, ◌^◌, List, length, slice_index, refl, sym, ◌∙◌, ap, arith, subst}
+use Rattle.net_model.specs.Nets.{memory_width, size_in}
+use Rattle.std.proofs.Common.{◌≡◌, zero, suc, [], ◌∷◌, Option, Some, None, slice_get, nat_lt, if◌then◌else◌, Bool, true, false, ℕ, ◌≤◌, ◌<◌, List, length, slice_index, refl, sym, ◌∙◌, ap, arith, subst}
 use Rattle.net_model.specs.declared.hardware.Space.TheVariants.{File as InFile}
-use Rattle.net_model.specs.declared.hardware.Storage.{Storage}
-use Rattle.net_model.specs.CheckedRules.{code_size, memory_addr_width, IsMode}
+use Rattle.net_model.specs.CheckedRules.{code_size, IsMode}
 use Rattle.net_model.specs.Widths.{WordFits}
 use Rattle.src_model.specs.Written.{acts_of}
 use Rattle.src_model.specs.Rules.{temp_count}
 use Rattle.src_model.specs.Trace.{strace}
 use Rattle.code_model.specs.declared.image.Image.{Image}
-use Rattle.code_model.specs.Layout.{need_of}
 use Rattle.code_model.specs.Places.{words_of}
 use Rattle.code_model.specs.Right.{TracesRight}
 use Rattle.form_model.specs.Covers.{Choice, IsChosen}
@@ -25,16 +23,14 @@ use Rattle.word_fit.specs.Groups.{AllHaveWords}
 use Rattle.net_model.proofs.WordWidths.{has_bits}
 use Rattle.form_set.specs.Listing.{greatest_reach}
 use Rattle.net_model.proofs.Bases.{base_of}
+use Rattle.net_model.proofs.ModeFaults.{some_modes}
 use Rattle.mode_set.specs.Costs.{Planned}
 use Rattle.mode_set.specs.Keeping.{IsModeRegister, Isas, held}
-use Rattle.net_model.specs.Fixed.{mode_count}
 use Rattle.net_model.specs.ModeRules.{KeepsInOrder, base_at, modes_in}
 use Rattle.src_trees.specs.Blocks.{jobs_at}
 use Rattle.src_trees.specs.Flows.{places_in, program_flow}
 use Rattle.src_trees.specs.Lowered.{Work}
 use Rattle.src_trees.specs.Measures.{AllSmall, IsSmall}
-use Rattle.src_trees.specs.Seen.{InReach}
-use Rattle.src_trees.proofs.Measured.{program_small}
 use Rattle.branch_fix.specs.Inner.Flowing.{IsFlow}
 use Rattle.branch_fix.specs.Items.{items_from, jump_form}
 use Rattle.branch_fix.specs.Parts.{PartsFit, address, starts, total}
@@ -56,8 +52,8 @@ use Rattle.right_code.specs.Images.{IsBranchOf, IsMadeFor, IsRightImage}
 use Rattle.right_code.specs.Inner.Blocks.{IsKit}
 use Rattle.right_code.specs.Inner.Laid.{AreTurns, IsLaidCode}
 use Rattle.right_code.specs.Jobs.{IsCovered, job_steps, jobs_steps, tree_or_none, tree_used}
-use Rattle.right_code.specs.Tasks.{IsChecked, Task, task_memory, task_works}
-use Rattle.right_code.proofs.Chosen.{AllMode, CutsCovered, as_test, block_covered, cuts_covered, in_reach, own_net, run_covered, test_plan}
+use Rattle.right_code.specs.Tasks.{IsChecked, Task, task_works}
+use Rattle.right_code.proofs.Chosen.{AllMode, CutsCovered, as_test, block_covered, cuts_covered, own_net, run_covered, test_plan}
 use Rattle.right_code.proofs.Covered.{covered_of}
 use Rattle.right_code.proofs.Fitting.{code_fits, word_in}
 use Rattle.right_code.proofs.Given.{given_forms, given_turns, given_words}
@@ -69,7 +65,8 @@ use Rattle.right_code.proofs.Worded.{block_words, test_words}
 use Rattle.right_code.proofs.Layouts.{within_code}
 use Rattle.right_code.proofs.Made.{FormsGive, has_in, is_kit, kit_in, machine, made_laid, made_traces}
 use Rattle.right_code.proofs.OneBound.{made_reached}
-use Rattle.right_code.proofs.Tasks.{AllOne, IsTestWork, program_tests, test_work_of, works_one}
+use Rattle.right_code.specs.Works.{AllOne, IsTestWork, node_limit}
+use Rattle.right_code.proofs.Tasks.{test_work_of}
 
 -- a job of small jobs is small
 small_at : (bits temps most : ℕ) (works : List Work) (k : ℕ) (job : Work) → AllSmall bits temps most works → slice_get works k ≡ Some job → IsSmall bits temps most job
@@ -80,19 +77,11 @@ small_at bits temps most (w ∷ works) zero job h e = subst (IsSmall bits temps 
     same x y e = cc
 small_at bits temps most (w ∷ works) (suc k) job h e = small_at bits temps most works k job h.1 e
 
-some_pow : (n : ℕ) → 0 < 2 ^ n
-some_pow zero = omega arith
-some_pow (suc n) = let h = some_pow n in omega (arith, h)
-
 module _ (task : Task) (checked : IsChecked task) where
   -- a number that stands for a mode is one
   held_within : (v : ℕ) → held task.netlist v < modes_in task.netlist
-  held_within v = by_number v (some_modes task.netlist.special)
+  held_within v = by_number v (some_modes task.netlist)
     where
-      some_modes : (o : Option ℕ) → 0 < mode_count o task.netlist
-      some_modes None = omega arith
-      some_modes (Some mode) = some_pow (storage_bits (slice_get task.netlist.storages mode))
-
       by_number : (v : ℕ) → 0 < modes_in task.netlist → held task.netlist v < modes_in task.netlist
       by_number zero some = some
       by_number (suc v) some = by_bool (nat_lt (suc v) (modes_in task.netlist)) refl
@@ -119,15 +108,9 @@ module _ (task : Task) (checked : IsChecked task) where
   same_codes : (v : ℕ) → (base_at task.netlist (held task.netlist v)).codes ≡ task.netlist.codes
   same_codes v = (base_of task.netlist task.netlist.special (held task.netlist v)).codes
 
-  -- the variables are in reach of addresses, and the trees are small
-  pub near : InReach task.width (memory_addr_width task.netlist.storages) (temp_count task.width task.listing) task.listing.vars
-  near =
-      let e = same_storages 0 in
-      subst (λ (list : List Storage). InReach task.width (memory_addr_width list) (temp_count task.width task.listing) task.listing.vars) e
-      (in_reach (base_at task.netlist 0) (keeps 0).order (keeps 0).rules task.width task.listing (ap memory_width e ∙ checked.words) (subst (λ (list : List Storage). need_of task.width task.listing ≤ memory_size list) (sym e) checked.cells))
-
-  pub small : AllSmall task.width (temp_count task.width task.listing) 510 (task_works task)
-  small = program_small task.width (memory_addr_width task.netlist.storages) (temp_count task.width task.listing) task.listing checked.program near
+  -- the trees are small
+  pub small : AllSmall task.width (temp_count task.width task.listing) node_limit (task_works task)
+  small = checked.jobs.small
 
   -- parts of the program have words
   some_total : (rules : List Rule) (parts : List Part) → PartsFit rules (program_flow task.listing) 0 (program_flow task.listing) parts → 1 ≤ total parts
@@ -153,7 +136,7 @@ module _ (task : Task) (checked : IsChecked task) where
         given_turns (base_at task.netlist 0) (keeps 0).order (keeps 0).rules (isas 0).patterns (isas 0).are (isas 0).all (isas 0).most (isas 0).forms task.netlist.special (isas 0).rules (isas 0).kept some
 
     pub job_covered : (v number : ℕ) (job : Work) → slice_get (task_works task) number ≡ Some job → (choice : Choice) → IsChosen (mode_stock task isas v) job.destination job.trees choice → IsCovered (mode_stock task isas v) job choice
-    job_covered v number job at choice c = covered_of task.width (mode_stock task isas v) (give v).reads 510 job choice (small_at task.width (temp_count task.width task.listing) 510 (task_works task) number job small at) c
+    job_covered v number job at choice c = covered_of task.width (mode_stock task isas v) (give v).reads node_limit job choice (small_at task.width (temp_count task.width task.listing) node_limit (task_works task) number job small at) c
 
     -- ---- words of steps
 
@@ -164,7 +147,7 @@ module _ (task : Task) (checked : IsChecked task) where
     register_in v = has_in task.netlist.special task.netlist (own_net task isas v) (sym (same_storages v)) register
 
     one : AllOne (task_works task)
-    one = works_one (task_memory task) (acts_of task.listing.body)
+    one = checked.jobs.one
 
     covers_at : (cuts : List Cut) (k : ℕ) (x : Cut) → CutsCovered task isas cuts → slice_get cuts k ≡ Some x → AreCovered (mode_stock task isas x.mode) x.jobs x.choices
     covers_at [] k x c e = absurd (cc e)
@@ -190,7 +173,7 @@ module _ (task : Task) (checked : IsChecked task) where
           steps_words x.mode x.jobs x.choices live
           (covers_at (cuts_of (jobs_at (program_flow task.listing) (task_works task) at n) (plans_at (program_flow task.listing) plans at n)) k x
           (cuts_covered task isas (jobs_at (program_flow task.listing) (task_works task) at n) (plans_at (program_flow task.listing) plans at n)
-          (block_covered task isas (λ v. (give v).reads) 510 small one plans planned (program_flow task.listing) at n)) e) less
+          (block_covered task isas (λ v. (give v).reads) node_limit small one plans planned (program_flow task.listing) at n)) e) less
 
       -- and each step of neighbouring jobs whose plans are of one mode
       pub run_words_of : (v at n : ℕ) → AllMode v (plans_at (program_flow task.listing) plans at n) → (live : Regs) → ((r : ℕ) → live r ≡ true → with_mode task.netlist.special no_regs r ≡ true)
@@ -199,11 +182,11 @@ module _ (task : Task) (checked : IsChecked task) where
       run_words_of v at n all live less =
           steps_words v (jobs_at (program_flow task.listing) (task_works task) at n) (plan_choices (plans_at (program_flow task.listing) plans at n)) live
           (run_covered task isas v (jobs_at (program_flow task.listing) (task_works task) at n) (plans_at (program_flow task.listing) plans at n) all
-          (block_covered task isas (λ v. (give v).reads) 510 small one plans planned (program_flow task.listing) at n)) less
+          (block_covered task isas (λ v. (give v).reads) node_limit small one plans planned (program_flow task.listing) at n)) less
 
       test_covered : (number : ℕ) (job : Work) (own : Planned) → slice_get (task_works task) number ≡ Some job → slice_get plans number ≡ Some own → job.destination ≡ tested → IsCovered (mode_stock task isas 0) (test_of job) own.choice
       test_covered number job own at there e =
-          let d = test_plan task isas (λ v. (give v).reads) 510 small one plans planned (task_works task) plans number job small planned at e in
+          let d = test_plan task isas (λ v. (give v).reads) node_limit small one plans planned (task_works task) plans number job small planned at e in
           let same : d.0 ≡ own = one_plan d.0 own (sym d.1 ∙ there) in
           subst (λ (x : Work). IsCovered (mode_stock task isas 0) x own.choice) (sym (as_test job e)) (subst (λ (p : Planned). IsCovered (mode_stock task isas 0) job p.choice) same d.2)
         where
@@ -245,8 +228,8 @@ module _ (task : Task) (checked : IsChecked task) where
           asked : (at : ℕ) (f : Fork) → slice_get parts at ≡ Some (Test f)
               → IsAsked (own_net task isas 0) (keeps 0).order (keeps 0).rules task.netlist.special (isas 0).patterns (greatest_reach (isas 0).rules) (mode_stock task isas 0) turning refl (turns (some_reach parts layout)) (program_flow task.listing) parts (places_in (acts_of task.listing.body)) (program_is_flow task.listing) (program_upto task.listing) layout f
           asked at f e =
-              let t : IsTestWork (task_works task) f.tree = test_work_of (task_works task) (isas 0).rules (program_flow task.listing) parts at f fits (program_tests (task_memory task) task.listing) e in
-              let d = test_plan task isas (λ v. (give v).reads) 510 small one plans planned (task_works task) plans f.tree t.work small planned t.at t.destination in
+              let t : IsTestWork (task_works task) f.tree = test_work_of (task_works task) (isas 0).rules (program_flow task.listing) parts at f fits checked.jobs.tests e in
+              let d = test_plan task isas (λ v. (give v).reads) node_limit small one plans planned (task_works task) plans f.tree t.work small planned t.at t.destination in
               let c : IsCovered (mode_stock task isas 0) (test_of t.work) d.0.choice = test_covered f.tree t.work d.0 t.at d.1 t.destination in
               let b : IsBranchOf (mode_stock task isas 0) t.work d.0.choice f = branch at f e t.work t.at d.0 d.1 in
               let is : tree_used t.work d.0.choice ≡ c.covers.tree = ap tree_or_none c.covers.used in
@@ -263,18 +246,18 @@ module _ (task : Task) (checked : IsChecked task) where
         omega (arith, s, m)
 
     kit : IsKit (machine task image made) 0 (kit_in task image made 0)
-    kit = is_kit task image made keeps (give made.isas) register 510 small (works_one (task_memory task) (acts_of task.listing.body)) (program_tests (task_memory task) task.listing) 0 refl
+    kit = is_kit task image made keeps (give made.isas) register node_limit small checked.jobs.one checked.jobs.tests 0 refl
 
     laid : length (words_of image) ≤ code_size task.netlist.codes → length (words_of image) ≤ greatest_reach (made.isas 0).rules
         → IsLaidCode (machine task image made) (kit_in task image made 0) image (program_flow task.listing) (task_works task) made.parts (greatest_reach (made.isas 0).rules)
     laid room reached =
-        made_laid task image made keeps (give made.isas) register 510 small (works_one (task_memory task) (acts_of task.listing.body)) (program_tests (task_memory task) task.listing) room reached
+        made_laid task image made keeps (give made.isas) register node_limit small checked.jobs.one checked.jobs.tests room reached
 
     traces : length (words_of image) ≤ code_size task.netlist.codes → length (words_of image) ≤ greatest_reach (made.isas 0).rules → TracesRight task.netlist image (strace task.width task.listing)
     traces room reached =
         let s = some_words in
-        made_traces task image made keeps (give made.isas) register 510 small (works_one (task_memory task) (acts_of task.listing.body)) (program_tests (task_memory task) task.listing) room reached
-        (turns made.isas (omega (arith, s, reached))) checked.program checked.words near checked.cells
+        made_traces task image made keeps (give made.isas) register node_limit small checked.jobs.one checked.jobs.tests room reached
+        (turns made.isas (omega (arith, s, reached))) checked.program checked.words checked.jobs.held checked.jobs.room checked.jobs.meant
 
     -- its words have the width of the netlist's words
     pub image_fits : length (words_of image) ≤ code_size task.netlist.codes → length (words_of image) ≤ greatest_reach (made.isas 0).rules → (a : ℕ) → WordFits task.netlist (slice_index (words_of image) a)
@@ -282,7 +265,7 @@ module _ (task : Task) (checked : IsChecked task) where
         let s = some_words in
         let m = made.long in
         word_in (base_at task.netlist 0) task.netlist (slice_index (words_of image) a) (same_codes 0)
-        (code_fits (machine task image made) (kit_in task image made 0) kit image (program_flow task.listing) (task_works task) made.parts (greatest_reach (made.isas 0).rules) (program_tests (task_memory task) task.listing) (laid room reached) (omega (arith, s, m)) a)
+        (code_fits (machine task image made) (kit_in task image made 0) kit image (program_flow task.listing) (task_works task) made.parts (greatest_reach (made.isas 0).rules) checked.jobs.tests (laid room reached) (omega (arith, s, m)) a)
 
     pub right_image : length (words_of image) ≤ code_size task.netlist.codes → length (words_of image) ≤ greatest_reach (made.isas 0).rules → IsRightImage task image
     right_image room reached = record { made = made; traces = traces room reached }

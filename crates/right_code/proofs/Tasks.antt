@@ -1,5 +1,6 @@
 -- The jobs of a program: those that store something have one tree, and those of tests store
 -- nothing.
+use Rattle.right_code.specs.Works.{AllOne, AreTests, IsTestWork}
 use Rattle.std.proofs.Common.{ℕ, zero, suc, ◌≡◌, ◌<◌, ◌+◌, Bool, true, false, if◌then◌else◌, List, [], ◌∷◌, ◌++◌, length, Some, refl, sym, ◌∙◌, subst, arith, slice_get}
 use Rattle.net_model.specs.Terms.{Term, const}
 use Rattle.src_model.specs.declared.program.Cmp.{Cmp}
@@ -17,15 +18,11 @@ use Rattle.branch_fix.specs.declared.part.Fork.{Fork}
 use Rattle.branch_fix.specs.declared.part.Part.{Part}
 use Rattle.branch_fix.specs.declared.part.Part.TheVariants.{Test}
 use Rattle.branch_fix.proofs.Addresses.{part_at, fit_length}
-use Rattle.right_code.specs.Inner.Jobs.{HasOne}
+use Rattle.right_code.specs.Jobs.{HasOne}
 use Rattle.right_code.proofs.Coded.{there}
 use Rattle.right_code.proofs.Inside.{get_there}
 
 -- ---- one tree
-
-abbrev pub AllOne : List Work → Type 0
-AllOne [] = Unit {0}
-AllOne (work ∷ later) = HasOne work.destination work.trees × AllOne later
 
 one_on : (xs ys : List Work) → AllOne xs → AllOne ys → AllOne (xs ++ ys)
 one_on [] ys g h = h
@@ -55,18 +52,6 @@ mutual
   else_one m (otherwise body) = works_one m body
 
 -- ---- tests
-
-pub record IsTestWork (all : List Work) (tree : ℕ) : Type 0 where
-  pub work : Work
-  pub at : slice_get all tree ≡ Some work
-  pub destination : work.destination ≡ tested
-
-abbrev pub AreTests : List Work → List Flow → Type 0
-AreTests all [] = Unit {0}
-AreTests all (Assign tree ∷ rest) = AreTests all rest
-AreTests all (Tested tree one none ∷ rest) = IsTestWork all tree × AreTests all rest
-AreTests all (Jumped to ∷ rest) = AreTests all rest
-AreTests all (Ended ∷ rest) = AreTests all rest
 
 tests_on : (all : List Work) (xs ys : List Flow) → AreTests all xs → AreTests all ys → AreTests all (xs ++ ys)
 tests_on all [] ys g h = h

@@ -2,14 +2,12 @@
 -- code.
 use Rattle.std.specs.Prelude.{ℕ, ◌≤◌, ◌≡◌, List, length, Option, Some, slice_get}
 use Rattle.net_model.specs.declared.hardware.Netlist.{Netlist}
-use Rattle.net_model.specs.Nets.{word_width}
+use Rattle.net_model.specs.Nets.{memory_size, word_width}
 use Rattle.net_model.specs.Patterns.{Pattern}
-use Rattle.src_model.specs.Rules.{temp_count}
 use Rattle.src_model.specs.Trace.{strace}
 use Rattle.code_model.specs.declared.image.Image.{Image}
-use Rattle.code_model.specs.Layout.{variables_of}
 use Rattle.code_model.specs.Places.{words_of}
-use Rattle.code_model.specs.Right.{IsLaidOut, TracesRight}
+use Rattle.code_model.specs.Right.{TracesRight}
 use Rattle.form_model.specs.declared.forms.Step.{Step}
 use Rattle.form_model.specs.Covers.{Choice, Stock}
 use Rattle.form_model.specs.Rules.{tested}
@@ -22,6 +20,7 @@ use Rattle.right_code.specs.Cuts.{AreBlockCuts, cuts_of, plans_at, with_mode}
 use Rattle.emit_seq.specs.Spares.{wanted}
 use Rattle.src_trees.specs.Blocks.{IsAssignBlock, jobs_at}
 use Rattle.src_trees.specs.Flows.{program_flow}
+use Rattle.src_trees.specs.Held.{HasCellRoom, HoldsVars}
 use Rattle.src_trees.specs.Lowered.{Work}
 use Rattle.branch_fix.specs.Bounds.{program_bound}
 use Rattle.branch_fix.specs.Items.{items_from, jump_form}
@@ -34,7 +33,7 @@ use Rattle.branch_fix.specs.declared.part.Part.TheVariants.{Block, Test}
 use Rattle.right_code.specs.Covered.{ArePlans, mode_stock, numbered, plan_costs}
 use Rattle.right_code.specs.Forks.{plan_rule}
 use Rattle.right_code.specs.Jobs.{job_steps, tree_used}
-use Rattle.right_code.specs.Tasks.{Task, task_works}
+use Rattle.right_code.specs.Tasks.{Task, task_memory, task_temps, task_works}
 use Rattle.right_code.specs.Words.{AreGroupWords, IsPackingOf, ListItems, StandItems}
 
 -- ---- the words of tests
@@ -59,13 +58,21 @@ pub record AreTestWords (netlist : Netlist) (special : Option ℕ) (patterns : L
 
 -- ---- the image
 
+-- the temporary cells stand from address 0, and the variables behind them at the task's places; all
+-- lie in the memory, and none in another
+pub record IsLaidAt (task : Task) (image : Image) : Type 0 where
+  pub temps : image.temps ≡ task_temps task
+  pub places : image.places ≡ task.places
+  pub held : HoldsVars (task_temps task) task.listing.vars (task_memory task)
+  pub room : HasCellRoom (task_temps task) (task_memory task) (memory_size task.netlist.storages)
+
 -- an image that is made for a task
 pub record IsMadeFor (task : Task) (image : Image) : Type 0 where
   -- what the netlist is told in each mode
   pub isas : Isas task.netlist
   pub bits : image.bits ≡ word_width task.netlist
-  -- the temporary cells, and then the variables
-  pub layout : IsLaidOut task.netlist (temp_count task.width task.listing) (variables_of task.listing.vars) image
+  -- the temporary cells, and the variables at the task's places
+  pub layout : IsLaidAt task image
   -- each job has its mode and its chosen cover, whose cost is told with its tree's number
   pub plans : List Planned
   pub planned : ArePlans task isas plans

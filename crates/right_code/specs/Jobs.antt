@@ -3,7 +3,7 @@ use Rattle.std.specs.Prelude.{◌≤◌, ◌≡◌, true, List, [], ◌∷◌, �
 use Rattle.net_model.specs.Terms.{Term, const}
 use Rattle.form_model.specs.declared.forms.Step.{Step}
 use Rattle.form_model.specs.Trees.{is_tree}
-use Rattle.form_model.specs.Rules.{Destination, stored}
+use Rattle.form_model.specs.Rules.{Destination, stored, tested}
 use Rattle.form_model.specs.Covers.{Stock, Choice, Covers}
 use Rattle.form_model.specs.Steps.{cut_count, cover_steps}
 use Rattle.emit_seq.specs.Leaves.{IsOfJob}
@@ -12,6 +12,15 @@ use Rattle.src_trees.specs.Lowered.{Work}
 abbrev pub tree_or_none : Option Term → Term
 tree_or_none None = const 0 0
 tree_or_none (Some t) = t
+
+-- a list of one tree
+abbrev pub IsOne : List Term → Type 0
+IsOne trees = (t : Term) × (trees ≡ t ∷ [])
+
+-- a job that stores something has one tree
+abbrev pub HasOne : Destination → List Term → Type 0
+HasOne tested trees = Unit {0}
+HasOne destination trees = IsOne trees
 
 -- the tree of a job that its cover uses
 abbrev pub tree_used : Work → Choice → Term

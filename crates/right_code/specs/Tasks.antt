@@ -1,52 +1,91 @@
 -- What two files say together: a netlist and a program for the words of its data memory; and what
 -- is made of that before any form is known.
-use Rattle.std.specs.Prelude.{ℕ, ◌≤◌, ◌≡◌, List, None}
+use Rattle.std.specs.Prelude.{ℕ, ◌≡◌, List, None, length}
 use Rattle.net_model.specs.declared.hardware.Netlist.{Netlist}
 use Rattle.net_model.specs.CheckedRules.{memory_addr_width}
 use Rattle.net_model.specs.declared.hardware.Space.TheVariants.{File as InFile}
 use Rattle.net_model.specs.Nets.{memory_size, memory_width, size_in}
 use Rattle.src_model.specs.declared.typed.Typed.{Typed}
 use Rattle.src_model.specs.Rules.{first_fault, temp_count}
-use Rattle.src_model.specs.Written.{Listing, listing_of}
-use Rattle.code_model.specs.Layout.{need_of}
+use Rattle.src_model.specs.Sizes.{statements_in}
+use Rattle.src_model.specs.Written.{Listing, listing_of, acts_of}
+use Rattle.code_model.specs.declared.image.Place.{Place as VariablePlace}
 use Rattle.form_model.specs.Covers.{Stock}
 use Rattle.form_model.specs.Rules.{Rule}
 use Rattle.net_model.specs.ModeRules.{KeepsModes, Moded}
-use Rattle.src_trees.specs.Flows.{program_works}
+use Rattle.src_trees.specs.Flows.{program_flow, program_works}
+use Rattle.src_trees.specs.Held.{HasCellRoom, HoldsVars}
 use Rattle.src_trees.specs.Lowered.{MemoryMap, Work}
+use Rattle.src_trees.specs.Measures.{AllSmall}
+use Rattle.src_trees.specs.Meant.{DoProgram}
 use Rattle.src_trees.specs.Seen.{memory_map}
+use Rattle.right_code.specs.Works.{AllOne, AreTests, node_limit}
 
--- a netlist, how many bits a word has, and a program that keeps the rules for such words
+-- a netlist, how many bits a word has, a program that keeps the rules for such words, where its
+-- variables stand in the netlist's data memory, and its jobs
 pub record Task : Type 0 where
   pub netlist : Netlist
   pub width : ℕ
   pub listing : Listing
+  pub places : List VariablePlace
+  pub works : List Work
+
+-- the data memory with the program's variables
+abbrev pub task_memory : Task → MemoryMap
+task_memory task = record {
+  word = task.width;
+  addr = memory_addr_width task.netlist.storages;
+  places = task.places;
+}
+
+-- its jobs, and its temporary cells
+abbrev pub task_works : Task → List Work
+task_works task = task.works
+
+abbrev pub task_temps : Task → ℕ
+task_temps task = temp_count task.width task.listing
+
+-- the program's variables stand at these places, behind its temporary cells, and these are jobs that
+-- do what its statements say: one for each tree, of one tree but for tests, and none too large
+pub record HasJobs (task : Task) : Type 0 where
+  pub held : HoldsVars (task_temps task) task.listing.vars (task_memory task)
+  pub room : HasCellRoom (task_temps task) (task_memory task) (memory_size task.netlist.storages)
+  pub meant : DoProgram (task_memory task) (task_temps task) task.listing task.works
+  pub count : length task.works ≡ statements_in (acts_of task.listing.body)
+  pub one : AllOne task.works
+  pub tests : AreTests task.works (program_flow task.listing)
+  pub small : AllSmall task.width (task_temps task) node_limit task.works
 
 -- the netlist keeps its rules in each mode, and the program its own; its words are those of the data
--- memory, and the memory has a cell for each of its cells
+-- memory, which has room for its variables
 pub record IsChecked (task : Task) : Type 0 where
   pub netlist : KeepsModes task.netlist
   pub program : first_fault task.width task.listing ≡ None
   pub words : memory_width task.netlist.storages ≡ task.width
-  pub cells : need_of task.width task.listing ≤ memory_size task.netlist.storages
+  pub jobs : HasJobs task
 
 -- a property of a task
 abbrev pub Property : Type 1
 Property = Task → Type 0
 
--- the task of a netlist and a program that were read
+-- ---- the task of one memory
+
+-- the variables stand behind the temporary cells
+abbrev pub row_memory : Netlist → ℕ → Listing → MemoryMap
+row_memory netlist width l = memory_map width (memory_addr_width netlist.storages) (temp_count width l) l.vars
+
+abbrev pub row_task : Netlist → ℕ → Listing → Task
+row_task netlist width l = record {
+  netlist = netlist;
+  width = width;
+  listing = l;
+  places = (row_memory netlist width l).places;
+  works = program_works (row_memory netlist width l) l;
+}
+
+-- that of a netlist and a program that were read
 abbrev pub read_task : Moded → Typed → Task
-read_task modes typed = record { netlist = modes.netlist; width = typed.width; listing = listing_of typed.program }
-
--- the data memory with the program's variables, which stand behind the temporary cells
-abbrev pub task_memory : Task → MemoryMap
-task_memory task =
-    memory_map task.width (memory_addr_width task.netlist.storages)
-    (temp_count task.width task.listing) task.listing.vars
-
--- the jobs of the program
-abbrev pub task_works : Task → List Work
-task_works task = program_works (task_memory task) task.listing
+read_task modes typed = row_task modes.netlist typed.width (listing_of typed.program)
 
 -- forms, the program's temporary cells, and the cells of the register file
 abbrev pub task_stock : List Rule → Task → Stock

@@ -1,11 +1,17 @@
 //! Laws of what two files say together: what is one for a task, and that an image made for it is
 //! right code.
 
-ghost use Rattle.std.specs.Prelude.{ℕ, ◌≡◌, ◌≤◌, Bool, true, List, length, Some, slice_get};
+ghost use Rattle.std.specs.Prelude.{ℕ, ◌≡◌, ◌≤◌, Bool, true, List, length, None, Some, slice_get};
 ghost use Rattle.net_model.specs.declared.hardware.Netlist.{Netlist};
 ghost use Rattle.net_model.specs.CheckedRules.{code_size};
+ghost use Rattle.net_model.specs.ModeRules.{KeepsModes};
+ghost use Rattle.net_model.specs.Nets.{memory_size, memory_width};
+ghost use Rattle.src_model.specs.Rules.{first_fault, temp_count};
+ghost use Rattle.src_model.specs.Written.{Listing};
+ghost use Rattle.code_model.specs.Layout.{need_of, variables_of};
 ghost use Rattle.code_model.specs.declared.image.Image.{Image};
 ghost use Rattle.code_model.specs.Places.{words_of};
+ghost use Rattle.code_model.specs.Right.{IsLaidOut};
 ghost use Rattle.form_model.specs.Covers.{Choice, IsChosen, Stock};
 ghost use Rattle.form_model.specs.Rules.{Rule};
 ghost use Rattle.form_set.specs.Listing.{greatest_reach};
@@ -15,9 +21,22 @@ ghost use Rattle.src_trees.specs.Lowered.{Work};
 ghost use Rattle.right_code.specs.Bounded.{HasBound};
 ghost use Rattle.right_code.specs.Covered.{AllPlanned, AreCosts, HasBareTree, HasCovers, mode_stock, plan_costs};
 ghost use Rattle.right_code.specs.Forms.{AreFormsOf};
-ghost use Rattle.right_code.specs.Images.{IsMadeFor, IsRightImage};
+ghost use Rattle.right_code.specs.Images.{IsLaidAt, IsMadeFor, IsRightImage};
 ghost use Rattle.right_code.specs.Jobs.{IsCovered};
-ghost use Rattle.right_code.specs.Tasks.{IsChecked, Task, task_works};
+ghost use Rattle.right_code.specs.Tasks.{IsChecked, Task, row_task, task_works};
+
+/// The task of a netlist and a program that keep their rules is checked, where the program's words
+/// are those of the netlist's data memory, which has the cells that the program needs: the variables
+/// stand behind the temporary cells, and the program's jobs do what it says. An image that is laid
+/// out for it has the variables there, in the order of their declarations.
+pub fn law_of_tasks()
+    ensures checked { (netlist : Netlist) (width : ℕ) (l : Listing) → KeepsModes netlist → first_fault width l ≡ None →
+        memory_width netlist.storages ≡ width → need_of width l ≤ memory_size netlist.storages →
+        IsChecked (row_task netlist width l) }
+    ensures laid { (netlist : Netlist) (width : ℕ) (l : Listing) (image : Image) →
+        IsLaidAt (row_task netlist width l) image →
+        IsLaidOut netlist (temp_count width l) (variables_of l.vars) image }
+{}
 
 /// A netlist has one list of forms, with one greatest reach of its jumps.
 pub fn law_of_lists()

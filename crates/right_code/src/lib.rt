@@ -6,6 +6,9 @@
 //! The netlist may have a register file; the code keeps the program's cells in the data memory. It
 //! may have modes: such code starts in mode 0 and comes to each mark in it, and a block is cut at
 //! the words that put the mode.
+//! A task names the places of its variables and its jobs; `law_of_tasks`: it is checked where the
+//! variables stand behind the temporary cells and the jobs are the program's own (`row_task`), and
+//! an image that is laid out for it has the variables there (`IsLaidOut`).
 //! `law_of_block_words`, `law_of_test_words` and `law_of_jump_words`: each step and each jump of
 //! such code has a word. `law_of_chosen`: a chosen cover has a cell for each of its cuts.
 //! `law_of_lists`, `law_of_isas`, `law_of_costs` and `law_of_bare`: what the definitions ask for is
@@ -19,16 +22,16 @@
 //!
 //! - `laws`: what is one for a task, and that an image made for it is right code.
 //! - `words`: that each step and each jump of a task's code has a word.
-//! - `specs/`, cited by public contracts: `Tasks` (what two files say together), `Forms`,
-//!   `Covered`, `Bounded`, `Words`, `Cuts` (a block's jobs cut at the mode words), `Images` (the
-//!   definition of right code), `Jobs` (the steps of jobs), `Laid`, `Forks`.
+//! - `specs/`, cited by public contracts: `Tasks` (what two files say together), `Works` (its jobs),
+//!   `Forms`, `Covered`, `Bounded`, `Words`, `Cuts` (a block's jobs cut at the mode words), `Images`
+//!   (the definition of right code), `Jobs` (the steps of jobs), `Laid`, `Forks`.
 //! - `specs/Inner/`, between the definition of an image and its trace: `Blocks`, `Code`, `Known`,
 //!   `Jobs`, `Laid` and `Forks`.
-//! - `proofs/`: `Right` on top; `Made`, `Given`, `Chosen`, `Ordered`, `Coded` from the image to the
-//!   trace; `Kept` and `ModeKept` for forms that keep the mode; `Plain`,
-//!   `Listed`, `Turning`, `Turns`, `Swapping` for forms; `Standing`, `Layouts`, `Walked`, `Forked`,
-//!   `Branching`, `Ways` for words; `Worded` and `Jumping` for the laws of words; `OneForms`,
-//!   `OneBound`, `Bare` for what is one. docs/ARCHITECTURE.md goes through them in order.
+//! - `proofs/`: `Right` on top; `Rows` for the task of one memory; `Made`, `Given`, `Chosen`,
+//!   `Ordered`, `Coded` from the image to the trace; `Kept` and `ModeKept` for forms that keep the
+//!   mode; `Plain`, `Listed`, `Turning`, `Turns`, `Swapping` for forms; `Standing`, `Layouts`,
+//!   `Walked`, `Forked`, `Branching`, `Ways` for words; `Worded` and `Jumping` for the laws of words;
+//!   `OneForms`, `OneBound`, `Bare` for what is one. docs/ARCHITECTURE.md goes through them in order.
 #![tactic(auto)]
 
 mod laws;
@@ -36,5 +39,6 @@ mod words;
 
 pub use laws::{
     law_of_bare, law_of_chosen, law_of_costs, law_of_isas, law_of_lists, law_of_programs,
+    law_of_tasks,
 };
 pub use words::{law_of_block_words, law_of_jump_words, law_of_test_words};

@@ -1,5 +1,5 @@
 -- Jobs do to the store what the program's assignments do, and tell its tests.
-use Rattle.std.proofs.Common.{ℕ, ◌≡◌, ◌≤◌, ◌<◌, ◌+◌, ◌^◌, ◌==◌, true, nat_lt, List, length, Option, Some, None, sym, ◌∙◌, ap, subst, arith, slice_index, slice_set}
+use Rattle.std.proofs.Common.{ℕ, ◌≡◌, ◌<◌, ◌+◌, ◌^◌, ◌==◌, true, nat_lt, List, length, Option, Some, None, sym, ◌∙◌, ap, subst, arith, slice_index, slice_set}
 use Rattle.std.specs.Prelude.{int_lt}
 use Rattle.std.proofs.lemmas.Bool.{ltb-true}
 use Rattle.rec_bits.proofs.Booleans.{both}
@@ -13,18 +13,17 @@ use Rattle.src_model.specs.Written.{Phrase, Place, Test, shape_at as shape_as}
 use Rattle.src_model.specs.Names.{declared, is_plain}
 use Rattle.src_model.specs.Indexes.{number_of}
 use Rattle.src_model.specs.Loops.{place_shape}
-use Rattle.src_model.specs.Meaning.{operand_width, shape_value, index_value, cell_of, assigned, compares, holds, cell_count, first_cell}
+use Rattle.src_model.specs.Meaning.{operand_width, shape_value, index_value, cell_of, assigned, compares, holds, cells_in, first_cell}
 use Rattle.src_model.specs.Trace.{counter_value, started, stepped}
 use Rattle.src_model.specs.Fitting.{Fitting, FitsSides}
-use Rattle.code_model.specs.Layout.{variables_of}
-use Rattle.code_model.proofs.Stores.{store_set}
 use Rattle.src_trees.specs.Lowered.{MemoryMap, base_of, tree_of, element_address, element_destination, assigned_destination, assign_work, compared_trees, answer, test_work, start_work, step_work}
 use Rattle.src_model.specs.Inside.{Known, is_inside}
-use Rattle.src_trees.specs.Seen.{memory_map, seen_store, tree_value, ReadsCells, InReach}
+use Rattle.src_trees.specs.Seen.{seen_store, tree_value, ReadsCells}
+use Rattle.src_trees.specs.Held.{HoldsVars, HasCellRoom}
 use Rattle.src_trees.specs.Doing.{destination_cell, put_at, done, AllRead, DestinationLies, Lies, AllAre}
-use Rattle.src_model.proofs.CellLemmas.{first_within, plain_var}
-use Rattle.src_trees.proofs.Cells.{base_is, seen_at}
-use Rattle.src_trees.proofs.Meant.{tree_width, addressed, meant}
+use Rattle.src_model.proofs.CellLemmas.{plain_var}
+use Rattle.src_trees.proofs.Cells.{seen_put}
+use Rattle.src_trees.proofs.Meant.{Placed, tree_width, plain_placed, plain_seen, addressed, meant}
 use Rattle.src_model.proofs.ValueLemmas.{value_fits}
 use Rattle.src_trees.proofs.Values.{lt_not_le, int_lt_not_le, not_not, difference_zero}
 
@@ -58,99 +57,110 @@ compared_read at cells Sle w x y r q = ((q, r), tt)
 compared_read at cells Sgt w x y r q = ((q, r), tt)
 compared_read at cells Sge w x y r q = ((r, q), tt)
 
-module _ (bits addr temps : ℕ) (vars : List Declared) (inreach : InReach bits addr temps vars) (cells : List ℕ) (room : temps + cell_count vars ≤ length cells) where
-  abbrev mem : MemoryMap
-  mem = memory_map bits addr temps vars
-
-  -- a value at a cell of the variables
-  put_cell : (a k v : ℕ) → a ≡ temps + k → seen_store mem (slice_set cells a v) ≡ slice_set (seen_store mem cells) k v
-  put_cell a k v e = ap (λ n. seen_store mem (slice_set cells n v)) e ∙ store_set temps k (variables_of vars) cells v
+module _ (m : MemoryMap) (temps : ℕ) (vars : List Declared) (held : HoldsVars temps vars m) (cells : List ℕ) (room : HasCellRoom temps m (length cells)) where
+  -- a value at a cell of a variable
+  put_cell : (name : List ℕ) (var : Declared) (i a v : ℕ) → declared vars name ≡ Some var → i < cells_in var → a ≡ base_of m.places name + i
+      → seen_store m (slice_set cells a v) ≡ slice_set (seen_store m cells) (first_cell vars name + i) v
+  put_cell name var i a v e lt q =
+      ap (λ n. seen_store m (slice_set cells n v)) q ∙ seen_put temps m.places vars cells name var i v held.stand room.within held.alone e lt
 
   -- ---- assignments
 
   pub record Aimed (name : List ℕ) (index : Option Phrase) : Type 0 where
-    pub puts : (v : ℕ) → seen_store mem (put_at (assigned_destination mem name index) v cells) ≡ slice_set (seen_store mem cells) (first_cell vars name + index_value bits vars (seen_store mem cells) index) v
-    pub at : destination_cell cells (assigned_destination mem name index) ≡ Some (temps + (first_cell vars name + index_value bits vars (seen_store mem cells) index))
-    pub lies : DestinationLies temps cells (assigned_destination mem name index)
-    pub within : first_cell vars name + index_value bits vars (seen_store mem cells) index < cell_count vars
+    pub puts : (v : ℕ) → seen_store m (put_at (assigned_destination m name index) v cells) ≡ slice_set (seen_store m cells) (first_cell vars name + index_value m.word vars (seen_store m cells) index) v
+    pub at : destination_cell cells (assigned_destination m name index) ≡ Some (base_of m.places name + index_value m.word vars (seen_store m cells) index)
+    pub lies : DestinationLies temps cells (assigned_destination m name index)
 
-  aimed : (name : List ℕ) (at : ℕ) (index : Option Phrase) → Fitting bits bits (shape_as name at index) → Known vars (shape_as name at index) → is_inside bits vars (seen_store mem cells) (shape_as name at index) ≡ true → Aimed name index
+  aimed : (name : List ℕ) (at : ℕ) (index : Option Phrase) → Fitting m.word m.word (shape_as name at index) → Known vars (shape_as name at index) → is_inside m.word vars (seen_store m cells) (shape_as name at index) ≡ true → Aimed name index
   aimed name at None f k i =
       let v = plain_var (declared vars name) k in
-      let b = base_is temps vars name v.0 v.1 in
-      let w = first_within vars name v.0 v.1 in
-      record { puts = λ n. put_cell _ (first_cell vars name + 0) n (omega (arith, b)); at = ap Some (omega (arith, b)); lies = (omega (arith, b), omega (arith, b, w, v.2)); within = omega (arith, w, v.2) }
+      let h = plain_placed m temps vars held cells room name v.0 v.1 v.2 in
+      let b = h.behind in
+      let w = h.within in
+      record { puts = λ n. put_cell name v.0 0 (base_of m.places name) n v.1 v.2 (omega arith); at = ap Some (omega arith); lies = (omega (arith, b), omega (arith, w)) }
   aimed name at (Some x) f k i =
-      let t = both (is_inside bits vars (seen_store mem cells) x.shape) _ i in
-      let h = meant bits addr temps vars inreach cells bits x.shape f.0 k.1 t.0 in
-      let a = addressed bits addr temps vars inreach cells name x.shape k.0 (ltb-true _ _ t.1) (tree_width bits addr temps vars bits x.shape f.0 ∙ f.1) h.value h.reads in
-      let all = by a.within (number_of x.shape) a.at a.reads in
-      record { puts = all.0; at = all.1; lies = all.2; within = a.within }
+      let t = both (is_inside m.word vars (seen_store m cells) x.shape) _ i in
+      let h = meant m temps vars held cells room m.word x.shape f.0 k.1 t.0 in
+      let a = addressed m temps vars held cells room name x.shape k.0 (ltb-true _ _ t.1) (tree_width m m.word x.shape f.0 ∙ f.1) h.value h.reads in
+      let all = by a.var a.is a.inside a.cell (number_of x.shape) a.at a.reads in
+      record { puts = all.0; at = all.1; lies = all.2 }
     where
-      by : first_cell vars name + shape_value bits vars (seen_store mem cells) bits x.shape < cell_count vars → (o : Option ℕ)
-          → tree_value cells (element_address mem name o (tree_of mem bits x.shape)) ≡ temps + (first_cell vars name + shape_value bits vars (seen_store mem cells) bits x.shape)
-          → ReadsCells temps cells (element_address mem name o (tree_of mem bits x.shape))
-          → ((v : ℕ) → seen_store mem (put_at (element_destination mem name o (tree_of mem bits x.shape)) v cells) ≡ slice_set (seen_store mem cells) (first_cell vars name + shape_value bits vars (seen_store mem cells) bits x.shape) v)
-          × (destination_cell cells (element_destination mem name o (tree_of mem bits x.shape)) ≡ Some (temps + (first_cell vars name + shape_value bits vars (seen_store mem cells) bits x.shape)))
-          × DestinationLies temps cells (element_destination mem name o (tree_of mem bits x.shape))
-      by w (Some n) e r = (λ v. put_cell _ _ v e, ap Some e, (omega (arith, e), omega (arith, e, w)))
-      by w None e r = (λ v. put_cell _ _ v e, ap Some e, (r, omega (arith, e), omega (arith, e, w)))
+      by : (var : Declared) → declared vars name ≡ Some var → shape_value m.word vars (seen_store m cells) m.word x.shape < cells_in var
+          → Placed m temps vars held cells room name (shape_value m.word vars (seen_store m cells) m.word x.shape) → (o : Option ℕ)
+          → tree_value cells (element_address m name o (tree_of m m.word x.shape)) ≡ base_of m.places name + shape_value m.word vars (seen_store m cells) m.word x.shape
+          → ReadsCells temps cells (element_address m name o (tree_of m m.word x.shape))
+          → ((v : ℕ) → seen_store m (put_at (element_destination m name o (tree_of m m.word x.shape)) v cells) ≡ slice_set (seen_store m cells) (first_cell vars name + shape_value m.word vars (seen_store m cells) m.word x.shape) v)
+          × (destination_cell cells (element_destination m name o (tree_of m m.word x.shape)) ≡ Some (base_of m.places name + shape_value m.word vars (seen_store m cells) m.word x.shape))
+          × DestinationLies temps cells (element_destination m name o (tree_of m m.word x.shape))
+      by var is lt c (Some n) e r =
+          let b = c.behind in
+          let w = c.within in
+          (λ v. put_cell name var _ _ v is lt e, ap Some e, (omega (arith, e, b), omega (arith, e, w)))
+      by var is lt c None e r =
+          let b = c.behind in
+          let w = c.within in
+          (λ v. put_cell name var _ _ v is lt e, ap Some e, (r, omega (arith, e, b), omega (arith, e, w)))
 
   pub record Assigned (place : Place) (e : Phrase) : Type 0 where
-    pub is : seen_store mem (done (assign_work mem place e) cells) ≡ assigned bits vars place e (seen_store mem cells)
-    pub at : destination_cell cells (assign_work mem place e).destination ≡ Some (temps + cell_of bits vars (seen_store mem cells) place)
-    pub lies : Lies temps cells (assign_work mem place e)
-    pub within : cell_of bits vars (seen_store mem cells) place < cell_count vars
+    pub is : seen_store m (done (assign_work m place e) cells) ≡ assigned m.word vars place e (seen_store m cells)
+    pub at : destination_cell cells (assign_work m place e).destination ≡ Some (base_of m.places place.name + index_value m.word vars (seen_store m cells) place.index)
+    pub lies : Lies temps cells (assign_work m place e)
 
-  pub assign_done : (place : Place) (e : Phrase) → Fitting bits bits (place_shape place) → Fitting bits bits e.shape → Known vars (place_shape place) → Known vars e.shape
-      → is_inside bits vars (seen_store mem cells) (place_shape place) ≡ true → is_inside bits vars (seen_store mem cells) e.shape ≡ true → Assigned place e
+  pub assign_done : (place : Place) (e : Phrase) → Fitting m.word m.word (place_shape place) → Fitting m.word m.word e.shape → Known vars (place_shape place) → Known vars e.shape
+      → is_inside m.word vars (seen_store m cells) (place_shape place) ≡ true → is_inside m.word vars (seen_store m cells) e.shape ≡ true → Assigned place e
   assign_done place e fp fe kp ke ip ie =
       let a = aimed place.name place.at place.index fp kp ip in
-      let h = meant bits addr temps vars inreach cells bits e.shape fe ke ie in
+      let h = meant m temps vars held cells room m.word e.shape fe ke ie in
       record {
-        is = a.puts (tree_value cells (tree_of mem bits e.shape)) ∙ ap (slice_set (seen_store mem cells) (cell_of bits vars (seen_store mem cells) place)) h.value;
+        is = a.puts (tree_value cells (tree_of m m.word e.shape)) ∙ ap (slice_set (seen_store m cells) (cell_of m.word vars (seen_store m cells) place)) h.value;
         at = a.at;
-        lies = record { reads = (h.reads, tt); destination = a.lies; below = omega arith };
-        within = a.within;
+        lies = record { reads = (h.reads, tt); destination = a.lies; below = room.below };
       }
 
   -- ---- the counter of a `for`
 
+  put_plain : (name : List ℕ) (var : Declared) (v : ℕ) → declared vars name ≡ Some var → 0 < cells_in var
+      → seen_store m (slice_set cells (base_of m.places name) v) ≡ slice_set (seen_store m cells) (first_cell vars name) v
+  put_plain name var v e some =
+      let q : first_cell vars name + 0 ≡ first_cell vars name = omega arith in
+      put_cell name var 0 (base_of m.places name) v e some (omega arith) ∙ ap (λ n. slice_set (seen_store m cells) n v) q
+
   pub start_done : (counter : List ℕ) (from : ℕ) → is_plain (declared vars counter) ≡ true
-      → (seen_store mem (done (start_work mem counter from) cells) ≡ started vars counter from (seen_store mem cells)) × Lies temps cells (start_work mem counter from)
+      → (seen_store m (done (start_work m counter from) cells) ≡ started vars counter from (seen_store m cells)) × Lies temps cells (start_work m counter from)
   start_done counter from k =
       let v = plain_var (declared vars counter) k in
-      let b = base_is temps vars counter v.0 v.1 in
-      let w = first_within vars counter v.0 v.1 in
-      (put_cell _ (first_cell vars counter) from b, record { reads = (tt, tt); destination = (omega (arith, b), omega (arith, b, w, v.2)); below = omega arith })
+      let h = plain_placed m temps vars held cells room counter v.0 v.1 v.2 in
+      let b = h.behind in
+      let w = h.within in
+      (put_plain counter v.0 from v.1 v.2, record { reads = (tt, tt); destination = (omega (arith, b), omega (arith, w)); below = room.below })
 
   pub step_done : (counter : List ℕ) → is_plain (declared vars counter) ≡ true
-      → (seen_store mem (done (step_work mem counter) cells) ≡ stepped bits vars counter (seen_store mem cells)) × Lies temps cells (step_work mem counter)
+      → (seen_store m (done (step_work m counter) cells) ≡ stepped m.word vars counter (seen_store m cells)) × Lies temps cells (step_work m counter)
   step_done counter k =
       let v = plain_var (declared vars counter) k in
-      let b = base_is temps vars counter v.0 v.1 in
-      let w = first_within vars counter v.0 v.1 in
-      let r : slice_index cells (base_of mem.places counter) ≡ counter_value vars counter (seen_store mem cells) =
-      ap (slice_index cells) b ∙ sym (seen_at temps (first_cell vars counter) vars cells (omega (arith, w, v.2))) in (
-        put_cell _ (first_cell vars counter) _ b ∙ ap (λ n. slice_set (seen_store mem cells) (first_cell vars counter) (apply2_of Add bits n 1)) r,
-        record { reads = (((tt, omega (arith, b)), tt), tt); destination = (omega (arith, b), omega (arith, b, w, v.2)); below = omega arith },
+      let h = plain_placed m temps vars held cells room counter v.0 v.1 v.2 in
+      let b = h.behind in
+      let w = h.within in
+      let r : slice_index cells (base_of m.places counter) ≡ counter_value vars counter (seen_store m cells) = plain_seen m temps vars held cells room counter h in (
+        put_plain counter v.0 _ v.1 v.2 ∙ ap (λ n. slice_set (seen_store m cells) (first_cell vars counter) (apply2_of Add m.word n 1)) r,
+        record { reads = (((tt, omega (arith, b)), tt), tt); destination = (omega (arith, b), omega (arith, w)); below = room.below },
       )
 
   -- ---- tests
 
   pub record Asked (test : Test) : Type 0 where
-    pub are : AllAre (bit_of (answer test.cmp (holds bits vars test (seen_store mem cells)))) cells (test_work mem test).trees
-    pub lies : Lies temps cells (test_work mem test)
+    pub are : AllAre (bit_of (answer test.cmp (holds m.word vars test (seen_store m cells)))) cells (test_work m test).trees
+    pub lies : Lies temps cells (test_work m test)
 
-  pub test_asked : (test : Test) → ((cell : ℕ) → slice_index (seen_store mem cells) cell < 2 ^ bits) → FitsSides bits test.left.shape test.right.shape → Known vars test.left.shape → Known vars test.right.shape
-      → is_inside bits vars (seen_store mem cells) test.left.shape ≡ true → is_inside bits vars (seen_store mem cells) test.right.shape ≡ true → Asked test
+  pub test_asked : (test : Test) → ((cell : ℕ) → slice_index (seen_store m cells) cell < 2 ^ m.word) → FitsSides m.word test.left.shape test.right.shape → Known vars test.left.shape → Known vars test.right.shape
+      → is_inside m.word vars (seen_store m cells) test.left.shape ≡ true → is_inside m.word vars (seen_store m cells) test.right.shape ≡ true → Asked test
   test_asked test words f kl kr il ir =
-      let w : ℕ = operand_width bits test.left.shape test.right.shape in
-      let l = meant bits addr temps vars inreach cells w test.left.shape f.left kl il in
-      let r = meant bits addr temps vars inreach cells w test.right.shape f.right kr ir in
+      let w : ℕ = operand_width m.word test.left.shape test.right.shape in
+      let l = meant m temps vars held cells room w test.left.shape f.left kl il in
+      let r = meant m temps vars held cells room w test.right.shape f.right kr ir in
       record {
-        are = compared_are cells test.cmp w _ _ _ _ l.value r.value (tree_width bits addr temps vars w test.left.shape f.left ∙ f.left_width) (tree_width bits addr temps vars w test.right.shape f.right ∙ f.right_width)
-            (subst (λ n. shape_value bits vars (seen_store mem cells) w test.left.shape < 2 ^ n) f.left_width (value_fits bits vars (seen_store mem cells) words w test.left.shape f.left))
-            (subst (λ n. shape_value bits vars (seen_store mem cells) w test.right.shape < 2 ^ n) f.right_width (value_fits bits vars (seen_store mem cells) words w test.right.shape f.right));
-        lies = record { reads = compared_read temps cells test.cmp w _ _ l.reads r.reads; destination = tt; below = omega arith };
+        are = compared_are cells test.cmp w _ _ _ _ l.value r.value (tree_width m w test.left.shape f.left ∙ f.left_width) (tree_width m w test.right.shape f.right ∙ f.right_width)
+            (subst (λ n. shape_value m.word vars (seen_store m cells) w test.left.shape < 2 ^ n) f.left_width (value_fits m.word vars (seen_store m cells) words w test.left.shape f.left))
+            (subst (λ n. shape_value m.word vars (seen_store m cells) w test.right.shape < 2 ^ n) f.right_width (value_fits m.word vars (seen_store m cells) words w test.right.shape f.right));
+        lies = record { reads = compared_read temps cells test.cmp w _ _ l.reads r.reads; destination = tt; below = room.below };
       }

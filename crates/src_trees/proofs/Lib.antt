@@ -3,8 +3,9 @@ pub mod Meant
 pub mod Values
 pub mod Done
 pub mod Parts
-pub mod Standing
+pub mod Following
 pub mod Measured
+pub mod Standing
 pub mod Temps
 pub mod LowerLemmas
 pub mod LowerCases

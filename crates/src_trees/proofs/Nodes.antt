@@ -15,7 +15,6 @@ use Rattle.src_model.proofs.Measures.{greatest_append}
 use Rattle.form_model.specs.Rules.{tested}
 use Rattle.src_trees.specs.Lowered.{MemoryMap, Work, base_of, narrowed, element_address, tree_of, element_destination, assigned_destination, compared_trees, step_work, works, works_in, works_else}
 use Rattle.src_trees.specs.Flows.{program_works}
-use Rattle.src_trees.specs.Seen.{memory_map}
 use Rattle.src_trees.specs.Measures.{node_size, trees_nodes, most_nodes}
 
 most_append : (xs ys : List Work) → most_nodes (xs ++ ys) ≡ max (most_nodes xs) (most_nodes ys)
@@ -139,8 +138,8 @@ module _ (m : MemoryMap) where
     else_counts (otherwise body) = in_counts body
 
 -- the greatest count over a program's trees
-pub program_most : (bits addr temps : ℕ) (l : Listing) → most_nodes (program_works (memory_map bits addr temps l.vars) l) ≤ node_count l
-program_most bits addr temps l = (in_counts (memory_map bits addr temps l.vars) (acts_of l.body)).most
+pub program_most : (m : MemoryMap) (l : Listing) → most_nodes (program_works m l) ≤ node_count l
+program_most m l = (in_counts m (acts_of l.body)).most
 
-pub program_nodes : (bits addr temps : ℕ) (l : Listing) → addr < bits → node_count l ≡ most_nodes (program_works (memory_map bits addr temps l.vars) l)
-program_nodes bits addr temps l lt = (let e = (in_counts (memory_map bits addr temps l.vars) (acts_of l.body)).same lt in omega (arith, e))
+pub program_nodes : (m : MemoryMap) (l : Listing) → m.addr < m.word → node_count l ≡ most_nodes (program_works m l)
+program_nodes m l lt = (let e = (in_counts m (acts_of l.body)).same lt in omega (arith, e))

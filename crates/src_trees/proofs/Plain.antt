@@ -1,5 +1,5 @@
 -- A program that keeps its rules can be lowered.
-use Rattle.std.proofs.Common.{ℕ, ◌≡◌, ◌≤◌, ◌<◌, ◌+◌, ◌^◌, lit<, true, List, [], map, sym, ◌∙◌, ap, subst, arith, pos}
+use Rattle.std.proofs.Common.{ℕ, ◌≡◌, ◌≤◌, ◌<◌, ◌^◌, lit<, true, List, [], map, sym, ◌∙◌, ap, subst, arith, pos}
 use Rattle.std.specs.Prelude.{int_le, int_lt}
 use Rattle.std.proofs.lemmas.Int.{ints}
 use Rattle.std.proofs.Math.Nat.{pow-le-pow_right}
@@ -12,30 +12,27 @@ use Rattle.code_model.specs.declared.image.Place.{Place as VariablePlace}
 use Rattle.src_model.specs.Names.{declared, is_array}
 use Rattle.src_model.specs.Indexes.{number_of, index_range, is_within, length_of, loose}
 use Rattle.src_model.specs.Loops.{Round, place_shape}
-use Rattle.src_model.specs.Meaning.{cell_count}
 use Rattle.src_model.specs.Rules.{KeepsSrcRules}
 use Rattle.code_model.specs.declared.image.Places.{Places}
-use Rattle.code_model.specs.Places.{places_from}
-use Rattle.code_model.specs.Layout.{variables_of, layout_of, need_of}
 use Rattle.src_model.specs.Inside.{Known}
+use Rattle.src_trees.specs.Held.{StandFor, LieWithin}
 use Rattle.src_trees.specs.Inner.Near.{IsNear, IsNearAt}
 use Rattle.src_model.specs.Inner.Sound.{Sound, SoundIn, SoundElse}
 use Rattle.src_trees.specs.Inner.Lowering.{IsPlain, ArePlain, IsPlainElse}
-use Rattle.src_model.proofs.CellLemmas.{first_within, array_var}
-use Rattle.src_trees.proofs.Cells.{base_is}
+use Rattle.src_model.proofs.CellLemmas.{array_var}
+use Rattle.src_trees.proofs.Cells.{base_within}
 use Rattle.src_model.proofs.RangeLemmas.{append_none, kept}
 use Rattle.src_model.proofs.SoundLemmas.{program_sound}
 
-module _ (bits temps : ℕ) (vars : List Declared) (wide : bits ≤ 64) (few : temps + cell_count vars < 2 ^ 32) where
+module _ (bits first : ℕ) (places : List VariablePlace) (vars : List Declared) (wide : bits ≤ 64) (stand : StandFor places vars) (few : LieWithin first (2 ^ 32) places) where
   -- a literal index lies in its array
-  near_at : (rounds : List Round) (name : List ℕ) (x : Shape) → is_array (declared vars name) ≡ true → is_within (length_of (declared vars name)) (index_range rounds x) ≡ true → IsNearAt (places_from temps (variables_of vars)) name (number_of x)
+  near_at : (rounds : List Round) (name : List ℕ) (x : Shape) → is_array (declared vars name) ≡ true → is_within (length_of (declared vars name)) (index_range rounds x) ≡ true → IsNearAt places name (number_of x)
   near_at rounds name (num n) k h =
       let t = both (int_le (pos 0) (pos n)) (int_lt (pos n) (pos (length_of (declared vars name)))) h in
       let lt : n < length_of (declared vars name) = omega (arith, ints, t) in
       let v = array_var (declared vars name) n k lt in
-      let b = base_is temps vars name v.0 v.1 in
-      let w = first_within vars name v.0 v.1 in
-      omega (arith, b, w, v.2)
+      let b = base_within first (2 ^ 32) places vars name v.0 stand few v.1 in
+      omega (arith, b.1, v.2)
   near_at rounds name (plain a at) k h = tt
   near_at rounds name (element a at to x) k h = tt
   near_at rounds name (un_of op at x) k h = tt
@@ -44,7 +41,7 @@ module _ (bits temps : ℕ) (vars : List Declared) (wide : bits ≤ 64) (few : t
   near_at rounds name (sext_of at x width) k h = tt
   near_at rounds name (low at x width) k h = tt
 
-  near : (rounds : List Round) (e : Shape) → Known vars e → loose vars rounds e ≡ [] → IsNear (places_from temps (variables_of vars)) e
+  near : (rounds : List Round) (e : Shape) → Known vars e → loose vars rounds e ≡ [] → IsNear places e
   near rounds (num n) k h = tt
   near rounds (plain name at) k h = tt
   near rounds (element name at to x) k h = let p = append_none _ _ h in (near_at rounds name x k.0 (kept _ to p.0), near rounds x k.1 p.1)
@@ -55,7 +52,7 @@ module _ (bits temps : ℕ) (vars : List Declared) (wide : bits ≤ 64) (few : t
   near rounds (low at x width) k h = near rounds x k h
 
   mutual
-    plain_act : (rounds : List Round) (a : Act) → Sound bits vars rounds a → IsPlain bits (places_from temps (variables_of vars)) a
+    plain_act : (rounds : List Round) (a : Act) → Sound bits vars rounds a → IsPlain bits places a
     plain_act rounds (assign place e) f = (f.left.fits, f.right.fits, near rounds (place_shape place) f.left.known f.left.within, near rounds e.shape f.right.known f.right.within)
     plain_act rounds (choice test taken other) f =
         (record { sides = f.0.sides; left = near rounds test.left.shape f.0.left_known f.0.left_within; right = near rounds test.right.shape f.0.right_known f.0.right_within }, plain_in rounds taken f.1, plain_else rounds other f.2)
@@ -66,25 +63,25 @@ module _ (bits temps : ℕ) (vars : List Declared) (wide : bits ≤ 64) (few : t
         let b = f.0.fits.below in
         (omega (arith, p, b), plain_in _ body f.1)
 
-    plain_in : (rounds : List Round) (list : Acts) → SoundIn bits vars rounds list → ArePlain bits (places_from temps (variables_of vars)) list
+    plain_in : (rounds : List Round) (list : Acts) → SoundIn bits vars rounds list → ArePlain bits places list
     plain_in rounds no_acts f = tt
     plain_in rounds (act a rest) f = (plain_act rounds a f.0, plain_in rounds rest f.1)
 
-    plain_else : (rounds : List Round) (o : Otherwise) → SoundElse bits vars rounds o → IsPlainElse bits (places_from temps (variables_of vars)) o
+    plain_else : (rounds : List Round) (o : Otherwise) → SoundElse bits vars rounds o → IsPlainElse bits places o
     plain_else rounds without f = tt
     plain_else rounds (otherwise body) f = plain_in rounds body f
 
--- a checked program, with the places of its layout
-pub program_plain : (width : ℕ) (program : Program) (places : Places) → KeepsSrcRules width program → places ≡ layout_of width (listing_of program) → need_of width (listing_of program) < 2 ^ 32 → ArePlain width places.list (acts_of (listing_of program).body)
-program_plain width program places k e lt =
-    subst (λ p. ArePlain width p.list (acts_of (listing_of program).body)) (sym e)
-    (plain_in width (layout_of width (listing_of program)).temps (listing_of program).vars k.most lt [] (acts_of (listing_of program).body) (program_sound width (listing_of program) k.kept))
+-- a checked program, with places of its variables
+pub program_plain : (width : ℕ) (program : Program) (places : Places) → KeepsSrcRules width program → StandFor places.list (listing_of program).vars → LieWithin places.temps (2 ^ 32) places.list
+    → ArePlain width places.list (acts_of (listing_of program).body)
+program_plain width program places k stand few =
+    plain_in width places.temps places.list (listing_of program).vars k.most stand few [] (acts_of (listing_of program).body) (program_sound width (listing_of program) k.kept)
 
 -- as its parts are looked at
-pub body_plain : (width w : ℕ) (program p : Program) (places : Places) (list : List VariablePlace) (body : List Stmt) → w ≡ width → p ≡ program → body ≡ p.body.items → list ≡ places.list → KeepsSrcRules width program → places ≡ layout_of width (listing_of program)
-    → need_of width (listing_of program) < 2 ^ 32 → ArePlain w list (acts_of (map act_of body))
-body_plain width w program p places list body ew ep eb el k e lt =
-    let h = program_plain width program places k e lt in
+pub body_plain : (width w : ℕ) (program p : Program) (places : Places) (list : List VariablePlace) (body : List Stmt) → w ≡ width → p ≡ program → body ≡ p.body.items → list ≡ places.list → KeepsSrcRules width program
+    → StandFor places.list (listing_of program).vars → LieWithin places.temps (2 ^ 32) places.list → ArePlain w list (acts_of (map act_of body))
+body_plain width w program p places list body ew ep eb el k stand few =
+    let h = program_plain width program places k stand few in
     subst (λ x. ArePlain x list (acts_of (map act_of body))) (sym ew)
     (subst (λ x. ArePlain width x (acts_of (map act_of body))) (sym el)
     (subst (λ x. ArePlain width places.list (acts_of (map act_of x))) (sym (eb ∙ ap (λ (q : Program). q.body.items) ep)) h))

@@ -11,17 +11,16 @@ use Rattle.src_model.specs.declared.program.Cmp.{Cmp}
 use Rattle.src_model.specs.declared.program.Cmp.TheVariants.{Ne}
 use Rattle.src_model.specs.declared.checkpoint.Checkpoint.TheVariants.{At, End as TheEnd}
 use Rattle.src_model.specs.declared.program.Var.{Var as Declared}
-use Rattle.src_model.specs.Written.{Phrase, Place, Test as Tested, plain, num, Act, assign, choice, while, count, Acts, no_acts, act, Otherwise, without, otherwise, Listing, acts_of}
+use Rattle.src_model.specs.Written.{Phrase, Place, Test as Tested, Act, assign, choice, while, count, Acts, no_acts, act, Otherwise, without, otherwise, Listing, acts_of}
 use Rattle.src_model.specs.Sizes.{statements, statements_in}
 use Rattle.src_model.specs.Loops.{Round, place_shape}
-use Rattle.src_model.specs.Meaning.{cell_count, assigned, holds, FitsStore}
+use Rattle.src_model.specs.Meaning.{assigned, holds, FitsStore}
 use Rattle.src_model.specs.Ways.{Onward, pass, choose, loop, finish}
 use Rattle.src_model.specs.Trace.{started, stepped, counting, after_change, run_act, run_in, run_else, strace}
 use Rattle.src_model.proofs.WayLemmas.{Keeps, finish_whole, finish_steady}
 use Rattle.src_model.proofs.TraceLemmas.{counted_body, body_keeps, counted_keeps, in_whole, in_steady}
 use Rattle.code_model.specs.declared.image.Image.{Image}
-use Rattle.code_model.specs.Places.{label_at, cells_at, places_from}
-use Rattle.code_model.specs.Layout.{variables_of}
+use Rattle.code_model.specs.Places.{label_at, cells_at}
 use Rattle.code_model.specs.Machine.{label_in, store_in, IsCalm, IsRestful}
 use Rattle.code_model.specs.Inner.Flow.{Leads, Tests, Follows, Rests, Stands}
 use Rattle.code_model.specs.Flow.{Goes, GoesTo}
@@ -30,23 +29,24 @@ use Rattle.code_model.proofs.Flowing.{block_stands, end_stands, test_stands, loo
 use Rattle.code_model.proofs.Traces.{traces_right}
 use Rattle.form_model.specs.declared.flow.Flow.{Flow}
 use Rattle.form_model.specs.declared.flow.Flow.TheVariants.{Assign, Test, Jump, End}
-use Rattle.src_trees.specs.Lowered.{MemoryMap, Work, holds_at_one, assign_work, test_work, start_work, counting_work, step_work, works, works_in, works_else, answer}
+use Rattle.src_trees.specs.Lowered.{MemoryMap, Work, holds_at_one, answer}
 use Rattle.net_model.specs.Widths.{IsState}
 use Rattle.net_model.specs.Clock.{counter_in}
 use Rattle.src_model.specs.Rules.{first_fault}
-use Rattle.src_trees.specs.Flows.{program_flow, program_works, places_for, places_in, places_else, else_entry, asked, flow_of, flow_in, flow_else}
+use Rattle.src_trees.specs.Flows.{program_flow, places_for, places_in, places_else, else_entry, asked, flow_of, flow_in, flow_else}
 use Rattle.src_model.proofs.SoundLemmas.{program_sound}
-use Rattle.src_trees.proofs.Parts.{stand_all, Stand, stand_left, stand_right, in_length, works_in_length, works_length, flow_length, all_done_more, all_lie_more, all_done_length, all_are_at, or_former, or_later, entered_by, begins_entered, begins_other, begins_behind}
-use Rattle.src_trees.specs.Seen.{memory_map, seen_store, tree_value, InReach}
+use Rattle.src_trees.proofs.Parts.{stand_all, Stand, stand_left, stand_right, in_length, flow_length, all_done_more, all_lie_more, all_done_length, all_are_at, or_former, or_later, entered_by, begins_entered, begins_other, begins_behind}
+use Rattle.src_trees.specs.Seen.{seen_store, tree_value, CanAssign, CanTest}
+use Rattle.src_trees.specs.Held.{HasCellRoom, HoldsVars, LieWithin}
+use Rattle.src_trees.specs.Meant.{DoesAssign, DoesStart, DoesStep, Tells as TellsTest, count_test, DoAct, DoActs, DoElse, DoProgram}
 use Rattle.src_trees.specs.Doing.{done, all_done, Lies, AllLie, AllAre}
 use Rattle.src_model.specs.Inner.Sound.{Holds, Turns, SoundAssign, SoundTest, SoundCount, Sound, SoundIn, SoundElse}
 use Rattle.src_trees.specs.Blocks.{is_assign, enters, continues, IsAssignBlock, job_list, job_at, jobs_at}
 use Rattle.src_trees.specs.Placed.{Comes, DoesJobs, DoesTest, JumpComes, IsPlaced}
 use Rattle.src_trees.proofs.Cells.{seen_behind, seen_length, seen_below}
-use Rattle.src_model.specs.Fitting.{FitsSides}
 use Rattle.src_model.proofs.RangeLemmas.{inside}
 use Rattle.src_model.proofs.CounterLemmas.{assign_holds, start_turns, turn_holds, step_turns}
-use Rattle.src_trees.proofs.Done.{assign_done, start_done, step_done, test_asked}
+use Rattle.src_trees.proofs.Measured.{both_true}
 
 -- what a store keeps at a place: in the bodies of loops, or at the test of a `for` within them
 data Phase : Type 0 where
@@ -76,13 +76,14 @@ entry_within : (o : Otherwise) (at : ℕ) → else_entry o at ≤ at + places_el
 entry_within without at = omega arith
 entry_within (otherwise list) at = omega arith
 
-module _ (netlist : Netlist) (image : Image) (bits addr temps : ℕ) (vars : List Declared) (flow : List Flow) (jobs : List Work) (starts : ℕ → ℕ) (end : ℕ)
-    (room : temps + cell_count vars ≤ memory_size netlist.storages) (places : image.places ≡ places_from temps (variables_of vars)) (placed : IsPlaced netlist image temps flow jobs starts end) where
-  abbrev mem : MemoryMap
-  mem = memory_map bits addr temps vars
-
+module _ (netlist : Netlist) (image : Image) (mem : MemoryMap) (temps : ℕ) (vars : List Declared) (flow : List Flow) (jobs : List Work) (starts : ℕ → ℕ) (end : ℕ)
+    (room : HasCellRoom temps mem (memory_size netlist.storages)) (places : image.places ≡ mem.places) (placed : IsPlaced netlist image temps flow jobs starts end) where
   store_is : (s : State) → store_in image s ≡ seen_store mem s.cells
   store_is s = ap (λ ps. cells_at ps s.cells) places
+
+  -- cells of the memory have room for the variables
+  room_in : (s : State) → IsState netlist s → HasCellRoom temps mem (length s.cells)
+  room_in s h = subst (HasCellRoom temps mem) (sym (h.cells InMemory)) room
 
   -- up to a place i, the block that begins at b has n assignments; at b the store keeps c, they
   -- change it by g, and then it keeps j
@@ -91,13 +92,13 @@ module _ (netlist : Netlist) (image : Image) (bits addr temps : ℕ) (vars : Lis
     first : continues flow b ≡ false
     inner : (k : ℕ) → k < n → 0 < k → continues flow (b + k) ≡ true
     assigns : (k : ℕ) → k < n → is_assign (slice_get flow (b + k)) ≡ true
-    lie : (s : State) → IsCalm netlist (starts b) s → Meets bits vars c (store_in image s) → AllLie temps s.cells (jobs_at flow jobs b n)
-    store : (s : State) → IsCalm netlist (starts b) s → Meets bits vars c (store_in image s) → seen_store mem (all_done (jobs_at flow jobs b n) s.cells) ≡ g (store_in image s)
-    meets : (s : State) → IsCalm netlist (starts b) s → Meets bits vars c (store_in image s) → Meets bits vars j (g (store_in image s))
+    lie : (s : State) → IsCalm netlist (starts b) s → Meets mem.word vars c (store_in image s) → AllLie temps s.cells (jobs_at flow jobs b n)
+    store : (s : State) → IsCalm netlist (starts b) s → Meets mem.word vars c (store_in image s) → seen_store mem (all_done (jobs_at flow jobs b n) s.cells) ≡ g (store_in image s)
+    meets : (s : State) → IsCalm netlist (starts b) s → Meets mem.word vars c (store_in image s) → Meets mem.word vars j (g (store_in image s))
 
   -- the states at a place where a block or something else begins
   abbrev Stated : ℕ → Phase → State → Type 0
-  Stated i j s = IsCalm netlist (starts i) s × Meets bits vars j (store_in image s)
+  Stated i j s = IsCalm netlist (starts i) s × Meets mem.word vars j (store_in image s)
 
   restful : (i : ℕ) (j : Phase) (s : State) → Stated i j s → IsRestful netlist s
   restful i j s q = record { state = q.0.here.state; mode = q.0.mode }
@@ -130,7 +131,7 @@ module _ (netlist : Netlist) (image : Image) (bits addr temps : ℕ) (vars : Lis
       let f : i ≡ b = (let x = p.here in omega arith) in
       let same : store_in image s ≡ g (store_in image s) = store_is s ∙ p.store s q.0 q.1 in
       let here : IsCalm netlist (starts i) s = subst (λ (x : ℕ). IsCalm netlist (starts x) s) (sym f) q.0 in
-      let meets : Meets bits vars j (store_in image s) = subst (Meets bits vars j) (sym same) (p.meets s q.0 q.1) in
+      let meets : Meets mem.word vars j (store_in image s) = subst (Meets mem.word vars j) (sym same) (p.meets s q.0 q.1) in
       subst (λ (x : ℕ). Follows netlist image (IsRestful netlist) (starts end) (starts end - starts x) s (way k (g (store_in image s)))) f
       (subst (λ cells. Follows netlist image (IsRestful netlist) (starts end) (starts end - starts i) s (way k cells)) same (h k le s (here, meets)))
   closed i j way m within e h b (suc n) c g p =
@@ -143,16 +144,16 @@ module _ (netlist : Netlist) (image : Image) (bits addr temps : ℕ) (vars : Lis
       block_stands netlist image (IsRestful netlist) (starts end) (starts end - starts b) (starts end - starts i) d.clocks (Stated b c) (Stated i j) g way m (omega arith)
       (λ s q.
       let t : Comes netlist image temps (starts i) (all_done (jobs_at flow jobs b (suc n)) s.cells) d.clocks s = d.does s q.0 (p.lie s q.0 q.1) in
-      let is : store_in image t.last ≡ g (store_in image s) = store_is t.last ∙ seen_behind temps vars _ _ t.same ∙ p.store s q.0 q.1 in
-      record { taken = t.taken; last = t.last; within = t.within; reaches = t.reaches; holds = (t.here, subst (Meets bits vars j) (sym is) (p.meets s q.0 q.1)); store = is }) h
+      let is : store_in image t.last ≡ g (store_in image s) = store_is t.last ∙ seen_behind temps (memory_size netlist.storages) mem.places _ _ room.within t.same ∙ p.store s q.0 q.1 in
+      record { taken = t.taken; last = t.last; within = t.within; reaches = t.reaches; holds = (t.here, subst (Meets mem.word vars j) (sym is) (p.meets s q.0 q.1)); store = is }) h
 
   -- ---- assignments
 
   -- a job that does what an assignment says
   record Does (work : Work) (j k : Phase) (change : List ℕ → List ℕ) : Type 0 where
-    lies : (cells : List ℕ) → temps + cell_count vars ≤ length cells → Meets bits vars j (seen_store mem cells) → Lies temps cells work
-    is : (cells : List ℕ) → temps + cell_count vars ≤ length cells → Meets bits vars j (seen_store mem cells) → seen_store mem (done work cells) ≡ change (seen_store mem cells)
-    keeps : (store : List ℕ) → Meets bits vars j store → Meets bits vars k (change store)
+    lies : (cells : List ℕ) → HasCellRoom temps mem (length cells) → Meets mem.word vars j (seen_store mem cells) → Lies temps cells work
+    is : (cells : List ℕ) → HasCellRoom temps mem (length cells) → Meets mem.word vars j (seen_store mem cells) → seen_store mem (done work cells) ≡ change (seen_store mem cells)
+    keeps : (store : List ℕ) → Meets mem.word vars j store → Meets mem.word vars k (change store)
 
   one_more : (i b n : ℕ) (c j k : Phase) (g change : List ℕ → List ℕ) (tree : ℕ) (work : Work) → slice_get flow i ≡ Some (Assign tree) → slice_get jobs tree ≡ Some work → Does work j k change
       → (n ≡ 0) ⊎ (continues flow i ≡ true) → Pending i b n c j g → Pending (i + 1) b (suc n) c k (λ cells. change (g cells))
@@ -191,11 +192,11 @@ module _ (netlist : Netlist) (image : Image) (bits addr temps : ℕ) (vars : Lis
       by_assigns x item (inl less) = p.assigns x less
       by_assigns x item (inr same) = ap (λ y. is_assign (slice_get flow (b + y))) same ∙ ap is_assign item
 
-      long : (s : State) → IsCalm netlist (starts b) s → temps + cell_count vars ≤ length (all_done (jobs_at flow jobs b n) s.cells)
-      long s a = let e = all_done_length (jobs_at flow jobs b n) s.cells in let f = a.here.state.cells InMemory in omega (arith, room)
+      long : (s : State) → IsCalm netlist (starts b) s → HasCellRoom temps mem (length (all_done (jobs_at flow jobs b n) s.cells))
+      long s a = subst (HasCellRoom temps mem) (sym (all_done_length (jobs_at flow jobs b n) s.cells)) (room_in s a.here.state)
 
-      met : (s : State) → IsCalm netlist (starts b) s → Meets bits vars c (store_in image s) → Meets bits vars j (seen_store mem (all_done (jobs_at flow jobs b n) s.cells))
-      met s a m = subst (Meets bits vars j) (sym (p.store s a m)) (p.meets s a m)
+      met : (s : State) → IsCalm netlist (starts b) s → Meets mem.word vars c (store_in image s) → Meets mem.word vars j (seen_store mem (all_done (jobs_at flow jobs b n) s.cells))
+      met s a m = subst (Meets mem.word vars j) (sym (p.store s a m)) (p.meets s a m)
 
   assigned_stands : (i : ℕ) (j k : Phase) (change : List ℕ → List ℕ) (tree : ℕ) (work : Work) (way : Onward) (m : ℕ) → i ≤ end → slice_get flow i ≡ Some (Assign tree) → slice_get jobs tree ≡ Some work → Does work j k change
       → StandsIn (i + 1) k way m → StandsIn i j (after_change change way) m
@@ -208,11 +209,11 @@ module _ (netlist : Netlist) (image : Image) (bits addr temps : ℕ) (vars : Lis
 
   -- ---- jumps
 
-  comes_leads : (a clocks : ℕ) (s next : State) (k : Phase) → Comes netlist image temps a s.cells clocks next → Meets bits vars k (store_in image s)
-      → Leads netlist image (λ u. IsCalm netlist a u × Meets bits vars k (store_in image u)) (store_in image s) clocks next
+  comes_leads : (a clocks : ℕ) (s next : State) (k : Phase) → Comes netlist image temps a s.cells clocks next → Meets mem.word vars k (store_in image s)
+      → Leads netlist image (λ u. IsCalm netlist a u × Meets mem.word vars k (store_in image u)) (store_in image s) clocks next
   comes_leads a clocks s next k t m =
-      let is : store_in image t.last ≡ store_in image s = store_is t.last ∙ seen_behind temps vars _ _ t.same ∙ sym (store_is s) in
-      record { taken = t.taken; last = t.last; within = t.within; reaches = t.reaches; holds = (t.here, subst (Meets bits vars k) (sym is) m); store = is }
+      let is : store_in image t.last ≡ store_in image s = store_is t.last ∙ seen_behind temps (memory_size netlist.storages) mem.places _ _ room.within t.same ∙ sym (store_is s) in
+      record { taken = t.taken; last = t.last; within = t.within; reaches = t.reaches; holds = (t.here, subst (Meets mem.word vars k) (sym is) m); store = is }
 
   jumped : (i to : ℕ) (j : Phase) (way : Onward) (m : ℕ) → i < to → to ≤ end → slice_get flow i ≡ Some (Jump to) → StandsAt to j way m → StandsIn i j way m
   jumped i to j way m lt within at_flow h =
@@ -237,10 +238,10 @@ module _ (netlist : Netlist) (image : Image) (bits addr temps : ℕ) (vars : Lis
 
   -- a job whose trees tell a test, and what the store keeps behind it
   record Tells (work : Work) (cmp : Cmp) (test : List ℕ → Bool) (j k other : Phase) : Type 0 where
-    lies : (cells : List ℕ) → temps + cell_count vars ≤ length cells → Meets bits vars j (seen_store mem cells) → Lies temps cells work
-    are : (cells : List ℕ) → temps + cell_count vars ≤ length cells → Meets bits vars j (seen_store mem cells) → AllAre (bit_of (answer cmp (test (seen_store mem cells)))) cells work.trees
-    on_true : (store : List ℕ) → Meets bits vars j store → test store ≡ true → Meets bits vars k store
-    on_false : (store : List ℕ) → Meets bits vars j store → test store ≡ false → Meets bits vars other store
+    lies : (cells : List ℕ) → HasCellRoom temps mem (length cells) → Meets mem.word vars j (seen_store mem cells) → Lies temps cells work
+    are : (cells : List ℕ) → HasCellRoom temps mem (length cells) → Meets mem.word vars j (seen_store mem cells) → AllAre (bit_of (answer cmp (test (seen_store mem cells)))) cells work.trees
+    on_true : (store : List ℕ) → Meets mem.word vars j store → test store ≡ true → Meets mem.word vars k store
+    on_false : (store : List ℕ) → Meets mem.word vars j store → test store ≡ false → Meets mem.word vars other store
 
   -- the words for a test
   record Asking (i tree yes_to no_to : ℕ) (test : List ℕ → Bool) (j k other : Phase) : Type 0 where
@@ -253,11 +254,11 @@ module _ (netlist : Netlist) (image : Image) (bits addr temps : ℕ) (vars : Lis
       → Tells work cmp test j k other → Asking i tree yes_to no_to test j k other
   asking i tree yes_to no_to work cmp test j k other at_flow at_jobs tells = by (holds_at_one cmp) refl at_flow
     where
-      long : (s : State) → Stated i j s → temps + cell_count vars ≤ length s.cells
-      long s q = let f = q.0.here.state.cells InMemory in omega (arith, room)
+      long : (s : State) → Stated i j s → HasCellRoom temps mem (length s.cells)
+      long s q = room_in s q.0.here.state
 
-      met : (s : State) → Stated i j s → Meets bits vars j (seen_store mem s.cells)
-      met s q = subst (Meets bits vars j) (store_is s) q.1
+      met : (s : State) → Stated i j s → Meets mem.word vars j (seen_store mem s.cells)
+      met s q = subst (Meets mem.word vars j) (store_is s) q.1
 
       value : (b : Bool) → holds_at_one cmp ≡ b → (s : State) → Stated i j s → (used : Term) (which : ℕ) → slice_get work.trees which ≡ Some used → (h : Bool) → test (store_in image s) ≡ h
           → tree_value s.cells used ≡ bit_of (if b then h else not h)
@@ -329,169 +330,185 @@ module _ (netlist : Netlist) (image : Image) (bits addr temps : ℕ) (vars : Lis
 
   -- ---- what the jobs of statements do
 
-  module _ (inreach : InReach bits addr temps vars) where
-    assign_does : (rounds : List Round) (place : Place) (e : Phrase) → SoundAssign bits vars rounds place e → Does (assign_work mem place e) (body rounds) (body rounds) (assigned bits vars place e)
-    assign_does rounds place e f =
-        let at_place = λ (store : List ℕ) (h : Holds bits vars rounds store). inside bits vars store h.fits.below rounds h.counts bits (place_shape place) f.left.fits f.left.known f.left.within in
-        let at_value = λ (store : List ℕ) (h : Holds bits vars rounds store). inside bits vars store h.fits.below rounds h.counts bits e.shape f.right.fits f.right.known f.right.within in
+  can_assign : (rounds : List Round) (place : Place) (e : Phrase) → SoundAssign mem.word vars rounds place e → (store : List ℕ) → Holds mem.word vars rounds store → CanAssign mem.word vars store place e
+  can_assign rounds place e f store h = record {
+    left = record { fits = f.left.fits; known = f.left.known; inside = inside mem.word vars store h.fits.below rounds h.counts mem.word (place_shape place) f.left.fits f.left.known f.left.within };
+    right = record { fits = f.right.fits; known = f.right.known; inside = inside mem.word vars store h.fits.below rounds h.counts mem.word e.shape f.right.fits f.right.known f.right.within };
+  }
+
+  assign_does : (rounds : List Round) (place : Place) (e : Phrase) (work : Work) → SoundAssign mem.word vars rounds place e → DoesAssign mem temps vars place e work → Does work (body rounds) (body rounds) (assigned mem.word vars place e)
+  assign_does rounds place e work f d = record {
+    lies = λ cells long h. d.lies cells long (can_assign rounds place e f (seen_store mem cells) h);
+    is = λ cells long h. d.store cells long (can_assign rounds place e f (seen_store mem cells) h);
+    keeps = λ store h. assign_holds mem.word vars rounds place e store f (can_assign rounds place e f store h).left.inside h;
+  }
+
+  start_does : (rounds : List Round) (counter : List ℕ) (from to : ℕ) (work : Work) → SoundCount mem.word vars rounds counter from to → DoesStart mem temps vars counter from work
+      → Does work (body rounds) (turn rounds counter from to) (started vars counter from)
+  start_does rounds counter from to work f d = record {
+    lies = λ cells long h. d.lies cells long f.plain;
+    is = λ cells long h. d.store cells long f.plain;
+    keeps = λ store h. start_turns mem.word vars rounds counter from to f store h;
+  }
+
+  step_does : (rounds : List Round) (counter : List ℕ) (from to : ℕ) (work : Work) → SoundCount mem.word vars rounds counter from to → DoesStep mem temps vars counter work
+      → Does work (body (record { counter = counter; from = from; to = to } ∷ rounds)) (turn rounds counter from to) (stepped mem.word vars counter)
+  step_does rounds counter from to work f d = record {
+    lies = λ cells long h. d.lies cells long f.plain;
+    is = λ cells long h. d.store cells long f.plain;
+    keeps = λ store h. step_turns mem.word vars rounds counter from to f store h;
+  }
+
+  can_test : (rounds : List Round) (test : Tested) → SoundTest mem.word vars rounds test → (store : List ℕ) → Holds mem.word vars rounds store → CanTest mem.word vars store test
+  can_test rounds test f store h = record {
+    words = h.fits.below;
+    sides = f.sides;
+    left_known = f.left_known;
+    right_known = f.right_known;
+    inside = both_true _ _
+        (inside mem.word vars store h.fits.below rounds h.counts _ test.left.shape f.sides.left f.left_known f.left_within)
+        (inside mem.word vars store h.fits.below rounds h.counts _ test.right.shape f.sides.right f.right_known f.right_within);
+  }
+
+  test_tells : (rounds : List Round) (test : Tested) (work : Work) → SoundTest mem.word vars rounds test → TellsTest mem temps vars test work → Tells work test.cmp (holds mem.word vars test) (body rounds) (body rounds) (body rounds)
+  test_tells rounds test work f d = record {
+    lies = λ cells long h. d.lies cells long (can_test rounds test f (seen_store mem cells) h);
+    are = λ cells long h. d.value cells long (can_test rounds test f (seen_store mem cells) h);
+    on_true = λ store h e. h;
+    on_false = λ store h e. h;
+  }
+
+  can_count : (rounds : List Round) (counter : List ℕ) (at from to : ℕ) → SoundCount mem.word vars rounds counter from to → (store : List ℕ) → Turns mem.word vars rounds counter from to store → CanTest mem.word vars store (count_test counter at to)
+  can_count rounds counter at from to f store t = record {
+    words = t.holds.fits.below;
+    sides = record { left = tt; right = f.fits.below; left_width = refl; right_width = refl };
+    left_known = f.plain;
+    right_known = tt;
+    inside = refl;
+  }
+
+  counting_tells : (rounds : List Round) (counter : List ℕ) (at from to : ℕ) (work : Work) → SoundCount mem.word vars rounds counter from to → TellsTest mem temps vars (count_test counter at to) work
+      → Tells work Ne (counting vars counter to) (turn rounds counter from to) (body (record { counter = counter; from = from; to = to } ∷ rounds)) (body rounds)
+  counting_tells rounds counter at from to work f d = record {
+    lies = λ cells long t. d.lies cells long (can_count rounds counter at from to f (seen_store mem cells) t);
+    are = λ cells long t. d.value cells long (can_count rounds counter at from to f (seen_store mem cells) t);
+    on_true = λ store t e. turn_holds mem.word vars rounds counter from to f store t e;
+    on_false = λ store t e. t.holds;
+  }
+
+  -- the way on from where an `if`'s test doesn't hold, and that from behind its first part
+  record Elsewhere (rounds : List Round) (at : ℕ) (o : Otherwise) (other way : Onward) (m : ℕ) : Type 0 where
+    entry : StandsAt (else_entry o at) (body rounds) other m
+    over : StandsIn at (body rounds) way m
+
+  -- ---- statements
+
+  mutual
+    unfolding run_act run_in run_else
+
+    act_stands : (rounds : List Round) (a : Act) (tree at : ℕ) → Sound mem.word vars rounds a → at + places_for a ≤ end → Stand flow at (flow_of a tree at) → DoAct mem temps vars jobs tree a → (way : Onward) (m : ℕ)
+        → StandsIn (at + places_for a) (body rounds) way m → StandsIn at (body rounds) (run_act mem.word vars a tree way) m
+    act_stands rounds (assign place e) tree at f le in_flow in_jobs way m h =
+        assigned_stands at (body rounds) (body rounds) (assigned mem.word vars place e) tree in_jobs.work way m (omega arith) in_flow.0 in_jobs.at (assign_does rounds place e in_jobs.work f in_jobs.is) h
+    act_stands rounds (choice test taken other) tree at f le in_flow in_jobs way m h =
+        let flow_taken : Stand flow (at + 1) (flow_in taken (tree + 1) (at + 1)) =
+        stand_left flow (at + 1) (flow_in taken (tree + 1) (at + 1)) (flow_else other (tree + 1 + statements_in taken) (at + 1 + places_in taken)) in_flow.1 in
+        let flow_other : Stand flow (at + 1 + places_in taken) (flow_else other (tree + 1 + statements_in taken) (at + 1 + places_in taken)) =
+        stand_right flow (at + 1) (at + 1 + places_in taken) (flow_in taken (tree + 1) (at + 1)) (flow_else other (tree + 1 + statements_in taken) (at + 1 + places_in taken))
+        (let n = in_length taken (tree + 1) (at + 1) in omega (arith, n)) in_flow.1 in
+        let k : Asking at tree (at + 1) (else_entry other (at + 1 + places_in taken)) (holds mem.word vars test) (body rounds) (body rounds) (body rounds) =
+        asking at tree (at + 1) (else_entry other (at + 1 + places_in taken)) in_jobs.0.work test.cmp (holds mem.word vars test) (body rounds) (body rounds) (body rounds) in_flow.0 in_jobs.0.at (test_tells rounds test in_jobs.0.work f.0 in_jobs.0.is) in
+        let o : Elsewhere rounds (at + 1 + places_in taken) other (run_else mem.word vars other (tree + 1 + statements_in taken) way) way m =
+        else_stands rounds other (tree + 1 + statements_in taken) (at + 1 + places_in taken) at test.cmp tree f.2 (omega arith) in_flow.0 flow_other in_jobs.2 way m
+        (let e : at + (1 + places_in taken + places_else other) ≡ at + 1 + places_in taken + places_else other = omega arith in subst (λ n. StandsIn n (body rounds) way m) e h) in
+        let t : StandsAt (at + 1) (body rounds) (run_in mem.word vars taken (tree + 1) way) m =
+        opened (at + 1) (body rounds) (run_in mem.word vars taken (tree + 1) way) m (begins_behind flow at (at + 1) (asked test.cmp tree (at + 1) (else_entry other (at + 1 + places_in taken))) refl in_flow.0 (asked_other test.cmp tree (at + 1) (else_entry other (at + 1 + places_in taken))))
+        (acts_stand rounds taken (tree + 1) (at + 1) f.1 (omega arith) flow_taken in_jobs.1 way m o.over) in
+        test_in at tree (at + 1) (else_entry other (at + 1 + places_in taken)) test.cmp (holds mem.word vars test) (body rounds) (body rounds) (body rounds) (run_in mem.word vars taken (tree + 1) way) (run_else mem.word vars other (tree + 1 + statements_in taken) way) m
+        (omega arith) (omega arith) (let n = entry_within other (at + 1 + places_in taken) in omega (arith, n)) in_flow.0 k t o.entry
+    act_stands rounds (while test inner) tree at f le in_flow in_jobs way m h =
+        let flow_inner : Stand flow (at + 1) (flow_in inner (tree + 1) (at + 1)) = stand_left flow (at + 1) (flow_in inner (tree + 1) (at + 1)) (Jump at ∷ []) in_flow.1 in
+        let flow_back : slice_get flow (at + 1 + places_in inner) ≡ Some (Jump at) =
+        (stand_right flow (at + 1) (at + 1 + places_in inner) (flow_in inner (tree + 1) (at + 1)) (Jump at ∷ []) (let n = in_length inner (tree + 1) (at + 1) in omega (arith, n)) in_flow.1).0 in
+        let k : Asking at tree (at + 1) (at + 1 + places_in inner + 1) (holds mem.word vars test) (body rounds) (body rounds) (body rounds) =
+        asking at tree (at + 1) (at + 1 + places_in inner + 1) in_jobs.0.work test.cmp (holds mem.word vars test) (body rounds) (body rounds) (body rounds) in_flow.0 in_jobs.0.at (test_tells rounds test in_jobs.0.work f.0 in_jobs.0.is) in
+        let e : at + (1 + places_in inner + 1) ≡ at + 1 + places_in inner + 1 = omega arith in
+        loop_in at tree (at + 1) (at + 1 + places_in inner + 1) test.cmp (holds mem.word vars test) (body rounds) (body rounds) (body rounds) (run_in mem.word vars inner (tree + 1)) way m
+        (omega arith) (omega arith) (omega arith) in_flow.0 k (body_keeps mem.word vars inner (tree + 1))
+        (λ next n back.
+        opened (at + 1) (body rounds) (run_in mem.word vars inner (tree + 1) next) n (begins_behind flow at (at + 1) (asked test.cmp tree (at + 1) (at + 1 + places_in inner + 1)) refl in_flow.0 (asked_other test.cmp tree (at + 1) (at + 1 + places_in inner + 1)))
+        (acts_stand rounds inner (tree + 1) (at + 1) f.1 (omega arith) flow_inner in_jobs.1 next n (jumped_back (at + 1 + places_in inner) at (body rounds) next n (omega arith) flow_back back)))
+        (opened (at + 1 + places_in inner + 1) (body rounds) way m (begins_behind flow (at + 1 + places_in inner) (at + 1 + places_in inner + 1) (Jump at) refl flow_back refl) (subst (λ n. StandsIn n (body rounds) way m) e h))
+    act_stands rounds (count counter from_at from to inner) tree at f le in_flow in_jobs way m h =
+        let round : Round = record { counter = counter; from = from; to = to } in
+        let test_item : Flow = asked Ne (tree + 1) (at + 2) (at + 2 + places_in inner + 2) in
+        let back : List Flow = Assign (tree + 2 + statements_in inner) ∷ (Jump (at + 1) ∷ []) in
+        let rest : Stand flow (at + 2) (flow_in inner (tree + 2) (at + 2) ++ back) = stand_right flow at (at + 2) (Assign tree ∷ (test_item ∷ [])) (flow_in inner (tree + 2) (at + 2) ++ back) refl in_flow in
+        let flow_inner : Stand flow (at + 2) (flow_in inner (tree + 2) (at + 2)) = stand_left flow (at + 2) (flow_in inner (tree + 2) (at + 2)) back rest in
+        let flow_back : Stand flow (at + 2 + places_in inner) back =
+        stand_right flow (at + 2) (at + 2 + places_in inner) (flow_in inner (tree + 2) (at + 2)) back (let n = in_length inner (tree + 2) (at + 2) in omega (arith, n)) rest in
+        let k : Asking (at + 1) (tree + 1) (at + 2) (at + 2 + places_in inner + 2) (counting vars counter to) (turn rounds counter from to) (body (round ∷ rounds)) (body rounds) =
+        asking (at + 1) (tree + 1) (at + 2) (at + 2 + places_in inner + 2) in_jobs.1.work Ne (counting vars counter to) (turn rounds counter from to) (body (round ∷ rounds)) (body rounds)
+        in_flow.1.0 in_jobs.1.at (counting_tells rounds counter from_at from to in_jobs.1.work f.0 in_jobs.1.is) in
+        let e : at + (2 + places_in inner + 2) ≡ at + 2 + places_in inner + 2 = omega arith in
+        assigned_stands at (body rounds) (turn rounds counter from to) (started vars counter from) tree in_jobs.0.work
+        (loop (At (tree + 1)) (counting vars counter to) (counted_body mem.word vars counter inner (tree + 2)) way) m (omega arith) in_flow.0 in_jobs.0.at (start_does rounds counter from to in_jobs.0.work f.0 in_jobs.0.is)
+        (loop_in (at + 1) (tree + 1) (at + 2) (at + 2 + places_in inner + 2) Ne (counting vars counter to) (turn rounds counter from to) (body (round ∷ rounds)) (body rounds) (counted_body mem.word vars counter inner (tree + 2)) way m
+        (omega arith) (omega arith) (omega arith) in_flow.1.0 k (counted_keeps mem.word vars counter inner (tree + 2))
+        (λ next n again.
+        opened (at + 2) (body (round ∷ rounds)) (run_in mem.word vars inner (tree + 2) (after_change (stepped mem.word vars counter) next)) n (begins_behind flow (at + 1) (at + 2) test_item (omega arith) in_flow.1.0 (asked_other Ne (tree + 1) (at + 2) (at + 2 + places_in inner + 2)))
+        (acts_stand (round ∷ rounds) inner (tree + 2) (at + 2) f.1 (omega arith) flow_inner in_jobs.2 (after_change (stepped mem.word vars counter) next) n
+        (assigned_stands (at + 2 + places_in inner) (body (round ∷ rounds)) (turn rounds counter from to) (stepped mem.word vars counter) (tree + 2 + statements_in inner) in_jobs.3.work next n (omega arith) flow_back.0 in_jobs.3.at
+        (step_does rounds counter from to in_jobs.3.work f.0 in_jobs.3.is)
+        (jumped_back (at + 2 + places_in inner + 1) (at + 1) (turn rounds counter from to) next n (omega arith) flow_back.1.0 again))))
+        (opened (at + 2 + places_in inner + 2) (body rounds) way m (begins_behind flow (at + 2 + places_in inner + 1) (at + 2 + places_in inner + 2) (Jump (at + 1)) (omega arith) flow_back.1.0 refl)
+        (subst (λ n. StandsIn n (body rounds) way m) e h)))
+
+    acts_stand : (rounds : List Round) (list : Acts) (tree at : ℕ) → SoundIn mem.word vars rounds list → at + places_in list ≤ end → Stand flow at (flow_in list tree at) → DoActs mem temps vars jobs tree list → (way : Onward) (m : ℕ)
+        → StandsIn (at + places_in list) (body rounds) way m → StandsIn at (body rounds) (run_in mem.word vars list tree way) m
+    acts_stand rounds no_acts tree at f le in_flow in_jobs way m h = let e : at + 0 ≡ at = omega arith in subst (λ n. StandsIn n (body rounds) way m) e h
+    acts_stand rounds (act a rest) tree at f le in_flow in_jobs way m h =
+        act_stands rounds a tree at f.0 (omega arith) (stand_left flow at (flow_of a tree at) (flow_in rest (tree + statements a) (at + places_for a)) in_flow)
+        in_jobs.0 (run_in mem.word vars rest (tree + statements a) way) m
+        (acts_stand rounds rest (tree + statements a) (at + places_for a) f.1 (omega arith)
+        (stand_right flow at (at + places_for a) (flow_of a tree at) (flow_in rest (tree + statements a) (at + places_for a)) (let n = flow_length a tree at in omega (arith, n)) in_flow)
+        in_jobs.1 way m
+        (let e : at + (places_for a + places_in rest) ≡ at + places_for a + places_in rest = omega arith in subst (λ n. StandsIn n (body rounds) way m) e h))
+
+    -- where an `if`'s test doesn't hold, and behind its first part
+    else_stands : (rounds : List Round) (o : Otherwise) (tree at test_at : ℕ) (cmp : Cmp) (test_tree : ℕ) → SoundElse mem.word vars rounds o → at + places_else o ≤ end → slice_get flow test_at ≡ Some (asked cmp test_tree (test_at + 1) (else_entry o at))
+        → Stand flow at (flow_else o tree at) → DoElse mem temps vars jobs tree o → (way : Onward) (m : ℕ)
+        → StandsIn (at + places_else o) (body rounds) way m → Elsewhere rounds at o (run_else mem.word vars o tree way) way m
+    else_stands rounds without tree at test_at cmp test_tree f le at_test in_flow in_jobs way m h =
+        let e : at + 0 ≡ at = omega arith in
+        let here : StandsIn at (body rounds) way m = subst (λ n. StandsIn n (body rounds) way m) e h in
         record {
-          lies = λ cells long h. (assign_done bits addr temps vars inreach cells long place e f.left.fits f.right.fits f.left.known f.right.known (at_place (seen_store mem cells) h) (at_value (seen_store mem cells) h)).lies;
-          is = λ cells long h. (assign_done bits addr temps vars inreach cells long place e f.left.fits f.right.fits f.left.known f.right.known (at_place (seen_store mem cells) h) (at_value (seen_store mem cells) h)).is;
-          keeps = λ store h. assign_holds bits vars rounds place e store f (at_place store h) h;
+          entry = opened at (body rounds) way m (begins_entered flow at (entered_by flow test_at (asked cmp test_tree (test_at + 1) at) at at_test (asked_enters cmp test_tree (test_at + 1) at))) here;
+          over = here;
         }
-
-    start_does : (rounds : List Round) (counter : List ℕ) (from to : ℕ) → SoundCount bits vars rounds counter from to → Does (start_work mem counter from) (body rounds) (turn rounds counter from to) (started vars counter from)
-    start_does rounds counter from to f = record {
-      lies = λ cells long h. (start_done bits addr temps vars inreach cells long counter from f.plain).1;
-      is = λ cells long h. (start_done bits addr temps vars inreach cells long counter from f.plain).0;
-      keeps = λ store h. start_turns bits vars rounds counter from to f store h;
-    }
-
-    step_does : (rounds : List Round) (counter : List ℕ) (from to : ℕ) → SoundCount bits vars rounds counter from to
-        → Does (step_work mem counter) (body (record { counter = counter; from = from; to = to } ∷ rounds)) (turn rounds counter from to) (stepped bits vars counter)
-    step_does rounds counter from to f = record {
-      lies = λ cells long h. (step_done bits addr temps vars inreach cells long counter f.plain).1;
-      is = λ cells long h. (step_done bits addr temps vars inreach cells long counter f.plain).0;
-      keeps = λ store h. step_turns bits vars rounds counter from to f store h;
-    }
-
-    test_tells : (rounds : List Round) (test : Tested) → SoundTest bits vars rounds test → Tells (test_work mem test) test.cmp (holds bits vars test) (body rounds) (body rounds) (body rounds)
-    test_tells rounds test f =
-        let told = λ (cells : List ℕ) (long : temps + cell_count vars ≤ length cells) (h : Holds bits vars rounds (seen_store mem cells)).
-        test_asked bits addr temps vars inreach cells long test h.fits.below f.sides f.left_known f.right_known
-        (inside bits vars (seen_store mem cells) h.fits.below rounds h.counts _ test.left.shape f.sides.left f.left_known f.left_within)
-        (inside bits vars (seen_store mem cells) h.fits.below rounds h.counts _ test.right.shape f.sides.right f.right_known f.right_within) in
-        record { lies = λ cells long h. (told cells long h).lies; are = λ cells long h. (told cells long h).are; on_true = λ store h e. h; on_false = λ store h e. h }
-
-    counting_tells : (rounds : List Round) (counter : List ℕ) (at from to : ℕ) → SoundCount bits vars rounds counter from to
-        → Tells (counting_work mem counter at to) Ne (counting vars counter to) (turn rounds counter from to) (body (record { counter = counter; from = from; to = to } ∷ rounds)) (body rounds)
-    counting_tells rounds counter at from to f =
-        let test : Tested = record { cmp = Ne; left = record { at = at; shape = plain counter at }; right = record { at = at; shape = num (to + 1) } } in
-        let sides : FitsSides bits (plain counter at) (num (to + 1)) = record { left = tt; right = f.fits.below; left_width = refl; right_width = refl } in
+    else_stands rounds (otherwise list) tree at test_at cmp test_tree f le at_test in_flow in_jobs way m h =
+        let e : at + (1 + places_in list) ≡ at + 1 + places_in list = omega arith in
+        let there : StandsIn (at + 1 + places_in list) (body rounds) way m = subst (λ n. StandsIn n (body rounds) way m) e h in
         record {
-          lies = λ cells long t. (test_asked bits addr temps vars inreach cells long test t.holds.fits.below sides f.plain tt refl refl).lies;
-          are = λ cells long t. (test_asked bits addr temps vars inreach cells long test t.holds.fits.below sides f.plain tt refl refl).are;
-          on_true = λ store t e. turn_holds bits vars rounds counter from to f store t e;
-          on_false = λ store t e. t.holds;
+          entry = opened (at + 1) (body rounds) (run_in mem.word vars list tree way) m (begins_behind flow at (at + 1) (Jump (at + 1 + places_in list)) refl in_flow.0 refl)
+              (acts_stand rounds list tree (at + 1) f (omega arith) in_flow.1 in_jobs way m there);
+          over = jumped at (at + 1 + places_in list) (body rounds) way m (omega arith) (omega arith) in_flow.0
+              (opened (at + 1 + places_in list) (body rounds) way m (begins_entered flow (at + 1 + places_in list) (entered_by flow at (Jump (at + 1 + places_in list)) (at + 1 + places_in list) in_flow.0 (eq-eqb _ _ refl))) there);
         }
-
-    -- the way on from where an `if`'s test doesn't hold, and that from behind its first part
-    record Elsewhere (rounds : List Round) (at : ℕ) (o : Otherwise) (other way : Onward) (m : ℕ) : Type 0 where
-      entry : StandsAt (else_entry o at) (body rounds) other m
-      over : StandsIn at (body rounds) way m
-
-    -- ---- statements
-
-    mutual
-      unfolding run_act run_in run_else
-
-      act_stands : (rounds : List Round) (a : Act) (tree at : ℕ) → Sound bits vars rounds a → at + places_for a ≤ end → Stand flow at (flow_of a tree at) → Stand jobs tree (works mem a) → (way : Onward) (m : ℕ)
-          → StandsIn (at + places_for a) (body rounds) way m → StandsIn at (body rounds) (run_act bits vars a tree way) m
-      act_stands rounds (assign place e) tree at f le in_flow in_jobs way m h =
-          assigned_stands at (body rounds) (body rounds) (assigned bits vars place e) tree (assign_work mem place e) way m (omega arith) in_flow.0 in_jobs.0 (assign_does rounds place e f) h
-      act_stands rounds (choice test taken other) tree at f le in_flow in_jobs way m h =
-          let flow_taken : Stand flow (at + 1) (flow_in taken (tree + 1) (at + 1)) =
-          stand_left flow (at + 1) (flow_in taken (tree + 1) (at + 1)) (flow_else other (tree + 1 + statements_in taken) (at + 1 + places_in taken)) in_flow.1 in
-          let flow_other : Stand flow (at + 1 + places_in taken) (flow_else other (tree + 1 + statements_in taken) (at + 1 + places_in taken)) =
-          stand_right flow (at + 1) (at + 1 + places_in taken) (flow_in taken (tree + 1) (at + 1)) (flow_else other (tree + 1 + statements_in taken) (at + 1 + places_in taken))
-          (let n = in_length taken (tree + 1) (at + 1) in omega (arith, n)) in_flow.1 in
-          let jobs_taken : Stand jobs (tree + 1) (works_in mem taken) = stand_left jobs (tree + 1) (works_in mem taken) (works_else mem other) in_jobs.1 in
-          let jobs_other : Stand jobs (tree + 1 + statements_in taken) (works_else mem other) =
-          stand_right jobs (tree + 1) (tree + 1 + statements_in taken) (works_in mem taken) (works_else mem other) (let n = works_in_length mem taken in omega (arith, n)) in_jobs.1 in
-          let k : Asking at tree (at + 1) (else_entry other (at + 1 + places_in taken)) (holds bits vars test) (body rounds) (body rounds) (body rounds) =
-          asking at tree (at + 1) (else_entry other (at + 1 + places_in taken)) (test_work mem test) test.cmp (holds bits vars test) (body rounds) (body rounds) (body rounds) in_flow.0 in_jobs.0 (test_tells rounds test f.0) in
-          let o : Elsewhere rounds (at + 1 + places_in taken) other (run_else bits vars other (tree + 1 + statements_in taken) way) way m =
-          else_stands rounds other (tree + 1 + statements_in taken) (at + 1 + places_in taken) at test.cmp tree f.2 (omega arith) in_flow.0 flow_other jobs_other way m
-          (let e : at + (1 + places_in taken + places_else other) ≡ at + 1 + places_in taken + places_else other = omega arith in subst (λ n. StandsIn n (body rounds) way m) e h) in
-          let t : StandsAt (at + 1) (body rounds) (run_in bits vars taken (tree + 1) way) m =
-          opened (at + 1) (body rounds) (run_in bits vars taken (tree + 1) way) m (begins_behind flow at (at + 1) (asked test.cmp tree (at + 1) (else_entry other (at + 1 + places_in taken))) refl in_flow.0 (asked_other test.cmp tree (at + 1) (else_entry other (at + 1 + places_in taken))))
-          (acts_stand rounds taken (tree + 1) (at + 1) f.1 (omega arith) flow_taken jobs_taken way m o.over) in
-          test_in at tree (at + 1) (else_entry other (at + 1 + places_in taken)) test.cmp (holds bits vars test) (body rounds) (body rounds) (body rounds) (run_in bits vars taken (tree + 1) way) (run_else bits vars other (tree + 1 + statements_in taken) way) m
-          (omega arith) (omega arith) (let n = entry_within other (at + 1 + places_in taken) in omega (arith, n)) in_flow.0 k t o.entry
-      act_stands rounds (while test inner) tree at f le in_flow in_jobs way m h =
-          let flow_inner : Stand flow (at + 1) (flow_in inner (tree + 1) (at + 1)) = stand_left flow (at + 1) (flow_in inner (tree + 1) (at + 1)) (Jump at ∷ []) in_flow.1 in
-          let flow_back : slice_get flow (at + 1 + places_in inner) ≡ Some (Jump at) =
-          (stand_right flow (at + 1) (at + 1 + places_in inner) (flow_in inner (tree + 1) (at + 1)) (Jump at ∷ []) (let n = in_length inner (tree + 1) (at + 1) in omega (arith, n)) in_flow.1).0 in
-          let k : Asking at tree (at + 1) (at + 1 + places_in inner + 1) (holds bits vars test) (body rounds) (body rounds) (body rounds) =
-          asking at tree (at + 1) (at + 1 + places_in inner + 1) (test_work mem test) test.cmp (holds bits vars test) (body rounds) (body rounds) (body rounds) in_flow.0 in_jobs.0 (test_tells rounds test f.0) in
-          let e : at + (1 + places_in inner + 1) ≡ at + 1 + places_in inner + 1 = omega arith in
-          loop_in at tree (at + 1) (at + 1 + places_in inner + 1) test.cmp (holds bits vars test) (body rounds) (body rounds) (body rounds) (run_in bits vars inner (tree + 1)) way m
-          (omega arith) (omega arith) (omega arith) in_flow.0 k (body_keeps bits vars inner (tree + 1))
-          (λ next n back.
-          opened (at + 1) (body rounds) (run_in bits vars inner (tree + 1) next) n (begins_behind flow at (at + 1) (asked test.cmp tree (at + 1) (at + 1 + places_in inner + 1)) refl in_flow.0 (asked_other test.cmp tree (at + 1) (at + 1 + places_in inner + 1)))
-          (acts_stand rounds inner (tree + 1) (at + 1) f.1 (omega arith) flow_inner in_jobs.1 next n (jumped_back (at + 1 + places_in inner) at (body rounds) next n (omega arith) flow_back back)))
-          (opened (at + 1 + places_in inner + 1) (body rounds) way m (begins_behind flow (at + 1 + places_in inner) (at + 1 + places_in inner + 1) (Jump at) refl flow_back refl) (subst (λ n. StandsIn n (body rounds) way m) e h))
-      act_stands rounds (count counter from_at from to inner) tree at f le in_flow in_jobs way m h =
-          let round : Round = record { counter = counter; from = from; to = to } in
-          let test_item : Flow = asked Ne (tree + 1) (at + 2) (at + 2 + places_in inner + 2) in
-          let back : List Flow = Assign (tree + 2 + statements_in inner) ∷ (Jump (at + 1) ∷ []) in
-          let rest : Stand flow (at + 2) (flow_in inner (tree + 2) (at + 2) ++ back) = stand_right flow at (at + 2) (Assign tree ∷ (test_item ∷ [])) (flow_in inner (tree + 2) (at + 2) ++ back) refl in_flow in
-          let jobs_rest : Stand jobs (tree + 2) (works_in mem inner ++ step_work mem counter ∷ []) =
-          stand_right jobs tree (tree + 2) (start_work mem counter from ∷ (counting_work mem counter from_at to ∷ [])) (works_in mem inner ++ step_work mem counter ∷ []) refl in_jobs in
-          let flow_inner : Stand flow (at + 2) (flow_in inner (tree + 2) (at + 2)) = stand_left flow (at + 2) (flow_in inner (tree + 2) (at + 2)) back rest in
-          let flow_back : Stand flow (at + 2 + places_in inner) back =
-          stand_right flow (at + 2) (at + 2 + places_in inner) (flow_in inner (tree + 2) (at + 2)) back (let n = in_length inner (tree + 2) (at + 2) in omega (arith, n)) rest in
-          let jobs_inner : Stand jobs (tree + 2) (works_in mem inner) = stand_left jobs (tree + 2) (works_in mem inner) (step_work mem counter ∷ []) jobs_rest in
-          let jobs_step : slice_get jobs (tree + 2 + statements_in inner) ≡ Some (step_work mem counter) =
-          (stand_right jobs (tree + 2) (tree + 2 + statements_in inner) (works_in mem inner) (step_work mem counter ∷ []) (let n = works_in_length mem inner in omega (arith, n)) jobs_rest).0 in
-          let k : Asking (at + 1) (tree + 1) (at + 2) (at + 2 + places_in inner + 2) (counting vars counter to) (turn rounds counter from to) (body (round ∷ rounds)) (body rounds) =
-          asking (at + 1) (tree + 1) (at + 2) (at + 2 + places_in inner + 2) (counting_work mem counter from_at to) Ne (counting vars counter to) (turn rounds counter from to) (body (round ∷ rounds)) (body rounds)
-          in_flow.1.0 in_jobs.1.0 (counting_tells rounds counter from_at from to f.0) in
-          let e : at + (2 + places_in inner + 2) ≡ at + 2 + places_in inner + 2 = omega arith in
-          assigned_stands at (body rounds) (turn rounds counter from to) (started vars counter from) tree (start_work mem counter from)
-          (loop (At (tree + 1)) (counting vars counter to) (counted_body bits vars counter inner (tree + 2)) way) m (omega arith) in_flow.0 in_jobs.0 (start_does rounds counter from to f.0)
-          (loop_in (at + 1) (tree + 1) (at + 2) (at + 2 + places_in inner + 2) Ne (counting vars counter to) (turn rounds counter from to) (body (round ∷ rounds)) (body rounds) (counted_body bits vars counter inner (tree + 2)) way m
-          (omega arith) (omega arith) (omega arith) in_flow.1.0 k (counted_keeps bits vars counter inner (tree + 2))
-          (λ next n again.
-          opened (at + 2) (body (round ∷ rounds)) (run_in bits vars inner (tree + 2) (after_change (stepped bits vars counter) next)) n (begins_behind flow (at + 1) (at + 2) test_item (omega arith) in_flow.1.0 (asked_other Ne (tree + 1) (at + 2) (at + 2 + places_in inner + 2)))
-          (acts_stand (round ∷ rounds) inner (tree + 2) (at + 2) f.1 (omega arith) flow_inner jobs_inner (after_change (stepped bits vars counter) next) n
-          (assigned_stands (at + 2 + places_in inner) (body (round ∷ rounds)) (turn rounds counter from to) (stepped bits vars counter) (tree + 2 + statements_in inner) (step_work mem counter) next n (omega arith) flow_back.0 jobs_step
-          (step_does rounds counter from to f.0)
-          (jumped_back (at + 2 + places_in inner + 1) (at + 1) (turn rounds counter from to) next n (omega arith) flow_back.1.0 again))))
-          (opened (at + 2 + places_in inner + 2) (body rounds) way m (begins_behind flow (at + 2 + places_in inner + 1) (at + 2 + places_in inner + 2) (Jump (at + 1)) (omega arith) flow_back.1.0 refl)
-          (subst (λ n. StandsIn n (body rounds) way m) e h)))
-
-      acts_stand : (rounds : List Round) (list : Acts) (tree at : ℕ) → SoundIn bits vars rounds list → at + places_in list ≤ end → Stand flow at (flow_in list tree at) → Stand jobs tree (works_in mem list) → (way : Onward) (m : ℕ)
-          → StandsIn (at + places_in list) (body rounds) way m → StandsIn at (body rounds) (run_in bits vars list tree way) m
-      acts_stand rounds no_acts tree at f le in_flow in_jobs way m h = let e : at + 0 ≡ at = omega arith in subst (λ n. StandsIn n (body rounds) way m) e h
-      acts_stand rounds (act a rest) tree at f le in_flow in_jobs way m h =
-          act_stands rounds a tree at f.0 (omega arith) (stand_left flow at (flow_of a tree at) (flow_in rest (tree + statements a) (at + places_for a)) in_flow)
-          (stand_left jobs tree (works mem a) (works_in mem rest) in_jobs) (run_in bits vars rest (tree + statements a) way) m
-          (acts_stand rounds rest (tree + statements a) (at + places_for a) f.1 (omega arith)
-          (stand_right flow at (at + places_for a) (flow_of a tree at) (flow_in rest (tree + statements a) (at + places_for a)) (let n = flow_length a tree at in omega (arith, n)) in_flow)
-          (stand_right jobs tree (tree + statements a) (works mem a) (works_in mem rest) (let n = works_length mem a in omega (arith, n)) in_jobs) way m
-          (let e : at + (places_for a + places_in rest) ≡ at + places_for a + places_in rest = omega arith in subst (λ n. StandsIn n (body rounds) way m) e h))
-
-      -- where an `if`'s test doesn't hold, and behind its first part
-      else_stands : (rounds : List Round) (o : Otherwise) (tree at test_at : ℕ) (cmp : Cmp) (test_tree : ℕ) → SoundElse bits vars rounds o → at + places_else o ≤ end → slice_get flow test_at ≡ Some (asked cmp test_tree (test_at + 1) (else_entry o at))
-          → Stand flow at (flow_else o tree at) → Stand jobs tree (works_else mem o) → (way : Onward) (m : ℕ)
-          → StandsIn (at + places_else o) (body rounds) way m → Elsewhere rounds at o (run_else bits vars o tree way) way m
-      else_stands rounds without tree at test_at cmp test_tree f le at_test in_flow in_jobs way m h =
-          let e : at + 0 ≡ at = omega arith in
-          let here : StandsIn at (body rounds) way m = subst (λ n. StandsIn n (body rounds) way m) e h in
-          record {
-            entry = opened at (body rounds) way m (begins_entered flow at (entered_by flow test_at (asked cmp test_tree (test_at + 1) at) at at_test (asked_enters cmp test_tree (test_at + 1) at))) here;
-            over = here;
-          }
-      else_stands rounds (otherwise list) tree at test_at cmp test_tree f le at_test in_flow in_jobs way m h =
-          let e : at + (1 + places_in list) ≡ at + 1 + places_in list = omega arith in
-          let there : StandsIn (at + 1 + places_in list) (body rounds) way m = subst (λ n. StandsIn n (body rounds) way m) e h in
-          record {
-            entry = opened (at + 1) (body rounds) (run_in bits vars list tree way) m (begins_behind flow at (at + 1) (Jump (at + 1 + places_in list)) refl in_flow.0 refl)
-                (acts_stand rounds list tree (at + 1) f (omega arith) in_flow.1 in_jobs way m there);
-            over = jumped at (at + 1 + places_in list) (body rounds) way m (omega arith) (omega arith) in_flow.0
-                (opened (at + 1 + places_in list) (body rounds) way m (begins_entered flow (at + 1 + places_in list) (entered_by flow at (Jump (at + 1 + places_in list)) (at + 1 + places_in list) in_flow.0 (eq-eqb _ _ refl))) there);
-          }
 
 -- ---- the whole program
 
-start_fits : (netlist : Netlist) (image : Image) (bits temps : ℕ) (vars : List Declared) (s : State) → memory_width netlist.storages ≡ bits → temps + cell_count vars ≤ memory_size netlist.storages → image.places ≡ places_from temps (variables_of vars)
-    → IsState netlist s → FitsStore bits vars (store_in image s)
-start_fits netlist image bits temps vars s wide room places h =
-    subst (λ ps. FitsStore bits vars (cells_at ps s.cells)) (sym places)
+some_pow : (n : ℕ) → 0 < 2 ^ n
+some_pow zero = omega arith
+some_pow (suc n) = let h = some_pow n in omega (arith, h)
+
+start_fits : (netlist : Netlist) (image : Image) (m : MemoryMap) (temps : ℕ) (vars : List Declared) (s : State) → memory_width netlist.storages ≡ m.word → HoldsVars temps vars m → HasCellRoom temps m (memory_size netlist.storages) → image.places ≡ m.places
+    → IsState netlist s → FitsStore m.word vars (store_in image s)
+start_fits netlist image m temps vars s wide held room places h =
+    subst (λ ps. FitsStore m.word vars (cells_at ps s.cells)) (sym places)
     (record {
-      all_cells = seen_length temps vars s.cells (let c = h.cells InMemory in omega arith);
-      below = seen_below (2 ^ bits) temps vars s.cells (λ c. subst (λ w. slice_index s.cells c < 2 ^ w) wide (h.fits.cells InMemory c));
+      all_cells = seen_length temps m.places vars s.cells held.stand (subst (λ (n : ℕ). LieWithin temps n m.places) (sym (h.cells InMemory)) room.within);
+      below = seen_below (2 ^ m.word) m.places s.cells (some_pow m.word) (λ c. subst (λ w. slice_index s.cells c < 2 ^ w) wide (h.fits.cells InMemory c));
     })
 
 -- at the end a clock leads to the end
@@ -507,31 +524,30 @@ end_rests netlist image last word label only s h e =
       same = ap (cells_at image.places) g.same;
     }
 
--- words that do what a program's flow says trace the program
-pub placed_right : (netlist : Netlist) (image : Image) (bits addr temps : ℕ) (l : Listing) (starts : ℕ → ℕ) → first_fault bits l ≡ None → memory_width netlist.storages ≡ bits → InReach bits addr temps l.vars
-    → temps + cell_count l.vars ≤ memory_size netlist.storages → image.places ≡ places_from temps (variables_of l.vars)
-    → IsPlaced netlist image temps (program_flow l) (program_works (memory_map bits addr temps l.vars) l) starts (places_in (acts_of l.body)) → TracesRight netlist image (strace bits l)
-placed_right netlist image bits addr temps l starts kept wide inreach room places placed =
-    let acts : Acts = acts_of l.body in
-    let m : MemoryMap = memory_map bits addr temps l.vars in
+-- words that do what a program's flow says, by jobs that do what its statements say, trace the
+-- program
+pub placed_right : (netlist : Netlist) (image : Image) (m : MemoryMap) (temps : ℕ) (l : Listing) (jobs : List Work) (starts : ℕ → ℕ) → first_fault m.word l ≡ None → memory_width netlist.storages ≡ m.word → HoldsVars temps l.vars m
+    → HasCellRoom temps m (memory_size netlist.storages) → image.places ≡ m.places → DoProgram m temps l jobs
+    → IsPlaced netlist image temps (program_flow l) jobs starts (places_in (acts_of l.body)) → TracesRight netlist image (strace m.word l)
+placed_right netlist image m temps l jobs starts kept wide held room places does placed =
     let end : ℕ = places_in (acts_of l.body) in
     let in_flow : Stand (program_flow l) 0 (flow_in (acts_of l.body) 0 0) = stand_left (program_flow l) 0 (flow_in (acts_of l.body) 0 0) (End ∷ []) (stand_all (program_flow l)) in
     let at_end : slice_get (program_flow l) (places_in (acts_of l.body)) ≡ Some End =
     (stand_right (program_flow l) 0 (places_in (acts_of l.body)) (flow_in (acts_of l.body) 0 0) (End ∷ []) (let n = in_length (acts_of l.body) 0 0 in omega (arith, n)) (stand_all (program_flow l))).0 in
     let stands = λ (k : ℕ).
-    opened netlist image bits addr temps l.vars (program_flow l) (program_works m l) starts end room places placed 0 (body []) (run_in bits l.vars (acts_of l.body) 0 finish) k refl
-    (acts_stand netlist image bits addr temps l.vars (program_flow l) (program_works m l) starts end room places placed inreach [] (acts_of l.body) 0 0 (program_sound bits l kept) (omega arith) in_flow (stand_all (program_works m l)) finish k
+    opened netlist image m temps l.vars (program_flow l) jobs starts end room places placed 0 (body []) (run_in m.word l.vars (acts_of l.body) 0 finish) k refl
+    (acts_stand netlist image m temps l.vars (program_flow l) jobs starts end room places placed [] (acts_of l.body) 0 0 (program_sound m.word l kept) (omega arith) in_flow does finish k
     (let e : end ≡ 0 + end = omega arith in
-    subst (λ n. StandsIn netlist image bits addr temps l.vars (program_flow l) (program_works m l) starts end room places placed n (body []) finish k) e
-    (closed netlist image bits addr temps l.vars (program_flow l) (program_works m l) starts end room places placed end (body []) finish k (omega arith) (begins_other (program_flow l) end End at_end refl)
-    (end_stands netlist image (IsRestful netlist) (starts end) (starts end - starts end) (λ s. IsCalm netlist (starts end) s × Meets bits l.vars (body []) (store_in image s)) k
+    subst (λ n. StandsIn netlist image m temps l.vars (program_flow l) jobs starts end room places placed n (body []) finish k) e
+    (closed netlist image m temps l.vars (program_flow l) jobs starts end room places placed end (body []) finish k (omega arith) (begins_other (program_flow l) end End at_end refl)
+    (end_stands netlist image (IsRestful netlist) (starts end) (starts end - starts end) (λ s. IsCalm netlist (starts end) s × Meets m.word l.vars (body []) (store_in image s)) k
     (λ s q. record { state = q.0.here.state; mode = q.0.mode })
     (λ s q. ap (label_at image.marks) q.0.here.counter ∙ placed.end_label))))) in
     let none : starts end - starts 0 ≡ starts end = (let f = placed.first in omega arith) in
-    traces_right netlist image (run_in bits l.vars (acts_of l.body) 0 finish) (starts end) placed.long
-    (λ j. in_whole bits l.vars (acts_of l.body) 0 j finish (finish_whole j)) (λ j. in_steady bits l.vars (acts_of l.body) 0 j finish (finish_steady j))
+    traces_right netlist image (run_in m.word l.vars (acts_of l.body) 0 finish) (starts end) placed.long
+    (λ j. in_whole m.word l.vars (acts_of l.body) 0 j finish (finish_whole j)) (λ j. in_steady m.word l.vars (acts_of l.body) 0 j finish (finish_steady j))
     (λ s h e. end_rests netlist image (starts end) placed.end_word placed.end_label placed.end_only s h e)
     (λ s here k.
     let first : IsCalm netlist (starts 0) s = subst (λ a. IsCalm netlist a s) (sym placed.first) here in
-    subst (λ d. Follows netlist image (IsRestful netlist) (starts end) d s (run_in bits l.vars (acts_of l.body) 0 finish k (store_in image s))) none
-    (stands k k (omega arith) s (first, record { fits = start_fits netlist image bits temps l.vars s wide room places here.here.state; counts = tt })))
+    subst (λ d. Follows netlist image (IsRestful netlist) (starts end) d s (run_in m.word l.vars (acts_of l.body) 0 finish k (store_in image s))) none
+    (stands k k (omega arith) s (first, record { fits = start_fits netlist image m temps l.vars s wide held room places here.here.state; counts = tt })))

@@ -1,7 +1,9 @@
 pub mod Lowered
 pub mod Flows
 pub mod Seen
+pub mod Held
 pub mod Doing
+pub mod Meant
 pub mod Blocks
 pub mod Placed
 pub mod Measures

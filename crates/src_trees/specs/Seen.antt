@@ -1,6 +1,6 @@
 -- Programs and the memory that holds their variables: the store that is seen there, and when a tree
 -- reads nothing below an address.
-use Rattle.std.specs.Prelude.{ℕ, ◌+◌, ◌^◌, ◌≡◌, ◌<◌, ◌≤◌, true, List, [], length, slice_index}
+use Rattle.std.specs.Prelude.{ℕ, ◌+◌, ◌^◌, ◌≡◌, ◌<◌, ◌≤◌, true, List, [], slice_index}
 use Rattle.net_model.specs.declared.hardware.Space.TheVariants.{Memory as InMemory, File as InFile}
 use Rattle.net_model.specs.Terms.{Term, word, reg, const, read, un, bin, slice, cat, zext, sext, select}
 use Rattle.net_model.specs.Meaning.{mean}
@@ -65,8 +65,3 @@ pub record CanTest (bits : ℕ) (vars : List Declared) (store : List ℕ) (test 
   pub left_known : Known vars test.left.shape
   pub right_known : Known vars test.right.shape
   pub inside : test_inside bits vars test store ≡ true
-
--- cells of the memory, with room for the variables behind the temporary ones
-pub record HasCellRoom (bits addr temps : ℕ) (vars : List Declared) (cells : List ℕ) : Type 0 where
-  pub reach : InReach bits addr temps vars
-  pub room : temps + cell_count vars ≤ length cells

@@ -5,10 +5,9 @@ ghost use Rattle.form_model.specs.declared.flow.Flow.TheVariants.{Assign as Assi
 ghost use Rattle.src_model.specs.Written.{act_of, acts_of, test_of, listing_of, choice, while, count, without, otherwise};
 ghost use Rattle.src_model.specs.Sizes.{statements, statements_in};
 ghost use Rattle.src_model.specs.declared.program.Cmp.TheVariants.{Ne};
-ghost use Rattle.code_model.specs.Layout.{layout_of, need_of};
 ghost use Rattle.src_trees.specs.Lowered.{holds_at_one, works_in};
 ghost use Rattle.src_trees.specs.Flows.{asked, flow_in, program_flow, program_works};
-ghost use Rattle.src_trees.specs.Seen.{InReach};
+ghost use Rattle.src_trees.specs.Held.{HoldsVars, LieWithin};
 ghost use Rattle.src_trees.specs.Jobs.{works_of};
 ghost use Rattle.src_trees.specs.Inner.Lowering.{IsPlain, ArePlain, IsReady, IsLowered, AreLowered};
 
@@ -311,18 +310,18 @@ fn lower_block(
     Ok(Items::from_vec(flow))
 }
 
-/// The flow and the jobs of a program whose variables stand at the places of its layout, for
-/// addresses of `addr_width` bits, 1 to the program's width. The cells of the places lie below 2 to
-/// the address width, and below 2^32. The only error is want of memory.
+/// The flow and the jobs of a program whose variables stand at these places, for addresses of
+/// `addr_width` bits, 1 to the program's width. The variables' cells lie below 2 to the address
+/// width and below 2^32, and no two places share one. The only error is want of memory.
 pub fn lower(
     alloc: Global,
     typed: &Typed,
     places: &Places,
     addr_width: u8,
 ) -> Result<Blocks, NoMemory>
-    requires places { places.now ≡ layout_of typed.now.width (listing_of typed.now.program) }
-    requires reach { InReach typed.now.width addr_width places.now.temps (listing_of typed.now.program).vars }
-    requires few { need_of typed.now.width (listing_of typed.now.program) < 2 ^ 32 }
+    requires held { HoldsVars places.now.temps (listing_of typed.now.program).vars
+        (record { word = typed.now.width; addr = addr_width; places = places.now.list }) }
+    requires few { LieWithin places.now.temps (2 ^ 32) places.now.list }
     ensures flow { IfOk result (λ blocks. blocks.flow ≡ program_flow (listing_of typed.now.program)) }
     ensures jobs { IfOk result (λ blocks. works_of blocks.jobs.items
         ≡ program_works

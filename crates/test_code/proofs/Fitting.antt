@@ -22,9 +22,8 @@ use Rattle.src_trees.specs.Lowered.{Work}
 use Rattle.src_trees.specs.Measures.{IsSmall}
 use Rattle.word_fit.specs.Fits.{fits_over}
 use Rattle.word_fit.specs.Groups.{AllHaveWords}
-use Rattle.right_code.specs.Inner.Jobs.{HasOne}
 use Rattle.right_code.specs.Inner.Known.{AreKnown}
-use Rattle.right_code.specs.Jobs.{IsCovered, job_steps}
+use Rattle.right_code.specs.Jobs.{HasOne, IsCovered, job_steps}
 use Rattle.right_code.specs.Words.{AreGroupWords}
 use Rattle.right_code.proofs.Covered.{covered_of}
 use Rattle.right_code.proofs.Known.{known_of}

@@ -1,26 +1,49 @@
 -- The image of a covered program, and why there is none.
-use Rattle.std.specs.Prelude.{ℕ, ◌≡◌, ◌≤◌, length}
-use Rattle.net_model.specs.Nets.{memory_size}
+use Rattle.std.specs.Prelude.{ℕ, ◌≡◌, ◌≤◌, Bool, List, length}
 use Rattle.code_model.specs.declared.image.Image.{Image}
 use Rattle.code_model.specs.declared.image.Places.{Places}
-use Rattle.code_model.specs.Layout.{layout_of}
-use Rattle.code_model.specs.Places.{Apart, words_of}
+use Rattle.code_model.specs.Places.{words_of}
 use Rattle.right_code.specs.Bounded.{HasBound}
 use Rattle.right_code.specs.Images.{IsMadeFor, IsRightImage}
-use Rattle.right_code.specs.Tasks.{Task}
+use Rattle.right_code.specs.Tasks.{IsChecked, Task, task_temps, task_works}
+use Rattle.form_model.specs.declared.flow.Blocks.{Blocks}
 use Rattle.form_set.specs.Listing.{greatest_reach}
 use Rattle.mode_set.specs.Keeping.{Isas}
-use Rattle.net_code.specs.Inner.Planning.{IsPlanning}
-use Rattle.net_code.specs.Refusals.{IsBeyondReach, IsImageTooLong}
+use Rattle.src_trees.specs.Flows.{program_flow}
+use Rattle.src_trees.specs.Jobs.{works_of}
+use Rattle.net_code.specs.Inner.Planning.{HasModes, IsPlanning}
+use Rattle.net_code.specs.Refusals.{IsBeyondReach, IsImageTooLong, IsJumpless, IsStepless}
 use Rattle.net_code.specs.declared.fault.CodeFault.{CodeFault}
 use Rattle.net_code.specs.declared.fault.CodeFault.TheVariants.{NoReach, ImageFull, Memory}
 use Rattle.net_code.specs.declared.views.Modes.{Modes}
 use Rattle.net_code.specs.declared.views.PlannedProgram.{PlannedProgram}
 
--- the variables of a task stand at the places of its layout, each in cells of the memory of its own
+-- the variables of a task stand at its places, behind its temporary cells
 pub record ArePlaces (task : Task) (places : Places) : Type 0 where
-  pub layout : places ≡ layout_of task.width task.listing
-  pub apart : Apart places.temps places.list (memory_size task.netlist.storages)
+  pub temps : places.temps ≡ task_temps task
+  pub list : places.list ≡ task.places
+
+-- the flow and the jobs are those of a checked task, whose variables stand at these places; and the
+-- code is told of its netlist in its modes, where one form steps and one jumps
+pub record IsCodedIn (modes : Modes) (usable : List Bool) (places : Places) (blocks : Blocks)
+    (task : Task) : Type 0 where
+  pub told : HasModes modes usable task
+  pub steps : ¬ IsStepless task.netlist
+  pub jumps : ¬ IsJumpless task.netlist
+  pub checked : IsChecked task
+  pub placed : ArePlaces task places
+  pub flow : blocks.flow ≡ program_flow task.listing
+  pub works : works_of blocks.jobs.items ≡ task_works task
+
+-- they are those of some task
+pub record AreCodedIn (modes : Modes) (usable : List Bool) (places : Places) (blocks : Blocks) : Type 0 where
+  pub task : Task
+  pub is : IsCodedIn modes usable places blocks task
+
+-- what is said of their task
+abbrev pub OfCoded : Modes → List Bool → Places → Blocks → (Task → Type 0) → Type 0
+OfCoded modes usable places blocks Said =
+    (task : Task) → IsCodedIn modes usable places blocks task → Said task
 
 -- the program is that of some task, with its variables at these places
 pub record HasTask (modes : Modes) (program : PlannedProgram) (places : Places) : Type 0 where

@@ -1,21 +1,10 @@
 -- The steps of jobs one after the other, and what they leave.
 use Rattle.std.specs.Prelude.{ℕ, ◌≡◌, List, [], ◌∷◌, length, drop}
 use Rattle.net_model.specs.declared.states.State.{State}
-use Rattle.net_model.specs.Terms.{Term}
-use Rattle.form_model.specs.Rules.{Destination, tested}
 use Rattle.form_model.specs.Covers.{Stock, Choice}
 use Rattle.src_trees.specs.Lowered.{Work}
 use Rattle.src_trees.specs.Doing.{all_done}
-use Rattle.right_code.specs.Jobs.{IsCovered}
-
--- a list of one tree
-abbrev pub IsOne : List Term → Type 0
-IsOne trees = (t : Term) × (trees ≡ t ∷ [])
-
--- a job that stores something has one tree
-abbrev pub HasOne : Destination → List Term → Type 0
-HasOne tested trees = Unit {0}
-HasOne destination trees = IsOne trees
+use Rattle.right_code.specs.Jobs.{HasOne, IsCovered}
 
 -- each of these jobs has one
 abbrev pub AreCovered : Stock → List Work → List Choice → Type 0

@@ -1,12 +1,22 @@
-use Rattle.std.proofs.Common.{◌≡◌, ◌∙◌, ◌↔◌, ℕ, Bool, List, ap, length, refl, subst, sym}
+use Rattle.std.proofs.Common.{◌≡◌, ◌∙◌, ◌↔◌, ℕ, Bool, List, Option, ap, length, refl, subst, sym}
 use Rattle.net_model.specs.declared.hardware.Netlist.{Netlist}
 use Rattle.net_model.specs.ModeRules.{KeepsModes, modes_in}
 use Rattle.mode_set.specs.Keeping.{CanUse}
 use Rattle.mode_set.specs.Plans.{UsableAt}
-use Rattle.std.proofs.lemmas.Result.{err_from_is_err_and}
-use Rattle.right_code.specs.Tasks.{read_task}
+use Rattle.std.proofs.lemmas.Result.{IfErr-weaker, IfOk-weaker, err_from_is_err_and}
+use Rattle.code_model.specs.declared.image.Places.{Places}
+use Rattle.form_model.specs.declared.flow.Blocks.{Blocks}
+use Rattle.src_trees.specs.Flows.{program_flow}
+use Rattle.src_trees.specs.Jobs.{works_of}
+use Rattle.right_code.specs.Tasks.{IsChecked, Task, task_works}
+use Rattle.compaction.specs.declared.machine.Machine.{Machine}
+use Rattle.net_code.specs.declared.modes.FormsByMode.{FormsByMode}
+use Rattle.net_code.specs.declared.views.Modes.{Modes}
+use Rattle.net_code.specs.declared.views.Passage.{Passage}
+use Rattle.net_code.specs.Inner.Imaged.{ArePlaces, IsCodedIn}
 use Rattle.net_code.specs.Inner.Planning.{AreFormsBelow, AreMachinesOf, ArePassages, all_rules}
 use Rattle.net_code.specs.Refusals.{IsFormless, IsJumpless, IsStepless}
+use Rattle.net_code.specs.Tasks.{coded_task}
 use Rattle.net_code.proofs.Told.{formless_fault, has_modes}
 use Rattle.net_code.proofs.image.image_for.Goals as goal
 
@@ -26,29 +36,71 @@ passages-requires-clause-rules c = subst KeepsModes (sym c.netlist-netlist.ensur
 pub passages-requires-clause-machines : goal.passages-requires-clause-machines
 passages-requires-clause-machines c = subst (AreMachinesOf c.args.machines.now) (sym c.netlist-netlist.ensures.value) c.requires.machines
 
-pub planned_image-requires-clause-told : goal.planned_image-requires-clause-told
-planned_image-requires-clause-told c =
-    let task = read_task c.args.modes.now c.args.typed.now in
-    let machines = c.args.machines.now in
-    let list = c.in_ok-forms.forms in
-    let same : c.netlist-netlist.result.now ≡ task.netlist = c.netlist-netlist.ensures.value in
-    let forms : AreFormsBelow task.netlist machines (modes_in task.netlist) list = subst (λ (n : Netlist). AreFormsBelow n machines (modes_in n) list) same c.in_ok-forms.ensures.forms in
-    let words : ArePassages task.netlist machines list c.in_ok-passages.passages.items = subst (λ (n : Netlist). ArePassages n machines list c.in_ok-passages.passages.items) same c.in_ok-passages.ensures.words in
-    let given : c.deref-3.result.now ≡ c.in_ok-usable.usable.items = c.deref-3.ensures.value in
-    has_modes task _ machines list c.in_ok-passages.passages.items c.requires.machines forms refl c.deref.ensures.value (ap (λ (n : Netlist). n.special) same) c.deref-2.ensures.value words c.deref-3.result.now
-    (ap (λ (list : List Bool). length list) given ∙ c.in_ok-usable.ensures.long ∙ ap modes_in same)
-    (subst (λ (list : List Bool). (v : ℕ) → UsableAt list v ↔ CanUse task.netlist (all_rules task.netlist c.in_ok-forms.forms) v) (sym given)
-    (subst (λ (n : Netlist). (v : ℕ) → UsableAt c.in_ok-usable.usable.items v ↔ CanUse n (all_rules n c.in_ok-forms.forms) v) same c.in_ok-usable.ensures.usable))
+-- the jobs are those of the task, in the modes that the code is told of
+coded : (task : Task) (modes : Modes) (machines : List Machine) (netlist : Netlist) (forms : FormsByMode) (words : List (Option Passage)) (marks usable : List Bool) (places : Places) (blocks : Blocks)
+    → netlist ≡ task.netlist → AreMachinesOf machines task.netlist → AreFormsBelow netlist machines (modes_in netlist) forms → ArePassages netlist machines forms words
+    → modes.machines.now ≡ machines → modes.forms.now ≡ forms.kept.items → modes.special ≡ netlist.special → modes.passages.now ≡ words
+    → usable ≡ marks → length marks ≡ modes_in netlist → ((v : ℕ) → UsableAt marks v ↔ CanUse netlist (all_rules netlist forms) v)
+    → ¬ IsStepless netlist → ¬ IsJumpless netlist → IsChecked task → ArePlaces task places → blocks.flow ≡ program_flow task.listing → works_of blocks.jobs.items ≡ task_works task
+    → IsCodedIn modes usable places blocks task
+coded task modes machines netlist forms words marks usable places blocks same are below passages as_machines as_forms special as_words given long can steps jumps checked placed flow works = record {
+  told =
+      has_modes task modes machines forms words are (subst (λ (n : Netlist). AreFormsBelow n machines (modes_in n) forms) same below) as_machines as_forms (special ∙ ap (λ (n : Netlist). n.special) same) as_words
+      (subst (λ (n : Netlist). ArePassages n machines forms words) same passages) usable (ap (λ (list : List Bool). length list) given ∙ long ∙ ap modes_in same)
+      (subst (λ (list : List Bool). (v : ℕ) → UsableAt list v ↔ CanUse task.netlist (all_rules task.netlist forms) v) (sym given)
+      (subst (λ (n : Netlist). (v : ℕ) → UsableAt marks v ↔ CanUse n (all_rules n forms) v) same can));
+  steps = subst (λ (n : Netlist). ¬ IsStepless n) same steps;
+  jumps = subst (λ (n : Netlist). ¬ IsJumpless n) same jumps;
+  checked = checked;
+  placed = placed;
+  flow = flow;
+  works = works;
+}
 
-pub planned_image-requires-clause-steps : goal.planned_image-requires-clause-steps
-planned_image-requires-clause-steps c = subst (λ (n : Netlist). ¬ IsStepless n) c.netlist-netlist.ensures.value c.in_ok-forms.ensures.steps
+pub planned_image-requires-clause-coded : goal.planned_image-requires-clause-coded
+planned_image-requires-clause-coded c = record {
+  task = coded_task c.args.modes.now.netlist c.args.typed.now c.args.places c.args.blocks.now;
+  is =
+      coded (coded_task c.args.modes.now.netlist c.args.typed.now c.args.places c.args.blocks.now) _ c.args.machines.now c.netlist-netlist.result.now c.in_ok-forms.forms c.in_ok-passages.passages.items c.in_ok-usable.usable.items c.deref-3.result.now _ c.args.blocks.now
+      c.netlist-netlist.ensures.value c.requires.machines c.in_ok-forms.ensures.forms c.in_ok-passages.ensures.words refl c.deref.ensures.value refl c.deref-2.ensures.value c.deref-3.ensures.value c.in_ok-usable.ensures.long c.in_ok-usable.ensures.usable
+      c.in_ok-forms.ensures.steps c.in_ok-forms.ensures.jumps c.requires.checked (record { temps = c.temps.ensures; list = refl }) c.requires.flow refl;
+}
 
-pub planned_image-requires-clause-jumps : goal.planned_image-requires-clause-jumps
-planned_image-requires-clause-jumps c = subst (λ (n : Netlist). ¬ IsJumpless n) c.netlist-netlist.ensures.value c.in_ok-forms.ensures.jumps
+pub returns-clause-right : goal.returns-clause-right
+returns-clause-right c =
+    IfOk-weaker c.planned_image.result _ _
+    (λ image h. h (coded_task c.args.modes.now.netlist c.args.typed.now c.args.places c.args.blocks.now)
+    (coded (coded_task c.args.modes.now.netlist c.args.typed.now c.args.places c.args.blocks.now) _ c.args.machines.now c.netlist-netlist.result.now c.in_ok-forms.forms c.in_ok-passages.passages.items c.in_ok-usable.usable.items c.deref-3.result.now _ c.args.blocks.now
+    c.netlist-netlist.ensures.value c.requires.machines c.in_ok-forms.ensures.forms c.in_ok-passages.ensures.words refl c.deref.ensures.value refl c.deref-2.ensures.value c.deref-3.ensures.value c.in_ok-usable.ensures.long c.in_ok-usable.ensures.usable
+    c.in_ok-forms.ensures.steps c.in_ok-forms.ensures.jumps c.requires.checked (record { temps = c.temps.ensures; list = refl }) c.requires.flow refl)) c.planned_image.ensures.right
+
+pub returns-clause-fits : goal.returns-clause-fits
+returns-clause-fits c =
+    IfOk-weaker c.planned_image.result _ _
+    (λ image h. h (coded_task c.args.modes.now.netlist c.args.typed.now c.args.places c.args.blocks.now)
+    (coded (coded_task c.args.modes.now.netlist c.args.typed.now c.args.places c.args.blocks.now) _ c.args.machines.now c.netlist-netlist.result.now c.in_ok-forms.forms c.in_ok-passages.passages.items c.in_ok-usable.usable.items c.deref-3.result.now _ c.args.blocks.now
+    c.netlist-netlist.ensures.value c.requires.machines c.in_ok-forms.ensures.forms c.in_ok-passages.ensures.words refl c.deref.ensures.value refl c.deref-2.ensures.value c.deref-3.ensures.value c.in_ok-usable.ensures.long c.in_ok-usable.ensures.usable
+    c.in_ok-forms.ensures.steps c.in_ok-forms.ensures.jumps c.requires.checked (record { temps = c.temps.ensures; list = refl }) c.requires.flow refl)) c.planned_image.ensures.fits
+
+pub returns-clause-reached : goal.returns-clause-reached
+returns-clause-reached c =
+    IfOk-weaker c.planned_image.result _ _
+    (λ image h. h (coded_task c.args.modes.now.netlist c.args.typed.now c.args.places c.args.blocks.now)
+    (coded (coded_task c.args.modes.now.netlist c.args.typed.now c.args.places c.args.blocks.now) _ c.args.machines.now c.netlist-netlist.result.now c.in_ok-forms.forms c.in_ok-passages.passages.items c.in_ok-usable.usable.items c.deref-3.result.now _ c.args.blocks.now
+    c.netlist-netlist.ensures.value c.requires.machines c.in_ok-forms.ensures.forms c.in_ok-passages.ensures.words refl c.deref.ensures.value refl c.deref-2.ensures.value c.deref-3.ensures.value c.in_ok-usable.ensures.long c.in_ok-usable.ensures.usable
+    c.in_ok-forms.ensures.steps c.in_ok-forms.ensures.jumps c.requires.checked (record { temps = c.temps.ensures; list = refl }) c.requires.flow refl)) c.planned_image.ensures.reached
+
+pub returns-clause-refused : goal.returns-clause-refused
+returns-clause-refused c =
+    IfErr-weaker c.planned_image.result _ _
+    (λ fault h. h (coded_task c.args.modes.now.netlist c.args.typed.now c.args.places c.args.blocks.now)
+    (coded (coded_task c.args.modes.now.netlist c.args.typed.now c.args.places c.args.blocks.now) _ c.args.machines.now c.netlist-netlist.result.now c.in_ok-forms.forms c.in_ok-passages.passages.items c.in_ok-usable.usable.items c.deref-3.result.now _ c.args.blocks.now
+    c.netlist-netlist.ensures.value c.requires.machines c.in_ok-forms.ensures.forms c.in_ok-passages.ensures.words refl c.deref.ensures.value refl c.deref-2.ensures.value c.deref-3.ensures.value c.in_ok-usable.ensures.long c.in_ok-usable.ensures.usable
+    c.in_ok-forms.ensures.steps c.in_ok-forms.ensures.jumps c.requires.checked (record { temps = c.temps.ensures; list = refl }) c.requires.flow refl)) c.planned_image.ensures.refused
 
 pub returns-in_err-forms-clause-refused : goal.returns-in_err-forms-clause-refused
 returns-in_err-forms-clause-refused c =
     let p = err_from_is_err_and c.from_residual.result c.from_residual.ensures.1 in
     rw (p.1, p.2)
-    (formless_fault (read_task c.args.modes.now c.args.typed.now) _
+    (formless_fault (coded_task c.args.modes.now.netlist c.args.typed.now c.args.places c.args.blocks.now) _
     (subst (λ (n : Netlist). IsFormless n c.in_err-forms.field-0.0) c.netlist-netlist.ensures.value c.in_err-forms.ensures.refused))

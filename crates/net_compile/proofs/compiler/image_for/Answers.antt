@@ -1,24 +1,44 @@
-use Rattle.std.proofs.Common.{sym}
+use Rattle.std.proofs.Common.{◌≡◌, ap, refl, subst, sym}
 use Rattle.std.proofs.lemmas.Result.{err_from_is_err_and}
-use Rattle.right_code.specs.Tasks.{read_task}
+use Rattle.src_model.specs.Written.{listing_of}
+use Rattle.code_model.specs.declared.image.Places.{Places}
+use Rattle.right_code.specs.Images.{IsRightImage}
+use Rattle.right_code.specs.Tasks.{IsChecked, Task, read_task}
+use Rattle.right_code.proofs.Rows.{task_checked}
+use Rattle.net_code.specs.Refusals.{IsCodeFault, IsReached}
+use Rattle.net_code.specs.Tasks.{coded_task}
 use Rattle.net_compile.proofs.TaskLemmas.{fault_of_image, fault_of_places}
 use Rattle.net_compile.proofs.compiler.image_for.Goals as goal
 
+-- tasks with the same parts are one
+same_parts : (task other : Task) → task.netlist ≡ other.netlist → task.width ≡ other.width → task.listing ≡ other.listing → task.places ≡ other.places → task.works ≡ other.works → task ≡ other
+same_parts task other netlist width listing places works =
+    (λ i. record { netlist = netlist i; width = width i; listing = listing i; places = places i; works = works i })
+
+pub blocks_of-requires : goal.blocks_of-requires
+blocks_of-requires c = record { width = c.requires.width; places = c.in_ok-places.ensures.places; room = c.in_ok-places.ensures.room.room }
+
 pub image_of-requires-clause-checked : goal.image_of-requires-clause-checked
-image_of-requires-clause-checked c = record {
-  netlist = c.requires.rules;
-  program = c.requires.program;
-  words = sym c.requires.width;
-  cells = c.in_ok-places.ensures.room.room;
-}
+image_of-requires-clause-checked c =
+    let modes = c.args.modes.now in
+    let typed = c.args.typed.now in
+    let own : read_task modes typed ≡ coded_task modes.netlist typed c.in_ok-places.places.list c.in_ok-blocks.blocks =
+    same_parts (read_task modes typed) (coded_task modes.netlist typed c.in_ok-places.places.list c.in_ok-blocks.blocks) refl refl refl (sym (ap (λ (p : Places). p.list) c.in_ok-places.ensures.places)) (sym c.in_ok-blocks.ensures.jobs) in
+    subst IsChecked own
+    (task_checked modes.netlist typed.width (listing_of typed.program) c.requires.rules c.requires.program (sym c.requires.width) c.in_ok-places.ensures.room.room)
 
 pub returns-clause-image : goal.returns-clause-image
-returns-clause-image c = record {
-  room = c.in_ok-places.ensures.room;
-  reached = c.in_ok-image.ensures.reached;
-  right = c.in_ok-image.ensures.right;
-  fits = c.in_ok-image.ensures.fits;
-}
+returns-clause-image c =
+    let modes = c.args.modes.now in
+    let typed = c.args.typed.now in
+    let own : coded_task modes.netlist typed c.in_ok-places.places.list c.in_ok-blocks.blocks ≡ read_task modes typed =
+    same_parts (coded_task modes.netlist typed c.in_ok-places.places.list c.in_ok-blocks.blocks) (read_task modes typed) refl refl refl (ap (λ (p : Places). p.list) c.in_ok-places.ensures.places) c.in_ok-blocks.ensures.jobs in
+    record {
+      room = c.in_ok-places.ensures.room;
+      reached = subst IsReached own c.in_ok-image.ensures.reached;
+      right = subst (λ (task : Task). IsRightImage task c.in_ok-image.image) own c.in_ok-image.ensures.right;
+      fits = c.in_ok-image.ensures.fits;
+    }
 
 pub returns-in_err-places-clause-refused : goal.returns-in_err-places-clause-refused
 returns-in_err-places-clause-refused c =
@@ -28,4 +48,10 @@ returns-in_err-places-clause-refused c =
 pub returns-in_err-image-clause-refused : goal.returns-in_err-image-clause-refused
 returns-in_err-image-clause-refused c =
     let p = err_from_is_err_and c.from_residual-in_err-image.result c.from_residual-in_err-image.ensures.1 in
-    rw (p.1, p.2) (fault_of_image (read_task c.args.modes.now c.args.typed.now) c.in_ok-places.ensures.room _ c.in_err-image.ensures.refused)
+    let modes = c.args.modes.now in
+    let typed = c.args.typed.now in
+    let own : coded_task modes.netlist typed c.in_ok-places.places.list c.in_ok-blocks.blocks ≡ read_task modes typed =
+    same_parts (coded_task modes.netlist typed c.in_ok-places.places.list c.in_ok-blocks.blocks) (read_task modes typed) refl refl refl (ap (λ (p : Places). p.list) c.in_ok-places.ensures.places) c.in_ok-blocks.ensures.jobs in
+    rw (p.1, p.2)
+    (fault_of_image (read_task modes typed) c.in_ok-places.ensures.room _
+    (subst (λ (task : Task). IsCodeFault task c.in_err-image.field-0.0) own c.in_err-image.ensures.refused))

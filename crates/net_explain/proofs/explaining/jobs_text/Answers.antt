@@ -9,11 +9,13 @@ use Rattle.form_model.specs.Rules.{rules_of}
 use Rattle.form_set.specs.Listing.{AreForms}
 use Rattle.job_places.specs.Places.{program_spots}
 use Rattle.right_code.specs.Tasks.{read_task, task_works}
+use Rattle.right_code.proofs.Rows.{task_checked}
 use Rattle.src_model.specs.Rules.{temp_count}
+use Rattle.src_model.specs.Written.{listing_of}
 use Rattle.transfer_set.specs.Ready.{IsReady}
 use Rattle.transfer_set.specs.Rows.{row_patterns}
 use Rattle.net_extract.proofs.Cleans.{extracted_later}
-use Rattle.net_code.specs.Refusals.{IsFormless, IsJumpless, IsStepless}
+use Rattle.net_code.specs.Refusals.{IsJumpless, IsStepless}
 use Rattle.net_explain.specs.Explained.{AreJobTexts}
 use Rattle.net_explain.proofs.Alone.{first_is, first_plain}
 use Rattle.net_explain.proofs.Early.{early_of_forms, early_of_places}
@@ -35,12 +37,9 @@ usable_forms-requires-clause-patterns c =
     (sym (first_is c.args.modes.now c.requires.alone c.first.result.now.netlist c.first.ensures.base)) c.requires.isa.patterns
 
 pub told_jobs-requires-clause-checked : goal.told_jobs-requires-clause-checked
-told_jobs-requires-clause-checked c = record {
-  netlist = c.requires.alone.rules;
-  program = c.requires.program;
-  words = sym c.requires.width;
-  cells = c.in_ok-places.ensures.room.room;
-}
+told_jobs-requires-clause-checked c =
+    let typed = c.args.typed.now in
+    task_checked c.args.modes.now.netlist typed.width (listing_of typed.program) c.requires.alone.rules c.requires.program (sym c.requires.width) c.in_ok-places.ensures.room.room
 
 pub returns-clause-isa : goal.returns-clause-isa
 returns-clause-isa c = record {

@@ -9,7 +9,7 @@ use Rattle.job_places.specs.Places.{program_spots}
 use Rattle.src_model.specs.Written.{Listing, acts_of, listing_of}
 use Rattle.src_trees.specs.Jobs.{work_of, works_of}
 use Rattle.src_trees.specs.Lowered.{Work}
-use Rattle.right_code.specs.Tasks.{read_task, task_memory, task_works}
+use Rattle.right_code.specs.Tasks.{read_task, row_memory, task_works}
 use Rattle.net_code.proofs.Built.{few_works}
 use Rattle.net_explain.specs.Explained.{AreJobTexts}
 use Rattle.net_explain.proofs.Alone.{first_is}
@@ -20,7 +20,7 @@ job_texts-text-requires-clause-same c =
     let task = read_task c.args.modes.now c.args.typed.now in
     let jobs = ap (λ (js : List Job). length (works_of js)) c.deref.ensures.value ∙ ap length c.in_ok-blocks.ensures.jobs in
     let long = length-map c.deref.result.now work_of in
-    let spots = of_acts (task_memory task) (acts_of task.listing.body) in
+    let spots = of_acts (row_memory task.netlist task.width task.listing) (acts_of task.listing.body) in
     rw c.program.ensures.value (omega (arith, jobs, long, spots))
 
 pub job_texts-text-requires-clause-few : goal.job_texts-text-requires-clause-few
@@ -32,7 +32,7 @@ job_texts-text-requires-clause-few c =
     omega (arith, few, jobs, long)
 
 pub blocks_of-requires : goal.blocks_of-requires
-blocks_of-requires c = record { width = sym c.requires.checked.words; places = c.requires.places; room = c.requires.checked.cells }
+blocks_of-requires c = record { width = sym c.requires.checked.words; places = c.requires.places; room = c.requires.room.room }
 
 pub returns : goal.returns
 returns c =

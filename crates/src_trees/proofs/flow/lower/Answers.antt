@@ -9,4 +9,4 @@ pub lower_body-requires-clause-plain : goal.lower_body-requires-clause-plain
 lower_body-requires-clause-plain c =
     subst (λ (m : MemoryMap). ArePlain m.word m.places (acts_of (map act_of c.as_slice-2.result.now))) (sym c.new-memory.ensures)
     (body_plain c.args.typed.now.width c.width.result c.args.typed.now.program c.program.result.now c.args.places.now c.as_slice.result.now c.as_slice-2.result.now c.width.ensures.value c.program.ensures.value c.as_slice-2.ensures.value c.as_slice.ensures
-    c.width.ensures.kept c.requires.places c.requires.few)
+    c.width.ensures.kept c.requires.held.stand c.requires.few)

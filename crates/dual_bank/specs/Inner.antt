@@ -1,0 +1,2 @@
+-- What functions of the crate tell one another.
+pub mod Sums

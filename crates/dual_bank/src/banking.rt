@@ -1,0 +1,244 @@
+//! The jobs of a program over two memories.
+
+ghost use Rattle.std.specs.Prelude.{◌≡◌, ◌≤◌, IfOk, IfNone, IfSome, Ok, map};
+ghost use Rattle.rec_bits.specs.declared.operator.Op2.TheVariants.{Add};
+ghost use Rattle.net_model.specs.Terms.{bin, const, slice, zext};
+ghost use Rattle.form_model.specs.Trees.{tree_term};
+ghost use Rattle.form_model.specs.Rules.{destination_of};
+ghost use Rattle.src_model.specs.Written.{listing_of};
+ghost use Rattle.src_trees.specs.Jobs.{work_of, works_of};
+ghost use Rattle.src_trees.specs.Flows.{program_works};
+ghost use Rattle.dual_bank.specs.Banked.{banked_address, banked_destination, banked_tree, banked_work, banked_works, in_memory, joined_memory, summed};
+ghost use Rattle.dual_bank.specs.Inner.Sums.{IsSum, IsNoSum};
+
+use code_model::Places;
+use form_model::{Aim, Blocks, Job, Tree};
+use rec_bits::{NoMemory, Op2};
+use src_model::Typed;
+use std::alloc::Global;
+
+// A sum of an index and the address of an array, cut to an address: the index, and the width and the
+// value of the array's address.
+#[derive(Drop)]
+struct Sum<'a> {
+    index: &'a Tree,
+    width: u8,
+    base: u64,
+}
+
+// The sum that an address is, where it is one.
+fn sum_of(address: &Tree) -> Option<Sum<'_>>
+    ensures some { IfSome result (λ sum. IsSum (tree_term address.now) (tree_term sum.index.now) sum.width sum.base) }
+    ensures none { IfNone result (IsNoSum (tree_term address.now)) }
+{
+    let Tree::Slice(sum, _, _) = address else {
+        return None;
+    };
+    let Tree::Bin(Op2::Add, index, base) = &**sum else {
+        return None;
+    };
+    let Tree::Lit { width, value } = &**base else {
+        return None;
+    };
+    Some(Sum {
+        index,
+        width: *width,
+        base: *value,
+    })
+}
+
+// The value beside what was made behind it. The value is let go here where nothing was made,
+// whatever its type, so that a maker has only its own ways out.
+fn keeping<T: Drop, R>(value: T, made: Result<R, NoMemory>) -> Result<(T, R), NoMemory>
+    ensures kept { IfOk result (λ x. x.0 ≡ value) }
+    ensures made { IfOk result (λ x. made ≡ Ok x.1) }
+{
+    let made = made?;
+    Ok((value, made))
+}
+
+fn boxes<T: Drop>(alloc: Global, x: T, y: T) -> Result<(Box<T>, Box<T>), NoMemory>
+    ensures left { IfOk result (λ made. made.0.value ≡ x) }
+    ensures right { IfOk result (λ made. made.1.value ≡ y) }
+{
+    let left = Box::new(alloc, x)?;
+    let right = Box::new(alloc, y)?;
+    Ok((left, right))
+}
+
+fn sliced(alloc: Global, tree: Tree, hi: u8) -> Result<Tree, NoMemory>
+    ensures { IfOk result (λ made. tree_term made ≡ slice (tree_term tree) hi 0) }
+{
+    let of = Box::new(alloc, tree)?;
+    Ok(Tree::Slice(of, hi, 0))
+}
+
+fn widened(alloc: Global, tree: Tree, width: u8) -> Result<Tree, NoMemory>
+    ensures { IfOk result (λ made. tree_term made ≡ zext (tree_term tree) width) }
+{
+    let of = Box::new(alloc, tree)?;
+    Ok(Tree::Zext(of, width))
+}
+
+// A tree and a number, added.
+fn plus(alloc: Global, tree: Tree, width: u8, value: u64) -> Result<Tree, NoMemory>
+    ensures { IfOk result (λ made. tree_term made ≡ bin Add (tree_term tree) (const width value)) }
+{
+    let (left, right) = boxes(alloc, tree, Tree::Lit { width, value })?;
+    Ok(Tree::Bin(Op2::Add, left, right))
+}
+
+// An address of `k` bits in the memory that has the cell `base`.
+fn in_memory(alloc: Global, k: u8, base: u64, address: Tree) -> Result<Tree, NoMemory>
+    requires { k ≤ 15 }
+    ensures { IfOk result (λ made. tree_term made ≡ in_memory k base (tree_term address)) }
+{
+    let wide = widened(alloc, address, k + 1)?;
+    let first = 1u64 << k;
+    if base < first {
+        Ok(wide)
+    } else {
+        plus(alloc, wide, k + 1, first)
+    }
+}
+
+// The sum of an index and the cell `base` at which its array begins, in `width` bits.
+fn summed(alloc: Global, k: u8, width: u8, index: Tree, base: u64) -> Result<Tree, NoMemory>
+    requires some { 1 ≤ k }
+    requires most { k ≤ 15 }
+    ensures { IfOk result (λ made. tree_term made ≡ summed k width (tree_term index) base) }
+{
+    let sum = plus(alloc, index, width, base % (1u64 << k))?;
+    let low = sliced(alloc, sum, k - 1)?;
+    in_memory(alloc, k, base, low)
+}
+
+// An address, over both memories.
+#[cycle(trees)]
+fn banked_address(alloc: Global, k: u8, address: &Tree) -> Result<Tree, NoMemory>
+    requires some { 1 ≤ k }
+    requires most { k ≤ 15 }
+    ensures { IfOk result (λ made. tree_term made ≡ banked_address k (banked_tree k (tree_term address.now))) }
+{
+    match sum_of(address) {
+        Some(sum) => {
+            let index = banked_tree(alloc, k, sum.index)?;
+            summed(alloc, k, sum.width, index, sum.base)
+        }
+        None => banked_tree(alloc, k, address),
+    }
+}
+
+#[cycle(trees)]
+fn boxed(alloc: Global, k: u8, tree: &Tree) -> Result<Box<Tree>, NoMemory>
+    requires some { 1 ≤ k }
+    requires most { k ≤ 15 }
+    ensures { IfOk result (λ made. tree_term made.value ≡ banked_tree k (tree_term tree.now)) }
+{
+    let tree = banked_tree(alloc, k, tree)?;
+    let made = Box::new(alloc, tree)?;
+    Ok(made)
+}
+
+// A tree, whose addresses are over both memories.
+#[cycle(trees)]
+fn banked_tree(alloc: Global, k: u8, tree: &Tree) -> Result<Tree, NoMemory>
+    requires some { 1 ≤ k }
+    requires most { k ≤ 15 }
+    ensures { IfOk result (λ made. tree_term made ≡ banked_tree k (tree_term tree.now)) }
+{
+    match tree {
+        Tree::Lit { width, value } => Ok(Tree::Lit {
+            width: *width,
+            value: *value,
+        }),
+        Tree::Read(address, width) => {
+            let address = Box::new(alloc, banked_address(alloc, k, address)?)?;
+            Ok(Tree::Read(address, *width))
+        }
+        Tree::Un(op, x) => Ok(Tree::Un(*op, boxed(alloc, k, x)?)),
+        Tree::Bin(op, x, y) => {
+            let left = boxed(alloc, k, x)?;
+            let (left, right) = keeping(left, boxed(alloc, k, y))?;
+            Ok(Tree::Bin(*op, left, right))
+        }
+        Tree::Slice(x, hi, lo) => Ok(Tree::Slice(boxed(alloc, k, x)?, *hi, *lo)),
+        Tree::Zext(x, width) => Ok(Tree::Zext(boxed(alloc, k, x)?, *width)),
+        Tree::Sext(x, width) => Ok(Tree::Sext(boxed(alloc, k, x)?, *width)),
+    }
+}
+
+fn banked_aim(alloc: Global, k: u8, aim: &Aim) -> Result<Aim, NoMemory>
+    requires some { 1 ≤ k }
+    requires most { k ≤ 15 }
+    ensures { IfOk result (λ made. destination_of made ≡ banked_destination k (destination_of aim.now)) }
+{
+    match aim {
+        Aim::Cell(address) => Ok(Aim::Cell(*address)),
+        Aim::Store(address) => Ok(Aim::Store(banked_address(alloc, k, address)?)),
+        Aim::Test => Ok(Aim::Test),
+        Aim::Temp => Ok(Aim::Temp),
+    }
+}
+
+fn banked_trees(alloc: Global, k: u8, trees: &[Tree]) -> Result<Vec<Tree>, NoMemory>
+    requires some { 1 ≤ k }
+    requires most { k ≤ 15 }
+    ensures { IfOk result (λ made. map tree_term made.items ≡ map (banked_tree k) (map tree_term trees.now)) }
+{
+    let mut made = Vec::new(alloc);
+    for tree in trees {
+        made.push(banked_tree(alloc, k, tree)?)?;
+    }
+    Ok(made)
+}
+
+fn banked_job(alloc: Global, k: u8, job: &Job) -> Result<Job, NoMemory>
+    requires some { 1 ≤ k }
+    requires most { k ≤ 15 }
+    ensures { IfOk result (λ made. work_of made ≡ banked_work k (work_of job.now)) }
+{
+    let trees = banked_trees(alloc, k, &job.trees)?;
+    let (trees, aim) = keeping(trees, banked_aim(alloc, k, &job.aim))?;
+    Ok(Job { aim, trees })
+}
+
+fn banked_jobs(alloc: Global, k: u8, jobs: &[Job]) -> Result<Vec<Job>, NoMemory>
+    requires some { 1 ≤ k }
+    requires most { k ≤ 15 }
+    ensures { IfOk result (λ made. works_of made.items ≡ map (banked_work k) (works_of jobs.now)) }
+{
+    let mut made = Vec::new(alloc);
+    for job in jobs {
+        made.push(banked_job(alloc, k, job)?)?;
+    }
+    Ok(made)
+}
+
+/// The flow and the jobs of a program over two memories, from those that `lower` gives for these
+/// places and addresses of one bit more than `addr_width`: the address of an element at a computed
+/// index is made to lie in its own memory. `addr_width` is from 1 to 15 and at most the program's
+/// width less 2; the places are those of `bind_banks`. The only error is want of memory.
+pub fn banked(
+    alloc: Global,
+    _typed: &Typed,
+    blocks: Blocks,
+    _places: &Places,
+    addr_width: u8,
+) -> Result<Blocks, NoMemory>
+    requires some { 1 ≤ addr_width }
+    requires most { addr_width ≤ 15 }
+    requires jobs { works_of blocks.jobs.items ≡ program_works (joined_memory _typed.now.width addr_width _places.now.list)
+        (listing_of _typed.now.program) }
+    ensures flow { IfOk result (λ made. made.flow ≡ blocks.flow) }
+    ensures jobs { IfOk result (λ made. works_of made.jobs.items
+        ≡ banked_works addr_width (joined_memory _typed.now.width addr_width _places.now.list)
+        (listing_of _typed.now.program)) }
+{
+    let made = banked_jobs(alloc, addr_width, &blocks.jobs);
+    let (blocks, jobs) = keeping(blocks, made)?;
+    Ok(Blocks {
+        flow: blocks.flow,
+        jobs,
+    })
+}

@@ -1,0 +1,83 @@
+-- The jobs of a program do what its statements say, and so do those that are made from them by a
+-- change that keeps that.
+use Rattle.std.proofs.Common.{ℕ, ◌≡◌, ◌+◌, List, [], ◌∷◌, ◌++◌, map, Some, refl, ◌∙◌, ap, subst, arith, slice_get}
+use Rattle.std.specs.Option.{option_map}
+use Rattle.std.proofs.lemmas.Option.{slice_get-map}
+use Rattle.rec_bits.proofs.Booleans.{and_left, and_right}
+use Rattle.src_model.specs.declared.program.Var.{Var as Declared}
+use Rattle.src_model.specs.Written.{Act, assign, choice, while, count, Acts, no_acts, act, Otherwise, without, otherwise, Listing, acts_of}
+use Rattle.src_model.specs.Sizes.{statements, statements_in}
+use Rattle.src_trees.specs.Lowered.{MemoryMap, Work, start_work, counting_work, step_work, works, works_in, works_else}
+use Rattle.src_trees.specs.Flows.{program_works}
+use Rattle.src_trees.specs.Held.{HoldsVars}
+use Rattle.src_trees.specs.Meant.{HasJob, count_test, DoAct, DoActs, DoElse, DoProgram, KeepsMeaning}
+use Rattle.src_trees.proofs.Parts.{Stand, stand_all, stand_left, stand_right, works_in_length, works_length}
+use Rattle.src_trees.proofs.Done.{assign_done, start_done, step_done, test_asked}
+
+-- the jobs as `lower` gives them
+pub own_meaning : (m : MemoryMap) (temps : ℕ) (vars : List Declared) → HoldsVars temps vars m → KeepsMeaning m temps vars (λ work. work)
+own_meaning m temps vars held = record {
+  assigns = λ place e. record {
+    lies = λ cells room h. (assign_done m temps vars held cells room place e h.left.fits h.right.fits h.left.known h.right.known h.left.inside h.right.inside).lies;
+    store = λ cells room h. (assign_done m temps vars held cells room place e h.left.fits h.right.fits h.left.known h.right.known h.left.inside h.right.inside).is;
+  };
+  tests = λ test. record {
+    lies = λ cells room h. (test_asked m temps vars held cells room test h.words h.sides h.left_known h.right_known (and_left _ _ h.inside) (and_right _ _ h.inside)).lies;
+    value = λ cells room h. (test_asked m temps vars held cells room test h.words h.sides h.left_known h.right_known (and_left _ _ h.inside) (and_right _ _ h.inside)).are;
+  };
+  starts = λ counter from. record {
+    lies = λ cells room h. (start_done m temps vars held cells room counter from h).1;
+    store = λ cells room h. (start_done m temps vars held cells room counter from h).0;
+  };
+  steps = λ counter. record {
+    lies = λ cells room h. (step_done m temps vars held cells room counter h).1;
+    store = λ cells room h. (step_done m temps vars held cells room counter h).0;
+  };
+}
+
+module _ (m : MemoryMap) (temps : ℕ) (vars : List Declared) (change : Work → Work) (keeps : KeepsMeaning m temps vars change) (own : List Work) where
+  has_job : (Is : Work → Type 0) (number : ℕ) (work : Work) → slice_get own number ≡ Some work → Is (change work) → HasJob (map change own) number Is
+  has_job Is number work at is = record { work = change work; at = slice_get-map change own number ∙ ap (option_map change) at; is = is }
+
+  mutual
+    act_does : (a : Act) (tree : ℕ) → Stand own tree (works m a) → DoAct m temps vars (map change own) tree a
+    act_does (assign place e) tree s = has_job _ tree _ s.0 (keeps.assigns place e)
+    act_does (choice test taken other) tree s = (
+      has_job _ tree _ s.0 (keeps.tests test),
+      acts_do taken (tree + 1) (stand_left own (tree + 1) (works_in m taken) (works_else m other) s.1),
+      else_does other (tree + 1 + statements_in taken)
+          (stand_right own (tree + 1) (tree + 1 + statements_in taken) (works_in m taken) (works_else m other) (let n = works_in_length m taken in omega (arith, n)) s.1),
+    )
+    act_does (while test body) tree s = (has_job _ tree _ s.0 (keeps.tests test), acts_do body (tree + 1) s.1)
+    act_does (count counter at from to body) tree s =
+        let rest : Stand own (tree + 2) (works_in m body ++ step_work m counter ∷ []) =
+        stand_right own tree (tree + 2) (start_work m counter from ∷ (counting_work m counter at to ∷ [])) (works_in m body ++ step_work m counter ∷ []) refl s in
+        let last : Stand own (tree + 2 + statements_in body) (step_work m counter ∷ []) =
+        stand_right own (tree + 2) (tree + 2 + statements_in body) (works_in m body) (step_work m counter ∷ []) (let n = works_in_length m body in omega (arith, n)) rest in (
+          has_job _ tree _ s.0 (keeps.starts counter from),
+          has_job _ (tree + 1) _ s.1.0 (keeps.tests (count_test counter at to)),
+          acts_do body (tree + 2) (stand_left own (tree + 2) (works_in m body) (step_work m counter ∷ []) rest),
+          has_job _ (tree + 2 + statements_in body) _ last.0 (keeps.steps counter),
+        )
+
+    acts_do : (list : Acts) (tree : ℕ) → Stand own tree (works_in m list) → DoActs m temps vars (map change own) tree list
+    acts_do no_acts tree s = tt
+    acts_do (act a rest) tree s = (
+      act_does a tree (stand_left own tree (works m a) (works_in m rest) s),
+      acts_do rest (tree + statements a) (stand_right own tree (tree + statements a) (works m a) (works_in m rest) (let n = works_length m a in omega (arith, n)) s),
+    )
+
+    else_does : (o : Otherwise) (tree : ℕ) → Stand own tree (works_else m o) → DoElse m temps vars (map change own) tree o
+    else_does without tree s = tt
+    else_does (otherwise body) tree s = acts_do body tree s
+
+pub program_does : (m : MemoryMap) (temps : ℕ) (l : Listing) (change : Work → Work) → KeepsMeaning m temps l.vars change → DoProgram m temps l (map change (program_works m l))
+program_does m temps l change keeps = acts_do m temps l.vars change keeps (program_works m l) (acts_of l.body) 0 (stand_all (program_works m l))
+
+same_works : (works : List Work) → map (λ (work : Work). work) works ≡ works
+same_works [] = refl
+same_works (work ∷ later) = ap (λ (xs : List Work). work ∷ xs) (same_works later)
+
+pub own_does : (m : MemoryMap) (temps : ℕ) (l : Listing) → HoldsVars temps l.vars m → DoProgram m temps l (program_works m l)
+own_does m temps l held =
+    subst (λ (jobs : List Work). DoProgram m temps l jobs) (same_works (program_works m l)) (program_does m temps l (λ work. work) (own_meaning m temps l.vars held))
