@@ -11,6 +11,8 @@ import subprocess
 import sys
 import tempfile
 
+from examples import cells_of, on_two, one_memory, places_of, variables
+
 FOLDER = pathlib.Path(__file__).resolve().parent.parent / 'examples'
 HEAD = 'code I : {bits} size 256 at PC; net op : 4 = I[11:8]; net f : 8 = I[7:0]; net next : 8 = add(PC, 1#8); '
 
@@ -117,12 +119,28 @@ def cases():
     biquad = (FOLDER / 'biquad.src').read_text()
     yield from [(example('rrf'), dot, (21, 128)), (example('rrf'), biquad, (43, 290))]
     yield from [(cells(2), dot, (21, 128)), (cells(2), biquad, (49, 338)), (cells(1), dot, 'error no cover 2'), (cells(1), biquad, 'error no cover 3')]
+    yield one_memory(FOLDER / 'twin.rtn'), dot, (21, 128)
     yield UNDRIVEN, 'var a; a = 0;', 2
     for value, *words in (('zext(I[7:0], 16)', 25, 45, 59, 47), ('I[15:0]', 27, 49, 62, 51),
                           ('case mod { 1: zext(I[7:0], 16); else: I[15:0]; }', 27, 49, 62, 51),
                           ('case mod { 1: sext(I[7:0], 16); else: I[15:0]; }', 25)):
         for name, count in zip(('dotl', 'fir16', 'sort', 'crc8'), words):
             yield immediate(value), (FOLDER / f'{name}.src').read_text(), count
+
+
+def parts():
+    """The words and cycles of `dot.src` on two memories, by what stands in the bank."""
+    yield from [('', (22, 137)), ('y', (22, 137)), ('s', (19, 120)), ('i', (18, 104)), ('i y', (17, 96)), ('i x', (19, 112)), ('s i x y', (19, 119))]
+
+
+def banked(binary, folder, names):
+    """The words and cycles of `dot.src` on two memories, with these variables in the bank."""
+    source, part, single = FOLDER / 'dot.src', folder / 'p.part', folder / 'n.rtn'
+    part.write_text(''.join(f'{name}\n' for name in names.split()))
+    single.write_text(one_memory(FOLDER / 'twin.rtn'))
+    places = places_of(subprocess.run([binary, 'compile', single, source], capture_output=True, text=True).stdout)
+    image, _, cycles = on_two(binary, source, part, variables(places, cells_of((FOLDER / 'dot.mem').read_text())))
+    return int(image.split()[2]), cycles
 
 
 def answer(binary, files, due):
@@ -153,6 +171,12 @@ def main():
             if found != due:
                 wrong += 1
                 print(f'{found} in place of {due}, for\n{program}\non\n{net}\n')
+        for names, due in parts():
+            found = banked(binary, pathlib.Path(folder), names)
+            count += 1
+            if found != due:
+                wrong += 1
+                print(f'{found} in place of {due}, with {names or "nothing"} in the bank')
     print(f'{count} answers, {wrong} wrong')
     sys.exit(1 if wrong else 0)
 

@@ -11,21 +11,28 @@ and held against the same results. Their words are those that `record asm` makes
     dot xy: 18 words, 23 unpacked, 104 cycles
     dot xy by hand: 6 words, 19 cycles
     dot a16: error no cover 3
+    dot twin: 17 words, 22 unpacked, 96 cycles
+    dot twin with one memory: 21 words, 22 unpacked, 128 cycles
     dot xy: dot.xy.lst
+
+`twin` has two memories. The programs with a text examples/PROGRAM.part are compiled for it by `record dual` with this part, and clocked here, by
+tools/clocked.py; and by `record compile` and `record go` for the same processor with one memory, which is read or written at one place in a word.
 
 The last are the listings examples/PROGRAM.PROCESSOR.lst, which have to be what tools/listing.py writes.
 
 `words` is the length of the image, `cycles` the clocks until the program counter stands at the end mark. `unpacked` is how many words it were with
 one step in each: the costs of the image's lines `tree`, and its jump and branch words, which are those whose list has a pattern of the program
 counter. What is wrong is told behind the line. The last line counts it, and the exit status is 1 where there is any. With --table the words and
-cycles are printed as the table of examples/README.md, and no other lines but wrong ones.
+cycles are printed as the tables of examples/README.md, and no other lines but wrong ones.
 """
 import binascii
 import pathlib
 import re
 import subprocess
 import sys
+import tempfile
 
+from clocked import Netlist
 from listing import listed
 
 FOLDER = pathlib.Path(__file__).resolve().parent.parent / 'examples'
@@ -174,6 +181,27 @@ def by_hand(binary, netlist, image, memory):
     return (cells_of(state(late)), late) if ended(late + 1) else ({}, None)
 
 
+def one_memory(netlist):
+    """The text of a netlist with a bank as that of one whose second move reads the first one's memory, at the first one's place."""
+    lines = [line for line in netlist.read_text().splitlines(True) if not line.startswith(('version 4;', 'bank '))]
+    return ''.join(lines).replace('read(N, at_n)', 'read(M, at_m)')
+
+
+def clocked(netlist, image, cells):
+    """What the image leaves in the joined cells of a netlist with a bank, and the first cycle at its end mark."""
+    processor = Netlist(netlist.read_text())
+    words, end = [int(word, 16) for word in words_of(image)], int(re.search(r'^mark (\d+) end$', image, re.M)[1])
+    state, counter = processor.zeros(), processor.the_code[4]
+    reached = len(state['M'])
+    for at, value in cells.items():
+        state['M' if at < reached else 'N'][at % reached] = value
+    for cycle in range(LONGEST):
+        if state[counter] == end:
+            return dict(enumerate(state['M'] + state['N'])), cycle
+        state = processor.clock(state, words[state[counter]])
+    return {}, None
+
+
 def words_of(image):
     """The words of an image text, in hexadecimal digits."""
     return re.findall(r'^word \d+ ([0-9a-f]+) ', image, re.M)
@@ -229,16 +257,57 @@ def examples(binary):
                 yield f'{program} {name} by hand: {row[5]} words, {cycles} cycles', fault, None
 
 
+def on_two(binary, source, part, values):
+    """The image of a program on `twin` with this part, what it leaves in the variables that begin with these values, and the cycle of its end mark."""
+    image = answer(binary, 'dual', FOLDER / 'twin.rtn', source, part)
+    places = places_of(image)
+    begin = {places[name][0] + k: value for name, cells in values.items() for k, value in enumerate(cells)}
+    cells, cycles = clocked(FOLDER / 'twin.rtn', image, begin)
+    return image, variables(places, cells), cycles
+
+
+def banked_examples(binary):
+    """Of each program with a part: its lines on two memories and on one, what is wrong with them, and its row of the table."""
+    netlist = FOLDER / 'twin.rtn'
+    with tempfile.TemporaryDirectory() as folder:
+        alone = pathlib.Path(folder) / 'one.rtn'
+        alone.write_text(one_memory(netlist))
+        for part in sorted(path for path in FOLDER.glob('*.part') if path.stem in PROGRAMS):
+            program, source, memory = part.stem, part.with_suffix('.src'), part.with_suffix('.mem')
+            single = answer(binary, 'compile', alone, source)
+            places = places_of(single)
+            values = variables(places, cells_of(memory.read_text()))
+            expected = {key: [value & 0xffff for value in cells] for key, cells in PROGRAMS[program][0](values).items()}
+            image, left, cycles = on_two(binary, source, part, values)
+            there = told(binary, image, netlist, cycles)
+            yield f'{program} twin: {words_text(there)}', wrong(expected, left, cycles), None
+            cells, cycles = compiled(binary, alone, source, memory)
+            left = {key: [cells.get((key, k), 0) for k in range(length)] for key, (_, length) in places.items()}
+            here = told(binary, single, alone, cycles)
+            row = [program, ', '.join(f'`{name}`' for name in part.read_text().split()), *there, *here]
+            yield f'{program} twin with one memory: {words_text(here)}', wrong(expected, left, cycles), row
+
+
+def told(binary, image, netlist, cycles):
+    """The words of an image, how many they were unpacked, and the cycles."""
+    return int(image.split()[2]), unpacked(image, answer(binary, 'extract', netlist), counter_of(netlist)), cycles
+
+
+def words_text(told):
+    return '{} words, {} unpacked, {} cycles'.format(*told)
+
+
 def main():
     if len(sys.argv) not in (2, 3) or sys.argv[2:] not in ([], ['--table']):
         sys.exit(__doc__)
     binary, table = str(pathlib.Path(sys.argv[1]).resolve()), len(sys.argv) == 3
-    rows, faults = [], 0
-    for line, fault, row in examples(binary):
-        faults += fault != ''
-        if fault or not table:
-            print(line + fault, flush=True)
-        rows += [row] if row else []
+    rows, banked_rows, faults = [], [], 0
+    for kept, found in ((rows, examples(binary)), (banked_rows, banked_examples(binary))):
+        for line, fault, row in found:
+            faults += fault != ''
+            if fault or not table:
+                print(line + fault, flush=True)
+            kept += [row] if row else []
     for path in sorted(FOLDER.glob('*.lst')):
         program, name, _ = path.name.split('.')
         differs = listed(binary, FOLDER / f'{name}.rtn', FOLDER / f'{program}.src') != path.read_text()
@@ -249,9 +318,13 @@ def main():
         print('| program | processor | words | unpacked | cycles | by hand: words | cycles |\n|---|---|---|---|---|---|---|')
         for row in rows:
             print('| ' + ' | '.join(map(str, row + [''] * (7 - len(row)))) + ' |')
+        print('\n| program | in the bank | two memories: words | cycles | one memory: words | cycles |\n|---|---|---|---|---|---|')
+        for program, names, words, _, cycles, words_on_one, _, cycles_on_one in banked_rows:
+            print(f'| {program} | {names} | {words} | {cycles} | {words_on_one} | {cycles_on_one} |')
     else:
         print(f'{faults} wrong')
     sys.exit(1 if faults else 0)
 
 
-main()
+if __name__ == '__main__':
+    main()

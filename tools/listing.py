@@ -1,9 +1,9 @@
 #!/usr/bin/env python3
 """Lists the code of a program on a netlist: its words with what they do, below the statements that they are of.
 
-Usage: listing.py BINARY NET.rtn PROGRAM.src [--check LISTING]
+Usage: listing.py BINARY NET.rtn PROGRAM.src [PROGRAM.part] [--check LISTING]
 
-BINARY is run as `compile` and `extract`. Above stand the cells of the variables. Each statement has its line in the program, its tree's number
+BINARY is run as `compile` and `extract`, and for a netlist with a bank as `dual` with the part. Above stand the cells of the variables. Each statement has its line in the program, its tree's number
 and cost, and its words: their address, with a * where the image has a mark, the word in hexadecimal, and the wanted transfers, each in a line, with
 the numbers in the word's fields in place of the slices, and behind them the variable of a cell that is read or written at a number. A `for` stands
 three times: where its counter is set, at its test, and where it is stepped. A jump stands at the end of the statement before it.
@@ -102,6 +102,7 @@ class Netlist:
 
         text = re.sub(rf'slice\({self.code},(\d+),(\d+)\)', field, self.transfers[mode][number])
         text = re.sub(r'zext\((\d+),\d+\)', r'\1', text)
+        text = re.sub(r'add\((\d+),(\d+)#(\d+)\)', lambda sum: str(int(sum[1]) + int(sum[2]) & (1 << int(sum[3])) - 1), text)
         return re.sub(rf'\b{self.code}\b', str(word), text)
 
     def is_turn(self, mode, number):
@@ -184,10 +185,10 @@ class Listing:
         yield f'{self.count - self.turns} words for {sum(self.costs)} steps, {self.turns} for jumps and branches, the end\'s among them'
 
 
-def listed(binary, netlist, source):
-    """The listing of a program on a netlist, as a text."""
+def listed(binary, netlist, source, part=None):
+    """The listing of a program on a netlist, which has a bank where there is a part, as a text."""
     texts = []
-    for words in (('extract', netlist), ('compile', netlist, source)):
+    for words in (('extract', netlist), ('dual', netlist, source, part) if part else ('compile', netlist, source)):
         run = subprocess.run([binary, *map(str, words)], capture_output=True, text=True)
         if run.returncode:
             raise Fault(run.stdout.strip() or run.stderr.strip())
@@ -198,20 +199,23 @@ def listed(binary, netlist, source):
 
 
 def main():
-    words = sys.argv[1:]
-    if len(words) not in (3, 5) or words[3:4] not in ([], ['--check']):
+    words, checked = sys.argv[1:], None
+    if words[-2:-1] == ['--check']:
+        checked = words.pop()
+        words.pop()
+    if len(words) not in (3, 4) or '--check' in words:
         print(__doc__, file=sys.stderr)
         sys.exit(2)
     try:
-        text = listed(pathlib.Path(words[0]).resolve(), *words[1:3])
-        if len(words) == 3:
+        text = listed(pathlib.Path(words[0]).resolve(), *words[1:])
+        if checked is None:
             sys.stdout.write(text)
             return
-        kept = pathlib.Path(words[4]).read_text()
+        kept = pathlib.Path(checked).read_text()
     except (Fault, OSError) as fault:
         print(f'listing: {fault}', file=sys.stderr)
         sys.exit(1)
-    sys.stdout.writelines(difflib.unified_diff(kept.splitlines(True), text.splitlines(True), words[4], 'as it is now'))
+    sys.stdout.writelines(difflib.unified_diff(kept.splitlines(True), text.splitlines(True), checked, 'as it is now'))
     sys.exit(text != kept)
 
 

@@ -6,7 +6,8 @@ Usage: picture.py NET.rtn [--pattern N --binary BINARY] > out.dot
 
 NET.rtn is a netlist text (docs/RTN.md). Signals go downwards; what a register gives back goes up again.
 
-- Boxes are the registers, the memory and a register file. A memory or a file has a column for its write and one for each address that it is read at.
+- Boxes are the registers, the memory and a register file or a bank. A memory, a file or a bank has a column for its write and one for each address
+  that it is read at.
 - The table on top is the instruction word with the slices of it that the netlist names or takes.
 - Trapezia are muxes (`case`) with the numbers of their rows at the inputs; thick bars are buses with a cell for each driver.
 - Ellipses are operators. The first operand comes from the left where the order counts. A constant operand stands in the ellipse.
@@ -74,7 +75,7 @@ class Netlist:
             if item[1] in self.items:
                 raise Fault(f'two items are called {item[1]}')
             self.items[item[1]] = item
-        kinds = {'code': 'word', 'register': 'reg', 'memory': 'memory', 'file': 'memory', 'bus': 'bus'}
+        kinds = {'code': 'word', 'register': 'reg', 'memory': 'memory', 'file': 'memory', 'bank': 'memory', 'bus': 'bus'}
         self.storages = {name: Storage(kinds[item[0]], name, item[2]) for name, item in self.items.items() if item[0] in kinds}
         self.words = [s for s in self.storages.values() if s.kind == 'word']
         for storage in self.storages.values():

@@ -207,12 +207,15 @@ class Maker:
         self.tests = 0
         self.left = pick.randint(2, 9)
 
+    def element(self):
+        return ('element', 'x', ('number', self.pick.randrange(4)))
+
     def leaf(self):
         kind = self.pick.random()
         if kind < 0.2:
             return ('number', self.pick.choice([0, 1, 2, 5, 200, self.pick.randrange(256)]))
         if kind < 0.4:
-            return ('element', 'x', ('number', self.pick.randrange(4)))
+            return self.element()
         return ('plain', self.pick.choice(self.plain))
 
     def value(self, depth):
@@ -230,17 +233,25 @@ class Maker:
         kind = self.pick.random()
         if depth == 0 or kind < 0.55:
             if self.pick.random() < 0.2:
-                return ('element', 'x', self.pick.randrange(4), self.value(2))
+                return (*self.element(), self.value(2))
             return ('assign', self.pick.choice(self.plain), self.value(2))
         if kind < 0.8:
             return ('if', self.test(), self.block(depth - 1), self.block(depth - 1) if self.pick.random() < 0.5 else None)
         if kind < 0.9 or len(self.counters) == 2:
             return ('while', self.test(), self.block(depth - 1))
+        return self.loop(depth)
+
+    def loop(self, depth):
         counter = 'ij'[len(self.counters)]
         self.counters.append(counter)
         start = self.pick.randrange(3)
         self.tests += 1
-        return ('for', counter, self.tests, start, max(0, start + self.pick.randrange(4) - 1), self.block(depth - 1))
+        last = max(0, start + self.pick.randrange(4) - 1)
+        return ('for', counter, self.tests, start, last, self.body(counter, start, last, depth - 1))
+
+    def body(self, counter, start, last, depth):
+        """That of a `for`, in which the counter goes from one number to another."""
+        return self.block(depth)
 
     def block(self, depth):
         statements = []
@@ -279,7 +290,7 @@ def statement_text(s):
     if s[0] == 'assign':
         return f'{s[1]} = {expression_text(s[2])};'
     if s[0] == 'element':
-        return f'{s[1]}[{s[2]}] = {expression_text(s[3])};'
+        return f'{s[1]}[{expression_text(s[2])}] = {expression_text(s[3])};'
     if s[0] == 'if':
         other = f' else {block_text(s[3])}' if s[3] is not None else ''
         return f'if {test_text(s[1])} {block_text(s[2])}{other}'
@@ -311,7 +322,7 @@ class Interpreter:
             if s[0] == 'assign':
                 self.cells[s[1]] = self.value(s[2])
             elif s[0] == 'element':
-                self.cells[f'{s[1]}[{s[2]}]'] = self.value(s[3])
+                self.cells[f'{s[1]}[{self.value(s[2])}]'] = self.value(s[3])
             elif s[0] == 'if':
                 yield s[1][0]
                 taken = s[2] if self.holds(s[1]) else s[3] or []

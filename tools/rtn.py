@@ -3,7 +3,7 @@ import re
 
 RESERVED = frozenset('''code register memory net bus module part size at in out when addr write case else read slice zext sext cat
 add sub mul and or xor not neg shl shr sar eq ltu lts'''.split())
-ADDED = {2: 'file'}   # the item that each later edition adds
+ADDED = {2: 'file', 4: 'bank'}   # the item that each later edition adds, but for that of modes
 UNARY = ('not', 'neg')
 BINARY = ('add', 'sub', 'mul', 'and', 'or', 'xor', 'shl', 'shr', 'sar', 'eq', 'ltu', 'lts', 'cat')
 WIRING = ('slice', 'zext', 'sext')
@@ -96,16 +96,28 @@ class Reader:
         self.need('in')
         return self.ended(width, self.expr(), self.expr() if self.take('when') else None)
 
-    def memory(self):
+    def cells(self):
         width, size = self.size(), (self.need('size'), self.number())[1]
         self.need('addr')
-        addresses = self.number()
-        self.need('write')
+        return width, size, self.number()
+
+    def written(self):
         value = self.expr()
         self.need('at')
-        return self.ended(width, size, addresses, value, self.expr(), self.expr() if self.take('when') else None)
+        return value, self.expr(), self.expr() if self.take('when') else None
+
+    def memory(self):
+        cells = self.cells()
+        self.need('write')
+        return self.ended(*cells, *self.written())
 
     file = memory
+
+    def bank(self):
+        """As a memory; without a `write` it has three zeros as its value, its address and its enable."""
+        width, size, addresses = self.cells()
+        written = self.written() if self.take('write') else tuple(('const', 0, bits) for bits in (width, addresses, 1))
+        return self.ended(width, size, addresses, *written)
 
     def net(self):
         width = self.size()

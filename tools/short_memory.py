@@ -62,7 +62,7 @@ CALLS = [
     ['compile', 's8.rtn', 'two.src'], ['compile', 'a16.rtn', 'count.src'], ['compile', 'wide.rtn', 'levels.src'],
     ['run', 'a16.rtn', 'sum.img', 'sum.mem', '4'], ['extract', 'a16.rtn'], ['extract', 'dsp.rtn'],
     ['go', 'a16.rtn', 'count.src', 'sum.mem', '100'], ['make', '1'],
-    ['asm', 'pair.rtn', 'add.pair.hand.asm'], ['dis', 'a16.rtn', 'sum.img'],
+    ['dual', 'both.rtn', 'add.src', 'add.part'], ['asm', 'pair.rtn', 'add.pair.hand.asm'], ['dis', 'a16.rtn', 'sum.img'],
 ]
 
 

@@ -5,9 +5,9 @@ Usage: verilog.py NET.rtn [IMAGE.img [MEMORY.mem]] > out.v
        iverilog -g2001 -o out out.v && vvp -n out [+cycles=N] [+vcd=out.vcd]
 
 The text is Verilog-2001. Its first module has the file's name and is the processor, for simulation and synthesis: a register, net and bus has its
-own name, a memory or register file is an array of registers, and a bus has the wires BUS_enabled and BUS_clash beside it. A module of the netlist is a module, and a
-part an instance of it. A value that a slice, an extension or a case is taken of gets a wire, called after what it is for. What is no name in Verilog,
-or is another one's, gets a number behind it. The ports are
+own name, a memory, register file or bank is an array of registers, and a bus has the wires BUS_enabled and BUS_clash beside it. A module of the
+netlist is a module, and a part an instance of it. A value that a slice, an extension or a case is taken of gets a wire, called after what it is for.
+What is no name in Verilog, or is another one's, gets a number behind it. The ports are
 
     clk, reset                 at a rising edge with `reset` 1 the program counter becomes 0 and nothing else changes
     the code's name            the instruction word, an input
@@ -198,9 +198,9 @@ class Processor:
     def declare(self):
         """Gives each item its name, before any is used."""
         scope = self.scope
-        for kind, name, *parts in self.of_kind('code', 'register', 'memory', 'file'):
+        for kind, name, *parts in self.of_kind('code', 'register', 'memory', 'file', 'bank'):
             own = scope.names.new(name)
-            if kind in ('memory', 'file'):
+            if kind in ('memory', 'file', 'bank'):
                 scope.memories[name] = own, parts[0], parts[1]
                 (self.memory if kind == 'memory' else self.files).append((own, *parts))
                 continue
@@ -320,12 +320,12 @@ class Bench:
 
     def variables(self):
         """The cells of the variables by their names, for the waves."""
-        array, width, size = self.processor.memory[0][:3]
+        cells = [(array, width, k) for array, width, size, *_ in self.processor.memory + self.processor.files for k in range(size)]
         names = Names('bench')
         yield 'module variables;'
         for name, at, length in self.image.places:
-            for k in range(min(length, size - at)):
-                yield f'  wire {span(width)}{names.new(f"{name}_{k}" if length > 1 else name)} = bench.core.{array}[{at + k}];'
+            for k, (array, width, cell) in enumerate(cells[at:at + length]):
+                yield f'  wire {span(width)}{names.new(f"{name}_{k}" if length > 1 else name)} = bench.core.{array}[{cell}];'
         yield from ['endmodule', '']
 
     def start(self):
@@ -354,7 +354,7 @@ class Bench:
         yield '    $display("cycles %0d", cycle);'
         for own, name in names.items():
             yield f'    $display("{name} %0d", core.{own});'
-        for name in [name for kind in ('file', 'memory') for _, name, *_ in self.processor.of_kind(kind)]:
+        for name in [name for kind in ('file', 'memory', 'bank') for _, name, *_ in self.processor.of_kind(kind)]:
             array, _, size = self.processor.scope.memories[name]
             yield f'    for (k = 0; k < {size}; k = k + 1)'
             yield f'      if (core.{array}[k] != 0) $display("{name} %0d %0d", k, core.{array}[k]);'

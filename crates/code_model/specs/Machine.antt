@@ -60,9 +60,14 @@ abbrev pub after_clock : (State → Traced) → Outcome → Traced
 after_clock later (Next t) = later t
 after_clock later (Clash bus) = Clashes
 
--- what is seen at this state, of this cycle, and at the states after so many clocks
+-- what is seen at this state, of this cycle, and at the states after so many clocks, where each state
+-- has this store
+abbrev pub trace_of : (State → List ℕ) → Netlist → Image → State → ℕ → ℕ → Traced
+trace_of store netlist image s cycle zero = with_checkpoint (label_in netlist image s) cycle (store s) (Shows [])
+trace_of store netlist image s cycle (suc n) =
+    with_checkpoint (label_in netlist image s) cycle (store s)
+    (after_clock (λ (t : State). trace_of store netlist image t (cycle + 1) n) (clock netlist (words_of image) s))
+
+-- where it has what the places hold of the data memory
 abbrev pub mtrace : Netlist → Image → State → ℕ → ℕ → Traced
-mtrace netlist image s cycle zero = with_checkpoint (label_in netlist image s) cycle (store_in image s) (Shows [])
-mtrace netlist image s cycle (suc n) =
-    with_checkpoint (label_in netlist image s) cycle (store_in image s)
-    (after_clock (λ (t : State). mtrace netlist image t (cycle + 1) n) (clock netlist (words_of image) s))
+mtrace netlist image s cycle n = trace_of (store_in image) netlist image s cycle n

@@ -10,7 +10,7 @@ use Rattle.src_model.specs.declared.checkpoint.Checkpoint.TheVariants.{End}
 use Rattle.src_model.specs.Ways.{Passed}
 use Rattle.code_model.specs.declared.image.Image.{Image}
 use Rattle.code_model.specs.Places.{words_of, places_from, Apart}
-use Rattle.code_model.specs.Machine.{TraceEntry, Shows, mtrace, label_in, store_in, IsCalm, IsRestful}
+use Rattle.code_model.specs.Machine.{TraceEntry, Shows, trace_of, label_in, store_in, IsCalm, IsRestful}
 
 -- ---- layout
 
@@ -36,26 +36,37 @@ IsPaced clocks deadline (entry ∷ entries) = (entry.cycle ≤ deadline) × IsPa
 
 -- from this state the machine shows the source's first m checkpoints, each within one image length
 -- of the last, and nothing clashes
-pub record ShowsSource (netlist : Netlist) (image : Image) (trace : List ℕ → ℕ → List Passed)
-    (s : State) (m : ℕ) : Type 0 where
+pub record ShowsBy (store : State → List ℕ) (netlist : Netlist) (image : Image)
+    (trace : List ℕ → ℕ → List Passed) (s : State) (m : ℕ) : Type 0 where
   pub entries : List TraceEntry
-  pub traced : mtrace netlist image s 0 (m * length (words_of image)) ≡ Shows entries
-  pub passed : take m (passed_of entries) ≡ trace (store_in image s) m
+  pub traced : trace_of store netlist image s 0 (m * length (words_of image)) ≡ Shows entries
+  pub passed : take m (passed_of entries) ≡ trace (store s) m
   pub paced : IsPaced (length (words_of image)) (length (words_of image)) entries
 
 -- so many clocks from this state don't clash, leave the store, and end in mode 0
-pub record Stays (netlist : Netlist) (image : Image) (s : State) (n : ℕ) : Type 0 where
+pub record StaysBy (store : State → List ℕ) (netlist : Netlist) (image : Image) (s : State) (n : ℕ) : Type 0 where
   pub last : State
   pub runs : run netlist (words_of image) s n ≡ Reached last
-  pub same : store_in image last ≡ store_in image s
+  pub same : store last ≡ store s
   pub mode : mode_in netlist.special last ≡ 0
 
 -- The image's trace is that of a source, whose first m checkpoints from a store are given: from
 -- every start state in mode 0, for every m. Each mark is reached in mode 0; and from each state at
 -- the end mark on no clock clashes, the store stays and so does the mode.
-pub record TracesRight (netlist : Netlist) (image : Image) (trace : List ℕ → ℕ → List Passed) : Type 0 where
-  pub shows : (s : State) → IsCalm netlist 0 s → (m : ℕ) → ShowsSource netlist image trace s m
+pub record TracesBy (store : State → List ℕ) (netlist : Netlist) (image : Image)
+    (trace : List ℕ → ℕ → List Passed) : Type 0 where
+  pub shows : (s : State) → IsCalm netlist 0 s → (m : ℕ) → ShowsBy store netlist image trace s m
   pub calm : (s t : State) → IsCalm netlist 0 s → (k : ℕ) → run netlist (words_of image) s k ≡ Reached t →
       (label : Checkpoint) → label_in netlist image t ≡ Some label → IsRestful netlist t
   pub stays : (s t : State) → IsCalm netlist 0 s → (k : ℕ) → run netlist (words_of image) s k ≡ Reached t →
-      label_in netlist image t ≡ Some End → (n : ℕ) → Stays netlist image t n
+      label_in netlist image t ≡ Some End → (n : ℕ) → StaysBy store netlist image t n
+
+-- where the store is what the places hold of the data memory
+abbrev pub ShowsSource : Netlist → Image → (List ℕ → ℕ → List Passed) → State → ℕ → Type 0
+ShowsSource netlist image trace s m = ShowsBy (store_in image) netlist image trace s m
+
+abbrev pub Stays : Netlist → Image → State → ℕ → Type 0
+Stays netlist image s n = StaysBy (store_in image) netlist image s n
+
+abbrev pub TracesRight : Netlist → Image → (List ℕ → ℕ → List Passed) → Type 0
+TracesRight netlist image trace = TracesBy (store_in image) netlist image trace

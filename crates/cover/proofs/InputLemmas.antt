@@ -1,5 +1,5 @@
 -- Lists of operands and cuts as the code holds them.
-use Rattle.std.proofs.Common.{◌≡◌, ℕ, zero, suc, ◌+◌, ◌-◌, ◌≤◌, List, [], ◌∷◌, length, take, drop, Option, Some, arith, refl, ap, ◌∙◌, subst, Bool, true, false}
+use Rattle.std.proofs.Common.{◌≡◌, ℕ, zero, suc, ◌+◌, ◌-◌, ◌<◌, ◌≤◌, List, [], ◌∷◌, length, take, drop, Option, Some, arith, refl, ap, ◌∙◌, subst, Bool, true, false}
 use Rattle.std.specs.Prelude.{slice_get, remove, if◌then◌else◌}
 use Rattle.std.specs.Option.{option_map}
 use Rattle.std.proofs.lemmas.List.{take_all}
@@ -46,6 +46,11 @@ size-remove (x ∷ xs) (suc i) o h = let ih = size-remove xs i o h in omega (ari
 pub inputs_split : (is : List OpenOperand) (x : OpenOperand) → slice_get is 0 ≡ Some x → open_operands is ≡ open_operand x ∷ open_operands (drop 1 is)
 inputs_split [] x h = absurd (cc)
 inputs_split (y ∷ is) x h = let e : y ≡ x = cc in ap (λ (z : OpenOperand). open_operand z ∷ open_operands is) e
+
+pub lone_input : (is : List OpenOperand) (x : OpenOperand) → slice_get is 0 ≡ Some x → length is < 2 → open_operands is ≡ open_operand x ∷ []
+lone_input [] x h few = absurd (cc)
+lone_input (y ∷ []) x h few = let e : y ≡ x = cc in ap (λ (z : OpenOperand). open_operand z ∷ []) e
+lone_input (y ∷ z ∷ is) x h few = absurd (omega (arith, few))
 
 pub inputs_later : (nodes : List Term) (is : List OpenOperand) → OperandsAt nodes is → OperandsAt nodes (drop 1 is)
 inputs_later nodes [] h = h

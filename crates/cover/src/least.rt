@@ -206,7 +206,7 @@ fn offer_at<'a>(
 }
 
 // The least cost of the covers that begin with a match with these parts, or nothing where it isn't
-// less than the cost that is known.
+// less than the cost that is known. Orders are gone through where there are several.
 #[cycle(covering)]
 fn cost_below<'a>(
     alloc: Global,
@@ -227,15 +227,19 @@ fn cost_below<'a>(
 {
     let b = cuts_cost(alloc, instance, table, cuts)?;
     let floor = floor_of(alloc, instance, table, operands, limits)?;
-    if is_as_dear(form_cost(floor, b), known) {
+    let lowest = form_cost(floor, b);
+    if is_as_dear(lowest, known) {
         return Ok(None);
+    }
+    if operands.len() < 2 {
+        return Ok(lowest);
     }
     let a = orders(alloc, instance, table, operands, limits, floor)?;
     Ok(form_cost(a, b))
 }
 
 // What no order of the operands costs less than: the sum of their least costs, where none has to
-// spare the register of another.
+// spare the register of another. Of fewer than two operands it is their least cost.
 #[cycle(covering)]
 pub(crate) fn floor_of<'a>(
     alloc: Global,
@@ -247,15 +251,21 @@ pub(crate) fn floor_of<'a>(
     requires at { OperandsAt (nodes_of instance.now) ops.now }
     requires right { AreRight instance.now table.old }
     ensures floor { IfOk result (λ o. IsFloor (instance_stock instance.now) limits (open_operands ops.now) o) }
+    ensures lone { IfOk result (λ o. length ops.now < 2 → IsLeastOrder (instance_stock instance.now) limits (open_operands ops.now) o) }
     ensures few { IfOk result (λ o. NoMore o (36 * operands_size (open_operands ops.now))) }
     ensures right { OnOk result (AreRight instance.now table.new) }
 {
     if ops.is_empty() {
         return Ok(Some(0));
     }
-    let m = operand_cost(alloc, instance, table, ops[0], limits)?;
+    let Some(m) = operand_cost(alloc, instance, table, ops[0], limits)? else {
+        return Ok(None);
+    };
+    if ops.len() == 1 {
+        return Ok(Some(m));
+    }
     let n = floor_of(alloc, instance, table, &ops[1..], limits)?;
-    Ok(sum_of(m, n))
+    Ok(sum_of(Some(m), n))
 }
 
 // The least cost of the operands, over their orders, of which none costs less than the floor: one

@@ -1,10 +1,11 @@
 //! Whether the value of a form may take a tree, as far as their operators tell.
 
-ghost use Rattle.std.specs.Prelude.{◌≡◌, ℕ, Bool, Option, None};
-ghost use Rattle.std.specs.Bool.{OnFalse};
+ghost use Rattle.std.specs.Prelude.{◌≡◌, ℕ, Bool, false, Option, None};
+ghost use Rattle.std.specs.Bool.{OnTrue, OnFalse};
+ghost use Rattle.rec_bits.specs.declared.operator.Op2.{Op2};
 ghost use Rattle.net_model.specs.Terms.{Term, term_of, un};
 ghost use Rattle.form_model.specs.Matches.{Found, bin_match, matched, read_match, sext_match, shape_match, slice_match, zext_match};
-ghost use Rattle.form_model.specs.Trees.{tree_term};
+ghost use Rattle.form_model.specs.Trees.{is_number, tree_term};
 
 use form_model::Tree;
 use net_model::Expr;
@@ -23,6 +24,16 @@ fn is_read(tree: &Tree) -> bool
 {
     match tree {
         Tree::Read(_, _) => true,
+        _ => false,
+    }
+}
+
+fn is_bin(tree: &Tree) -> bool
+    ensures yes { OnTrue result (is_number (tree_term tree.now) ≡ false) }
+    ensures no { OnFalse result ((f g : Term → Bool → Option Found) (o : Op2) → bin_match f g o (tree_term tree.now) ≡ None) }
+{
+    match tree {
+        Tree::Bin(_, _, _) => true,
         _ => false,
     }
 }
@@ -72,10 +83,10 @@ pub(crate) fn may_take(value: &Expr, tree: &Tree) -> bool
         Expr::Read(a, _) => is_field_shape(a) || is_read(tree),
         Expr::Un(op, a) => may_take_one(*op, a, tree),
         Expr::Bin(op, a, b) => {
-            if is_number_tree(tree) {
-                is_field_shape(value)
-            } else {
+            if is_bin(tree) {
                 may_take_two(*op, a, b, tree)
+            } else {
+                is_number_tree(tree) && is_field_shape(value)
             }
         }
         Expr::Slice(_, _, _) => may_be_shown(tree) || is_slice(tree),

@@ -41,6 +41,7 @@ pub fn reason_of(status: Status) -> &'static str {
         Status::Src(fault) => src_reason(fault),
         Status::NoCover(_) => "no transfers of the netlist do this; `record explain` tells why",
         Status::ImageText(_) => "no line of an image for this netlist",
+        Status::PartText(_) => "no line of a part of the program's variables",
         Status::MemText(_) => "no line of a memory text for this netlist",
         Status::AsmText(_) => "no line of an assembler text for this netlist",
         Status::AsmWord(_) => "no instruction word does this",

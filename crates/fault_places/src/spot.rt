@@ -59,7 +59,7 @@ pub fn spot_of(status: Status) -> Option<(usize, Spot)> {
         Status::Src(fault) => (1, Spot::At(src_offset(fault)?)),
         Status::NoCover(tree) => (1, Spot::Tree(tree)),
         Status::AsmWord(line) => (1, Spot::Line(line)),
-        Status::MemText(at) => (2, Spot::At(at)),
+        Status::MemText(at) | Status::PartText(at) => (2, Spot::At(at)),
         _ => return None,
     };
     Some((file, spot))

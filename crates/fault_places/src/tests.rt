@@ -43,6 +43,12 @@ fn a_line_by_its_number(rt: HostRuntime) -> Result<(), Fail> {
 }
 
 #[test]
+fn a_line_of_a_part(rt: HostRuntime) -> Result<(), Fail> {
+    assert_eq!(rt; spot_of(Status::PartText(2)), Some((2, Spot::At(2))));
+    Ok(())
+}
+
+#[test]
 fn no_place(rt: HostRuntime) -> Result<(), Fail> {
     assert_eq!(rt; spot_of(Status::NoJump), None);
     assert_eq!(rt; spot_of(Status::Done), None);

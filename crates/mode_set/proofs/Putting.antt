@@ -11,7 +11,8 @@ use Rattle.net_model.specs.declared.hardware.Space.{Space}
 use Rattle.net_model.specs.declared.hardware.Space.TheVariants.{Memory as InMemory, File as InFile}
 use Rattle.net_model.specs.declared.hardware.Storage.{Storage}
 use Rattle.net_model.specs.declared.hardware.Storage.TheVariants.{Register, Memory, File}
-use Rattle.net_model.specs.CheckedRules.{count_in, files_of, KeepsRules}
+use Rattle.net_model.specs.CheckedRules.{count_in, files_of, HasFileIf, HasFiles, KeepsRules}
+use Rattle.net_model.specs.Editions.{is_banked}
 use Rattle.net_model.specs.Fields.{fields, move_fields}
 use Rattle.net_model.specs.Meaning.{mean}
 use Rattle.net_model.specs.Nets.{file_place, HasCells, IsRegister, memory_id, place_in, space_of, word_width}
@@ -271,7 +272,9 @@ module _ (netlist : Netlist) (order : List ℕ) (keeps : KeepsRules netlist orde
 
         module _ (edition : netlist.edition ≡ 1) where
           fileless : slice_get netlist.storages (place_in InFile netlist.storages) ≡ None
-          fileless = no_array netlist.storages (keeps.roles.file.0 ∙ ap files_of edition)
+          fileless =
+              let files : HasFiles netlist = subst (λ (n : ℕ). HasFileIf (is_banked n) netlist) edition keeps.roles.file in
+              no_array netlist.storages (files.0 ∙ ap files_of edition)
 
           keeps_cells : (word : ℕ) (space : Space) → memory_move netlist word ≡ keep → space_move netlist space word ≡ keep
           keeps_cells word InMemory m = m

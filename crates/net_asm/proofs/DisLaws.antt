@@ -59,6 +59,6 @@ module _ (net image : List ℕ) where
   image_file text p = record {
     entries = p.is.entries;
     said = p.said;
-    net_file = p.is.file.file;
+    net_file = record { file = p.is.file.file; taken = (let taken = p.is.taken in omega (arith, taken)) };
     image_text = subst (λ (n : Netlist). IsImageText (limits_of n) image p.said) p.is.netlist p.read;
   }

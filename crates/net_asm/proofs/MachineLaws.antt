@@ -5,7 +5,7 @@ use Rattle.net_model.specs.declared.hardware.Code.{Code}
 use Rattle.net_model.specs.declared.hardware.Netlist.{Netlist}
 use Rattle.net_model.specs.CheckedRules.{KeepsRules}
 use Rattle.net_model.specs.ModeRules.{KeepsInOrder}
-use Rattle.net_model.specs.Elaborated.{netlist_of}
+use Rattle.net_front.specs.Fronts.{taken_of}
 use Rattle.net_model.specs.Nets.{code_bits, word_width}
 use Rattle.net_model.specs.Patterns.{ArePatterns, Pattern}
 use Rattle.net_model.specs.Written.{Text}
@@ -30,16 +30,16 @@ bits_are netlist = by netlist.codes
     by (code ∷ codes) = refl
 
 -- the patterns of a netlist file have texts of transfers
-pub file_texts : (net : List ℕ) (entries : Text) → IsRoutedFile net entries → entries.edition < 3 → (patterns : List Pattern) → ArePatterns (netlist_of entries) patterns → AreTransferTexts (move_texts (netlist_of entries) patterns)
+pub file_texts : (net : List ℕ) (entries : Text) → IsRoutedFile net entries → entries.edition < 3 → (patterns : List Pattern) → ArePatterns (taken_of entries) patterns → AreTransferTexts (move_texts (taken_of entries) patterns)
 file_texts net entries file early patterns are =
     let kept = rules_alone entries early file.file.keeps in
-    transfer_texts (netlist_of entries) kept.order kept.rules (spelled_names net entries file.file.says) (plain_names net entries file.file.says) patterns are
+    transfer_texts (taken_of entries) kept.order kept.rules (spelled_names net entries file.file.says) (plain_names net entries file.file.says) patterns are
 
 module _ (net : List ℕ) where
   pub one_machine : (a b : Machine) → IsMachine net a → IsMachine net b → a ≡ b
   one_machine a b p q =
       let entries : p.entries ≡ q.entries = p.file.file.says.only q.entries q.file.file.says.text in
-      let e : a.netlist ≡ b.netlist = p.netlist ∙ ap netlist_of entries ∙ sym q.netlist in
+      let e : a.netlist ≡ b.netlist = p.netlist ∙ ap taken_of entries ∙ sym q.netlist in
       let f : a.patterns ≡ b.patterns = patterns_one a.netlist a.patterns b.patterns p.patterns (subst (λ (n : Netlist). ArePatterns n b.patterns) (sym e) q.patterns) in
       (λ k. record { netlist = e k; patterns = f k })
 

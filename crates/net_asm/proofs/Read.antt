@@ -182,7 +182,7 @@ module _ (net image : List ℕ) (machine : Machine) (is : IsMachine net machine)
     record { machine = machine; is = is },
     record {
       entries = is.entries;
-      net_file = is.file.file;
+      net_file = record { file = is.file.file; taken = (let taken = is.taken in omega (arith, taken)) };
       none = subst (λ (n : Netlist). IsLineFault (limits_of n) image at) is.netlist h;
     },
   )

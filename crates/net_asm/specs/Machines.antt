@@ -1,7 +1,7 @@
 -- A netlist with its patterns, as assembler texts speak of it.
 use Rattle.std.specs.Prelude.{◌≡◌, ◌≤◌, ℕ, List, map}
 use Rattle.net_model.specs.declared.hardware.Netlist.{Netlist}
-use Rattle.net_model.specs.Elaborated.{netlist_of}
+use Rattle.net_front.specs.Fronts.{taken_of}
 use Rattle.net_model.specs.Patterns.{ArePatterns, Pattern}
 use Rattle.net_model.specs.Texts.{move_text}
 use Rattle.net_model.specs.Written.{Text}
@@ -22,7 +22,7 @@ pub record IsMachine (net : List ℕ) (machine : Machine) : Type 0 where
   pub entries : Text
   pub file : IsRoutedFile net entries
   pub taken : entries.edition ≤ assembled_edition
-  pub netlist : machine.netlist ≡ netlist_of entries
+  pub netlist : machine.netlist ≡ taken_of entries
   pub patterns : ArePatterns machine.netlist machine.patterns
 
 -- the texts of the transfers, by the patterns' numbers

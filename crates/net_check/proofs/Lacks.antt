@@ -1,15 +1,16 @@
 -- The lone memory and the lone code of a netlist.
-use Rattle.std.proofs.Common.{◌≡◌, ℕ, ◌<◌, List, [], ◌∷◌, Some, None, length, get_or, slice_get, option_map, refl, sym, ap, ◌∙◌, subst, arith, zero-add, zero, suc}
+use Rattle.std.proofs.Common.{◌≡◌, ℕ, ◌^◌, ◌<◌, IsTrue, is_some, Option, List, [], ◌∷◌, Some, None, length, get_or, slice_get, option_map, refl, sym, ap, ◌∙◌, subst, arith, zero-add, zero, suc}
 use Rattle.std.specs.List.{AllByRecursion}
 use Rattle.net_model.specs.declared.hardware.Netlist.{Netlist}
+use Rattle.net_model.specs.declared.hardware.Cells.{Cells}
 use Rattle.net_model.specs.declared.hardware.Code.{Code}
 use Rattle.net_model.specs.declared.hardware.Storage.{Storage}
 use Rattle.net_model.specs.declared.hardware.Storage.TheVariants.{Register, Memory, File}
 use Rattle.net_model.specs.declared.hardware.Space.TheVariants.{File as InFile}
-use Rattle.net_model.specs.Nets.{array_in, counter_of, counter_width, storage_bits}
-use Rattle.net_model.specs.CheckedRules.{StorageKeeps, IsCounter, IsAddressed, HasCounter, HasSizes, IsWellFormed, memory_count, code_size, memory_addr_width}
+use Rattle.net_model.specs.Nets.{array_addr_width, array_in, array_size, array_width, counter_of, counter_width, storage_bits}
+use Rattle.net_model.specs.CheckedRules.{StorageKeeps, IsCounter, IsAddressed, HasBankBeside, HasCounter, HasSizes, IsWellFormed, memory_count, code_size, count_in, memory_addr_width}
 use Rattle.rec_bits.specs.Operators.{IsWidth}
-use Rattle.net_check.specs.Inner.Roles.{lone_from, IsShape}
+use Rattle.net_check.specs.Inner.Roles.{lone_from, IsShape, IsShapedBeside}
 use Rattle.net_check.specs.Inner.Roles.{shape_of as measures_of}
 use Rattle.net_check.specs.declared.role.Shape.{Shape}
 
@@ -87,13 +88,60 @@ file_wide netlist (File cells ∷ storages) file h e =
 reached_as : (a b m n : ℕ) → a ≡ b → m ≡ n → IsAddressed a m → IsAddressed b n
 reached_as a b m n e f h = subst (λ k. IsAddressed k n) e (subst (λ k. IsAddressed a k) f h)
 
+-- ---- the bank
+
+-- the measures of the first file
+file_is : (bank : Shape) (file : Option Cells) → Some bank ≡ option_map measures_of file
+    → (array_width file ≡ bank.width) × (array_size file ≡ bank.size) × (array_addr_width file ≡ bank.addr_width)
+file_is bank None e = absurd (cc e)
+file_is bank (Some cells) e =
+    let s : measures_of cells ≡ bank = cc e in
+    (ap (λ (s : Shape). s.width) s, ap (λ (s : Shape). s.size) s, ap (λ (s : Shape). s.addr_width) s)
+
+no_size : (file : Option Cells) → None ≡ option_map measures_of file → array_size file ≡ 0
+no_size None e = refl
+no_size (Some cells) e = absurd (cc e)
+
+module _ (storages : List Storage) (special : Option ℕ) where
+  pub no_bank_beside : None ≡ option_map measures_of (array_in InFile storages) → HasBankBeside storages special → ⊥
+  no_bank_beside e h = omega (arith, h.size.0, no_size (array_in InFile storages) e)
+
+  module _ (memory : Shape) (met : IsShape storages memory) (bank : Shape) (file : Some bank ≡ option_map measures_of (array_in InFile storages)) where
+    pub beside_of : IsTrue (is_some special) → count_in InFile storages ≡ 1 → IsShapedBeside bank memory → HasBankBeside storages special
+    beside_of has one h =
+        let f = file_is bank (array_in InFile storages) file in
+        record {
+          special = has;
+          one = one;
+          width = f.0 ∙ h.alike.0 ∙ sym met.width;
+          addresses = f.2 ∙ h.alike.1 ∙ sym met.addr_width;
+          size = reached_as _ _ _ _ (sym f.1) (sym met.addr_width) h.size;
+          full = met.size ∙ h.full ∙ ap (λ (k : ℕ). 2 ^ k) (sym met.addr_width);
+          few = omega (arith, met.addr_width, h.room.0);
+          narrow = omega (arith, met.addr_width, met.width, h.room.1);
+        }
+
+    pub shaped_of : HasBankBeside storages special → IsShapedBeside bank memory
+    shaped_of h =
+        let f = file_is bank (array_in InFile storages) file in
+        record {
+          alike = (sym f.0 ∙ h.width ∙ met.width, sym f.2 ∙ h.addresses ∙ met.addr_width);
+          room = (omega (arith, met.addr_width, h.few), omega (arith, met.addr_width, met.width, h.narrow));
+          size = reached_as _ _ _ _ f.1 met.addr_width h.size;
+          full = sym met.size ∙ h.full ∙ ap (λ (k : ℕ). 2 ^ k) met.addr_width;
+        }
+
+-- the addresses of a memory have some bits
+pub memory_wide : (netlist : Netlist) (memory : Shape) → IsWellFormed netlist → IsShape netlist.storages memory → IsWidth memory.addr_width
+memory_wide netlist memory formed met = subst IsWidth met.addr_width (addr_wide netlist netlist.storages formed.storages met.one)
+
 -- what is found of a netlist with one code and one memory
 module _ (netlist : Netlist) (formed : IsWellFormed netlist) (code : Code) (one : length netlist.codes ≡ 1) (is : code ≡ get_or netlist.codes 0 code) (memory : Shape) (lone : lone_from None netlist.storages ≡ Some memory) where
   pub shape : IsShape netlist.storages memory
   shape = shape_of memory netlist.storages lone
 
   pub addr_bits : IsWidth memory.addr_width
-  addr_bits = subst IsWidth shape.addr_width (addr_wide netlist netlist.storages formed.storages shape.one)
+  addr_bits = memory_wide netlist memory formed shape
 
   named_counter : counter_of netlist.codes ≡ code.counter
   named_counter = counter_is netlist.codes code one is

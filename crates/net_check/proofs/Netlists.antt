@@ -3,6 +3,7 @@ use Rattle.std.proofs.Common.{◌≡◌, ℕ, ◌^◌, ◌<◌, List, [], ◌∷
 use mathlib.Core.Path.{fun_ext}
 use Rattle.std.specs.List.{AllByRecursion}
 use Rattle.std.proofs.lemmas.List.{length-map}
+use Rattle.net_model.proofs.ByEdition.{nets_within}
 use Rattle.net_model.specs.declared.hardware.Netlist.{Netlist}
 use Rattle.net_model.specs.declared.hardware.Net.{Net}
 use Rattle.net_model.specs.declared.hardware.Storage.{Storage}
@@ -77,7 +78,7 @@ module _ (netlist : Netlist) where
         rw (same_length, ap (λ (f : ℕ → List ℕ). f n) (named_is netlist graph e)) (net_in (slice_get netlist.nets n) (formed.nets n))
 
     pub short : length graph < 2 ^ 32
-    short = omega (arith, same_length, formed.limits.nets)
+    short = omega (arith, same_length, formed.limits.nets, nets_within netlist.edition)
 
     pub order_is : (order : List ℕ) → IsOrdering graph order → IsOrder netlist order
     order_is order o = record {

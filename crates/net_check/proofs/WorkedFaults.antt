@@ -86,6 +86,7 @@ module _ (enable : ℕ) where
     address = lit≤ tt;
     file = (refl, tt);
     mode = tt;
+    bank = tt;
   }
 
 -- the enable comes first, and the selector only where the enable is static
@@ -127,6 +128,7 @@ filed_roles size addr file = record {
   address = lit≤ tt;
   file = file;
   mode = tt;
+  bank = tt;
 }
 
 -- the file is written where the program counter says

@@ -22,7 +22,7 @@ looped_formed = record {
   nets = looped_nets;
   storages = tt;
   codes = tt;
-  mode = tt;
+  special = tt;
   limits = record { nets = lit≤ tt; registers = lit≤ tt; cells = tt; words = tt };
 }
 
@@ -51,6 +51,6 @@ module _ (sel enable : ℕ) (are : AreControls sel enable) where
     nets = small_nets;
     storages = (search rules, (((lit≤ tt, lit≤ tt), (lit≤ tt, lit≤ tt), ((lit< tt, refl), (lit< tt, refl), (are.enables, are.narrow))), tt));
     codes = search rules;
-    mode = tt;
+    special = tt;
     limits = record { nets = lit≤ tt; registers = lit≤ tt; cells = (tt, (lit≤ tt, tt)); words = (lit≤ tt, tt) };
   }

@@ -31,7 +31,7 @@ small sel enable = record {
   nets =
       net 2 10 (Word 0) ∷ net 2 20 (Reg 0) ∷ net 1 30 (Slice 0 0 0) ∷ net 1 40 (Slice 1 0 0) ∷ net 1 50 (Bin Lts 0 0)
       ∷ net 2 60 (Case sel ((0, 0) ∷ []) (Some 1)) ∷ [];
-  storages = Register (codes "PC") 2 5 None ∷ Memory (record { name = codes "M"; width = 2; size = 4; addr_width = 2; value = 0; addr = 0; when = Some enable }) ∷ [];
+  storages = Register (codes "PC") 2 5 None ∷ Memory (record { name = codes "M"; name_at = 0; width = 2; size = 4; addr_width = 2; value = 0; addr = 0; when = Some enable }) ∷ [];
   codes = record { name = codes "I"; bits = 2; words = 4; counter = 0 } ∷ [];
   edition = 1;
   special = None;
@@ -48,8 +48,8 @@ filed size addr = record {
   nets = net 2 10 (Word 0) ∷ net 2 20 (Reg 0) ∷ [];
   storages =
       Register (codes "PC") 2 0 None
-      ∷ File (record { name = codes "R"; width = 2; size = size; addr_width = 2; value = 0; addr = addr; when = None })
-      ∷ Memory (record { name = codes "M"; width = 2; size = 4; addr_width = 2; value = 0; addr = 0; when = None }) ∷ [];
+      ∷ File (record { name = codes "R"; name_at = 0; width = 2; size = size; addr_width = 2; value = 0; addr = addr; when = None })
+      ∷ Memory (record { name = codes "M"; name_at = 0; width = 2; size = 4; addr_width = 2; value = 0; addr = 0; when = None }) ∷ [];
   codes = record { name = codes "I"; bits = 2; words = 4; counter = 0 } ∷ [];
   edition = 2;
   special = None;

@@ -1,6 +1,7 @@
 // The check of what a netlist is in each of its modes.
 
-ghost use Rattle.std.specs.Prelude.{◌≡◌, IsTrue, MatchResult, None, is_some};
+ghost use Rattle.std.specs.Prelude.{◌≡◌, IsTrue, MatchResult, None, false, is_some};
+ghost use Rattle.net_model.specs.Editions.{is_banked};
 ghost use Rattle.net_model.specs.declared.fault.NetFault.{NetFault};
 ghost use Rattle.net_model.specs.CheckedRules.{IsWellFormed};
 ghost use Rattle.net_model.specs.ModeRules.{AcceptsModes, AreModesOf, KeepsModes, ModeFaultOf, RefusesModes};
@@ -27,6 +28,7 @@ fn check_alone(alloc: Global, netlist: Netlist) -> Result<Modes, CheckFault>
 // What a netlist with a mode is in each.
 fn bases(alloc: Global, netlist: &Netlist) -> Result<Items<Checked>, CheckFault>
     requires formed { IsWellFormed netlist.now }
+    requires plain { is_banked netlist.now.edition ≡ false }
     requires special { IsTrue (is_some netlist.now.special) }
     ensures { MatchResult result (AreModesOf netlist.now) (RefusesModes netlist.now) }
 {
@@ -38,15 +40,16 @@ fn bases(alloc: Global, netlist: &Netlist) -> Result<Items<Checked>, CheckFault>
     Ok(bases)
 }
 
-/// Accepts a netlist that keeps N5 to N9 and N14 in each of its modes, with what it is in them. It
-/// has to keep N1 to N4 and N11.
+/// Accepts a netlist without a bank that keeps N5 to N9 and N14 in each of its modes, with what it
+/// is in them. It has to keep N1 to N4 and N11.
 ///
 /// # Errors
 ///
 /// The first of the rules N5 to N9 and N14 that is broken in some mode, in this order, as `check`
 /// tells it of the first mode that breaks it. The netlist is given up. `Memory` is want of memory.
 pub fn check_modes(alloc: Global, netlist: Netlist) -> Result<Modes, CheckFault>
-    requires { IsWellFormed netlist }
+    requires formed { IsWellFormed netlist }
+    requires plain { is_banked netlist.edition ≡ false }
     ensures found { MatchResult result (AcceptsModes netlist) (RefusesModes netlist) }
     ensures accepted { KeepsModes netlist →
         MatchResult result (λ _. Unit {0}) (λ cause. cause ≡ CheckFault.Memory) }

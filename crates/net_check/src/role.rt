@@ -1,13 +1,13 @@
 // The parts that each processor has.
 
-ghost use Rattle.std.specs.Prelude.{◌≡◌, ◌≤◌, ◌↔◌, IsTrue, MatchOption, None, option_map, slice_get};
-ghost use Rattle.net_model.specs.CheckedRules.{HasFile, HasMode, HasRoles, IsCounter, IsAddressed, IsWellFormed, count_in, files_of};
+ghost use Rattle.std.specs.Prelude.{◌≡◌, ◌≤◌, ◌^◌, ◌↔◌, IsTrue, MatchOption, None, option_map, slice_get};
+ghost use Rattle.net_model.specs.CheckedRules.{HasBank, HasBankBeside, HasFile, HasFiles, HasMode, HasRoles, IsCounter, IsAddressed, IsWellFormed, count_in, files_of};
 ghost use Rattle.net_model.specs.declared.hardware.Space.TheVariants.{File as InFile};
 ghost use Rattle.net_model.specs.NetFaults.{LacksRole};
 ghost use Rattle.net_model.specs.Nets.{array_in, storage_bits};
-ghost use Rattle.net_check.specs.Inner.Roles.{lone_from, shape_of};
+ghost use Rattle.net_check.specs.Inner.Roles.{AreAlike, HasRoom, IsShape, IsShapedBeside, lone_from, shape_of};
 
-use net_model::{Cells, Netlist, Role, Space, Storage};
+use net_model::{Cells, Netlist, Role, Space, Storage, is_banked};
 use rec_bits::mask;
 
 // The most bits of a program counter.
@@ -18,6 +18,12 @@ const LEAST_SIZE: u32 = 1;
 
 // The edition whose netlists have a mode.
 const MODED: u8 = 3;
+
+// The most bits of the addresses of a memory that stands beside a bank.
+const BANKED_ADDR_BITS: u8 = 15;
+
+// How many bits more than an address a cell has beside a bank: one for both memories, and a sign.
+const BANKED_ROOM: u8 = 2;
 
 // The measures of a memory or a file.
 #[derive(Clone, Copy)]
@@ -37,7 +43,7 @@ fn shape_of(cells: &Cells) -> Shape
     }
 }
 
-// The register file, where there is one: the first.
+// The register file or the bank, where there is one: the first.
 fn file_shape(storages: &[Storage]) -> Option<Shape>
     ensures { result ≡ option_map shape_of (array_in InFile storages.now) }
 {
@@ -129,9 +135,9 @@ fn are_reached(words: u32, bits: u8, memory: Shape) -> bool
 }
 
 // Whether the netlist has as many files as its edition has, and an address reaches all cells.
-fn has_file(netlist: &Netlist) -> bool
+fn has_files(netlist: &Netlist) -> bool
     requires { IsWellFormed netlist.now }
-    ensures { IsTrue result ↔ HasFile netlist.now }
+    ensures { IsTrue result ↔ HasFiles netlist.now }
 {
     let storages = netlist.storages.as_slice();
     if count_files(storages) != files_of(netlist.edition) {
@@ -141,6 +147,74 @@ fn has_file(netlist: &Netlist) -> bool
         Some(shape) => is_reached(shape.size, shape.addr_width),
         None => true,
     }
+}
+
+// Whether the netlist has the file of its edition; a bank is none.
+fn has_file(netlist: &Netlist) -> bool
+    requires { IsWellFormed netlist.now }
+    ensures { IsTrue result ↔ HasFile netlist.now }
+{
+    is_banked(netlist.edition) || has_files(netlist)
+}
+
+// Whether so many bits reach just this many places.
+fn is_full(size: u32, bits: u8) -> bool
+    requires low { 1 ≤ bits }
+    requires high { bits ≤ 64 }
+    ensures { IsTrue result ↔ (size ≡ 2 ^ bits) }
+{
+    size >= LEAST_SIZE && u64::from(size - LEAST_SIZE) == mask(bits)
+}
+
+// Whether the cells of both are as wide, and named by as many bits.
+fn are_alike(bank: Shape, memory: Shape) -> bool
+    ensures { IsTrue result ↔ AreAlike bank memory }
+{
+    bank.width == memory.width && bank.addr_width == memory.addr_width
+}
+
+// Whether a cell has room for an address of both memories, and for a sign.
+fn has_room(memory: Shape) -> bool
+    ensures { IsTrue result ↔ HasRoom memory }
+{
+    memory.addr_width <= BANKED_ADDR_BITS && memory.addr_width + BANKED_ROOM <= memory.width
+}
+
+// Whether a bank of these measures may stand beside the memory.
+fn is_beside(bank: Shape, memory: Shape) -> bool
+    requires low { 1 ≤ memory.addr_width }
+    requires high { memory.addr_width ≤ 64 }
+    ensures { IsTrue result ↔ IsShapedBeside bank memory }
+{
+    if !are_alike(bank, memory) || !has_room(memory) {
+        return false;
+    }
+    is_reached(bank.size, memory.addr_width) && is_full(memory.size, memory.addr_width)
+}
+
+// Whether the only file is the bank, and stands so beside the memory.
+fn has_bank_beside(netlist: &Netlist, memory: Shape) -> bool
+    requires formed { IsWellFormed netlist.now }
+    requires memory { IsShape netlist.now.storages memory }
+    ensures { IsTrue result ↔ HasBankBeside netlist.now.storages netlist.now.special }
+{
+    let storages = netlist.storages.as_slice();
+    if netlist.special.is_none() || count_files(storages) != 1 {
+        return false;
+    }
+    match file_shape(storages) {
+        Some(bank) => is_beside(bank, memory),
+        None => false,
+    }
+}
+
+// Whether the netlist has a bank, where its edition has one.
+fn has_bank(netlist: &Netlist, memory: Shape) -> bool
+    requires formed { IsWellFormed netlist.now }
+    requires memory { IsShape netlist.now.storages memory }
+    ensures { IsTrue result ↔ HasBank netlist.now }
+{
+    !is_banked(netlist.edition) || has_bank_beside(netlist, memory)
 }
 
 // The first part that the netlist lacks.
@@ -168,6 +242,9 @@ pub(crate) fn lacking_role(netlist: &Netlist) -> Option<Role>
     }
     if !has_mode(netlist) {
         return Some(Role::Mode);
+    }
+    if !has_bank(netlist, memory) {
+        return Some(Role::Bank);
     }
     None
 }

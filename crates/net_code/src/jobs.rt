@@ -28,9 +28,9 @@ fn addr_bits(storage: Option<&Storage>) -> u8
     }
 }
 
-// The number of bits of an address of the data memory. What holds of a checked netlist is said
-// here.
-fn addr_width(checked: &Checked) -> u8
+/// The number of bits of an address of the data memory, 1 to 64. What holds of a checked netlist is
+/// said here.
+pub fn addr_width(checked: &Checked) -> u8
     ensures width { result ≡ memory_addr_width checked.now.netlist.storages }
     ensures rules { KeepsRules checked.now.netlist checked.now.order }
 {

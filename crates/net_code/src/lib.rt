@@ -62,4 +62,4 @@ pub use covers::chosen_cover;
 pub use fault::CodeFault;
 pub use forms::{only_control, usable_forms};
 pub use image::image_of;
-pub use jobs::blocks_of;
+pub use jobs::{addr_width, blocks_of};

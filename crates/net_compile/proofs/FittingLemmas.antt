@@ -4,11 +4,12 @@ use Rattle.std.specs.List.{AllByRecursion}
 use Rattle.net_model.specs.declared.hardware.Code.{Code}
 use Rattle.net_model.specs.declared.hardware.Netlist.{Netlist}
 use Rattle.net_model.specs.declared.hardware.Storage.{Storage}
-use Rattle.net_model.specs.declared.hardware.Storage.TheVariants.{Register, Memory, File}
-use Rattle.net_model.specs.CheckedRules.{CodeKeeps, HasFewCells}
+use Rattle.net_model.specs.declared.hardware.Space.TheVariants.{Memory as InMemory}
+use Rattle.net_model.specs.CheckedRules.{CodeKeeps}
 use Rattle.net_model.specs.ModeRules.{base_at, KeepsModes}
 use Rattle.net_model.specs.Nets.{memory_size}
 use Rattle.net_model.proofs.Bases.{base_of}
+use Rattle.net_model.proofs.Memories.{few_sizes}
 use Rattle.net_model.proofs.ModeFaults.{first_keeps}
 use Rattle.src_model.specs.declared.program.Var.{Var as Declared}
 use Rattle.src_model.specs.Meaning.{cells_in}
@@ -28,13 +29,6 @@ few_bits : (netlist : Netlist) (codes : List Code) → AllByRecursion (CodeKeeps
 few_bits netlist [] keeps = omega arith
 few_bits netlist (code ∷ codes) keeps = keeps.0.0.1
 
--- a data memory has at most 65,536 cells
-few_cells : (storages : List Storage) → AllByRecursion HasFewCells storages → memory_size storages ≤ 65536
-few_cells [] few = omega arith
-few_cells (Register name width input when ∷ storages) few = few_cells storages few.1
-few_cells (Memory cells ∷ storages) few = few.0
-few_cells (File cells ∷ storages) few = few_cells storages few.1
-
 -- the same of a netlist that keeps its rules in its modes
 pub few_code_bits : (netlist : Netlist) → KeepsModes netlist → (limits_of netlist).bits ≤ 64
 few_code_bits netlist keeps =
@@ -43,8 +37,9 @@ few_code_bits netlist keeps =
 
 pub few_data_cells : (netlist : Netlist) → KeepsModes netlist → memory_size netlist.storages ≤ 65536
 few_data_cells netlist keeps =
+    let first = first_keeps netlist keeps in
     subst (λ (list : List Storage). memory_size list ≤ 65536) (base_of netlist netlist.special 0).storages
-    (few_cells (base_at netlist 0).storages (first_keeps netlist keeps).rules.formed.limits.cells)
+    (few_sizes (base_at netlist 0) first.order first.rules InMemory)
 
 -- places that lie in a memory begin and end in it
 apart_within : (from end : ℕ) (places : List Place) → Apart from places end → from ≤ end

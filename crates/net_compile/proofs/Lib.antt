@@ -1,2 +1,2 @@
 pub mod TaskLemmas
-mod FittingLemmas
+pub mod FittingLemmas

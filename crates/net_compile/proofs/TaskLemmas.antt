@@ -2,9 +2,10 @@
 use Rattle.std.proofs.Common.{◌≡◌, ℕ, List, ap, refl, sym, ◌∙◌, subst, arith}
 use Rattle.net_model.specs.declared.hardware.Netlist.{Netlist}
 use Rattle.net_model.specs.ModeRules.{Moded}
-use Rattle.net_model.specs.Elaborated.{netlist_of}
 use Rattle.net_model.specs.Nets.{memory_size, memory_width}
-use Rattle.net_extract.specs.Extracts.{IsRoutedModes}
+use Rattle.net_front.specs.Fronts.{taken_of}
+use Rattle.net_extract.specs.Taken.{IsTakenModes}
+use Rattle.net_extract.proofs.RoutedTaken.{file_of_modes}
 use Rattle.src_model.specs.declared.fault.SrcFault.{SrcFault}
 use Rattle.src_model.specs.declared.typed.Typed.{Typed}
 use Rattle.src_model.specs.Written.{Listing, listing_of}
@@ -23,7 +24,7 @@ use Rattle.net_code.specs.declared.fault.CodeFault.{CodeFault}
 use Rattle.net_code.specs.declared.fault.CodeFault.TheVariants.{NoStep as Stepless, NoJump as Jumpless, NoCover as Uncovered, NoReach as Beyond, ImageFull as Overlong, Memory as CodeMemory}
 use Rattle.net_compile.specs.Code.{IsDataFull, IsCode, IsPlaceFault, IsTaskFault, IsWithin, HasRoom, FailsWith}
 use Rattle.net_compile.specs.Compiled.{HasNet, IsCompiled, BreaksSrc, IsCompileFault, IsSrcFault}
-use Rattle.net_compile.specs.Tasks.{IsTask, TaskHolds, data_width}
+use Rattle.net_compile.specs.Tasks.{IsTask, TaskHolds, compiled_edition, data_width}
 use Rattle.net_compile.specs.Inner.Faults.{bind_fault, code_fault}
 use Rattle.net_compile.specs.declared.fault.CompileFault.{CompileFault}
 use Rattle.net_compile.specs.declared.fault.CompileFault.TheVariants.{NetText, Net, SrcText, Src, DataFull, NoStep, NoJump, NoCover, NoReach, ImageFull, Memory}
@@ -57,15 +58,15 @@ fault_of_places task (ImageFull len size bound) h = absurd h
 fault_of_places task Memory h = tt
 
 -- why the program's bytes were not taken for a netlist that was read
-pub fault_of_program : (net src : List ℕ) (modes : Moded) (width : ℕ) → IsRoutedModes net modes → width ≡ memory_width modes.netlist.storages → (fault : CompileFault) →
+pub fault_of_program : (net src : List ℕ) (modes : Moded) (width : ℕ) → IsTakenModes compiled_edition net modes → width ≡ memory_width modes.netlist.storages → (fault : CompileFault) →
     IsSrcFault src width fault → IsCompileFault net src fault
 fault_of_program net src modes width read wide (NetText at) h = absurd h
 fault_of_program net src modes width read wide (Net fault) h = absurd h
-fault_of_program net src modes width read wide (SrcText at) h = (record { entries = read.entries; file = read.file }, h)
+fault_of_program net src modes width read wide (SrcText at) h = (record { entries = read.routed.entries; file = file_of_modes compiled_edition net modes read }, h)
 fault_of_program net src modes width read wide (Src fault) h = record {
-  entries = read.entries;
-  net_file = read.file;
-  breaks = subst (λ (n : ℕ). BreaksSrcRule src n fault) (wide ∙ ap (λ (n : Netlist). memory_width n.storages) read.netlist.netlist) h;
+  entries = read.routed.entries;
+  net_file = file_of_modes compiled_edition net modes read;
+  breaks = subst (λ (n : ℕ). BreaksSrcRule src n fault) (wide ∙ ap (λ (n : Netlist). memory_width n.storages) read.routed.netlist.netlist) h;
 }
 fault_of_program net src modes width read wide (DataFull need have) h = absurd h
 fault_of_program net src modes width read wide NoStep h = absurd h
@@ -84,9 +85,9 @@ same_task n m w v l k e f g =
 module _ (net src : List ℕ) where
   one_task : (a b : Task) → IsTask net src a → IsTask net src b → a ≡ b
   one_task a b p q =
-      let e : p.entries ≡ q.entries = p.net_file.file.says.only q.entries q.net_file.file.says.text in
+      let e : p.entries ≡ q.entries = p.net_file.file.file.says.only q.entries q.net_file.file.file.says.text in
       p.row
-      ∙ same_task a.netlist b.netlist a.width b.width a.listing b.listing (p.netlist ∙ (ap netlist_of e ∙ sym q.netlist)) (p.width ∙ (ap data_width e ∙ sym q.width))
+      ∙ same_task a.netlist b.netlist a.width b.width a.listing b.listing (p.netlist ∙ (ap taken_of e ∙ sym q.netlist)) (p.width ∙ (ap data_width e ∙ sym q.width))
       (p.src_file.says.only b.listing q.src_file.says.text)
       ∙ sym q.row
 
@@ -101,11 +102,11 @@ module _ (net src : List ℕ) where
   pub one_broken : (fault later : SrcFault) → BreaksSrc net src fault → BreaksSrc net src later → fault ≡ later
   one_broken fault later a b =
       one_broken_rule src (data_width a.entries) fault later a.breaks
-      (subst (λ e. BreaksSrcRule src (data_width e) later) (b.net_file.file.says.only a.entries a.net_file.file.says.text) b.breaks)
+      (subst (λ e. BreaksSrcRule src (data_width e) later) (b.net_file.file.file.says.only a.entries a.net_file.file.file.says.text) b.breaks)
 
   pub none_broken : (P : Property) (fault : SrcFault) → TaskHolds net src P → BreaksSrc net src fault → ⊥
   none_broken P fault h b =
-      let e : b.entries ≡ h.is.entries = b.net_file.file.says.only h.is.entries h.is.net_file.file.says.text in
+      let e : b.entries ≡ h.is.entries = b.net_file.file.file.says.only h.is.entries h.is.net_file.file.file.says.text in
       no_broken_rule src h.task.width h.task.listing fault h.is.src_file
       (subst (λ n. BreaksSrcRule src n fault) (ap data_width e ∙ sym h.is.width) b.breaks)
 
@@ -162,15 +163,15 @@ module _ (net src : List ℕ) where
 
 -- ---- from what was read to the texts
 
-module _ (net src : List ℕ) (modes : Moded) (typed : Typed) (read : IsRoutedModes net modes) (wide : typed.width ≡ memory_width modes.netlist.storages)
+module _ (net src : List ℕ) (modes : Moded) (typed : Typed) (read : IsTakenModes compiled_edition net modes) (wide : typed.width ≡ memory_width modes.netlist.storages)
     (file : IsSrcFile src typed.width (listing_of typed.program)) where
   -- the task of what was read is that of the two texts
   is_task : IsTask net src (read_task modes typed)
   is_task = record {
-    entries = read.entries;
-    net_file = read.file;
-    netlist = read.netlist.netlist;
-    width = wide ∙ ap (λ (n : Netlist). memory_width n.storages) read.netlist.netlist;
+    entries = read.routed.entries;
+    net_file = file_of_modes compiled_edition net modes read;
+    netlist = read.routed.netlist.netlist;
+    width = wide ∙ ap (λ (n : Netlist). memory_width n.storages) read.routed.netlist.netlist;
     src_file = file;
     row = refl;
   }

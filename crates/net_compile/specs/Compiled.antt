@@ -2,21 +2,21 @@
 use Rattle.std.specs.Prelude.{ℕ, List}
 use Rattle.net_model.specs.Written.{Text}
 use Rattle.net_parser.specs.Texts.{IsNoNetText}
-use Rattle.net_extract.specs.Extracts.{IsRoutedFile, BreaksAnyRule}
+use Rattle.net_extract.specs.Taken.{BreaksAnyTaken, IsRoutedTaken}
 use Rattle.src_model.specs.declared.fault.SrcFault.{SrcFault}
 use Rattle.src_parser.specs.Texts.{IsNoSrcText}
 use Rattle.src_front.specs.Fronts.{BreaksSrcRule}
 use Rattle.net_compile.specs.Code.{IsCode, FailsWith}
-use Rattle.net_compile.specs.Tasks.{TaskHolds, data_width}
+use Rattle.net_compile.specs.Tasks.{TaskHolds, compiled_edition, data_width}
 use Rattle.net_compile.specs.declared.fault.CompileFault.{CompileFault}
 use Rattle.net_compile.specs.declared.fault.CompileFault.TheVariants.{NetText, Net, SrcText, Src, Memory}
 
 -- ---- texts
 
--- the bytes are a netlist's that keeps all rules
+-- the bytes are a netlist's that keeps all rules, for which code is made
 pub record HasNet (net : List ℕ) : Type 0 where
   pub entries : Text
-  pub file : IsRoutedFile net entries
+  pub file : IsRoutedTaken compiled_edition net entries
 
 -- the third bytes are read as an image that is right code for the program of the second on the
 -- netlist of the first
@@ -29,13 +29,13 @@ IsCompiled net src out = TaskHolds net src (IsCode out)
 -- for its words
 pub record BreaksSrc (net src : List ℕ) (fault : SrcFault) : Type 0 where
   pub entries : Text
-  pub net_file : IsRoutedFile net entries
+  pub net_file : IsRoutedTaken compiled_edition net entries
   pub breaks : BreaksSrcRule src (data_width entries) fault
 
 -- why the netlist's bytes were not taken
 abbrev pub IsNetFault : List ℕ → CompileFault → Type 0
 IsNetFault net (NetText at) = IsNoNetText net at
-IsNetFault net (Net fault) = BreaksAnyRule net fault
+IsNetFault net (Net fault) = BreaksAnyTaken compiled_edition net fault
 IsNetFault net Memory = Unit {0}
 IsNetFault net _ = ⊥
 
@@ -49,7 +49,7 @@ IsSrcFault src width _ = ⊥
 -- when each refusal comes; nothing is said where memory ran out
 abbrev pub IsCompileFault : List ℕ → List ℕ → CompileFault → Type 0
 IsCompileFault net src (NetText at) = IsNoNetText net at
-IsCompileFault net src (Net fault) = BreaksAnyRule net fault
+IsCompileFault net src (Net fault) = BreaksAnyTaken compiled_edition net fault
 IsCompileFault net src (SrcText at) = HasNet net × IsNoSrcText src at
 IsCompileFault net src (Src fault) = BreaksSrc net src fault
 IsCompileFault net src Memory = Unit {0}

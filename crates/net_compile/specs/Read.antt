@@ -1,17 +1,18 @@
 -- A program that was read and compiled.
 use Rattle.std.specs.Prelude.{ℕ, ◌≡◌, List}
 use Rattle.net_model.specs.Nets.{memory_width}
-use Rattle.net_extract.specs.Extracts.{IsRoutedModes}
+use Rattle.net_extract.specs.Taken.{IsTakenModes}
 use Rattle.src_model.specs.Written.{listing_of}
 use Rattle.src_front.specs.Fronts.{IsSrcFile}
 use Rattle.right_code.specs.Tasks.{read_task}
 use Rattle.net_compile.specs.Code.{IsRightFor}
+use Rattle.net_compile.specs.Tasks.{compiled_edition}
 use Rattle.net_compile.specs.declared.compiler.Compiled.{Compiled}
 
 -- the netlist is that of the first bytes, which keeps all rules, the program that of the second for
 -- its words, and the image is right code for them
 pub record IsCompiledTo (net src : List ℕ) (compiled : Compiled) : Type 0 where
-  pub net_file : IsRoutedModes net compiled.modes
+  pub net_file : IsTakenModes compiled_edition net compiled.modes
   pub src_file : IsSrcFile src compiled.typed.width (listing_of compiled.typed.program)
   pub width : compiled.typed.width ≡ memory_width compiled.modes.netlist.storages
   pub image : IsRightFor compiled.image (read_task compiled.modes compiled.typed)

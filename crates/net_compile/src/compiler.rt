@@ -5,7 +5,7 @@ ghost use Rattle.std.specs.List.{AllByRecursion};
 ghost use Rattle.net_model.specs.ModeRules.{KeepsModes};
 ghost use Rattle.net_model.specs.Nets.{memory_size, memory_width};
 ghost use Rattle.net_extract.specs.Extraction.{AreIsas};
-ghost use Rattle.net_extract.specs.Extracts.{IsRoutedModes};
+ghost use Rattle.net_extract.specs.Taken.{IsTakenModes};
 ghost use Rattle.src_model.specs.Rules.{first_fault};
 ghost use Rattle.src_model.specs.Written.{listing_of};
 ghost use Rattle.src_front.specs.Fronts.{AreNamed, IsSrcFile};
@@ -17,6 +17,7 @@ ghost use Rattle.right_code.specs.Tasks.{read_task};
 ghost use Rattle.net_compile.specs.Code.{HasRoom, IsPlaceFault, IsRightFor, IsTaskFault};
 ghost use Rattle.net_compile.specs.Read.{IsCompiledTo};
 ghost use Rattle.net_compile.specs.Compiled.{IsCompiled, IsCompileFault, IsNetFault, IsSrcFault};
+ghost use Rattle.net_compile.specs.Tasks.{compiled_edition};
 ghost use Rattle.net_compile.specs.declared.fault.CompileFault.{CompileFault};
 
 use crate::fault::CompileFault;
@@ -30,15 +31,19 @@ use src_front::read_src;
 use src_model::Typed;
 use std::alloc::Global;
 
+// The newest edition of the netlist texts for which programs are compiled: those of a later one have
+// a bank.
+const NEWEST: u8 = 3;
+
 /// The netlist that `net` is, which keeps all rules, in its modes, and what is extracted from each.
 /// The refusals are the first two, and want of memory.
 pub fn netlist(alloc: Global, net: &[u8]) -> Result<(Modes, Items<Isa>), CompileFault>
     requires { length net.now < 2 ^ 32 }
-    ensures found { IfOk result (λ both. IsRoutedModes net.now both.0) }
+    ensures found { IfOk result (λ both. IsTakenModes compiled_edition net.now both.0) }
     ensures isas { IfOk result (λ both. AreIsas both.0.bases both.1) }
     ensures refused { IfErr result (IsNetFault net.now) }
 {
-    let both = read_extracted(alloc, net)?;
+    let both = read_extracted(alloc, net, NEWEST)?;
     Ok(both)
 }
 
@@ -79,8 +84,8 @@ pub struct Compiled {
     pub image: Image,
 }
 
-// The text of an image that fits the netlist.
-fn text(alloc: Global, modes: &Modes, image: &Image) -> Result<Vec<u8>, NoMemory>
+/// The text of an image that fits the netlist. The only error is want of memory.
+pub fn text(alloc: Global, modes: &Modes, image: &Image) -> Result<Vec<u8>, NoMemory>
     requires rules { KeepsModes modes.now.netlist }
     requires fits { IsFitting (limits_of modes.now.netlist) image.now }
     ensures { IfOk result (λ text. IsImageText (limits_of modes.now.netlist) text.items image.now) }

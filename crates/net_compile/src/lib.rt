@@ -22,5 +22,5 @@
 mod compiler;
 mod fault;
 
-pub use compiler::{Compiled, compile, image_for, netlist, places, program, read_compiled};
+pub use compiler::{Compiled, compile, image_for, netlist, places, program, read_compiled, text};
 pub use fault::CompileFault;

@@ -23,14 +23,14 @@ use Rattle.net_model.specs.Written.{Entry, code, register, memory, net, bus, mod
 use Rattle.net_model.specs.TextNames.{item_named, Scope, in_text}
 use Rattle.rec_bits.specs.Faults.{same_name}
 use Rattle.net_model.specs.TextWidths.{is_width, ports_of}
-use Rattle.net_model.specs.Elaborable.{DriverFeeds, FeedsIf, IsBound, IsDriven, IsElaborable, IsRegisterItem, ItemKeeps, PortFed, PortKeeps}
+use Rattle.net_model.specs.Elaborable.{DriverFeeds, FeedsIf, IsBound, IsDriven, IsElaborable, IsFewIn, IsRegisterItem, IsSmall, ItemKeeps, PortFed, PortKeeps}
 use Rattle.net_model.specs.DriverRules.{covers, covers_binding, covers_driver, covers_if, drives_once}
-use Rattle.net_model.specs.LimitRules.{count_register, count_registers}
+use Rattle.net_model.specs.LimitRules.{count_register, count_registers, most_cells}
 use Rattle.net_model.specs.Numbering.{NetSite, of_text, scope_at, bound, count, count_equation, count_input, count_inputs, count_outputs, count_item, count_storages, equations_of, storage_named}
 use Rattle.net_model.specs.Elaborated.{bound_out, codes_from, count_codes, elaborated_drivers, driver_pairs, equation_nets, equations_nets, input_nets, inputs_nets, inside, item_codes, item_nets, item_storages, nets_from, nets_if, elaborated, netlist_in, out_if, out_of, output_wire, output_wires, plain_net, storage_in, storages_from}
 use Rattle.net_elab.proofs.Standing.{Stands, stands_left, stands_right, length_equation, length_input, length_items, length_nets}
 use Rattle.net_elab.proofs.ItemNames.{names_differ}
-use Rattle.net_elab.proofs.LoneMode.{mode_is}
+use Rattle.net_elab.proofs.LoneMode.{special_is}
 use Rattle.rec_bits.proofs.Booleans.{and_left, and_right}
 use Rattle.rec_bits.proofs.Lists.{all_append}
 use Rattle.net_elab.proofs.Kept.{SiteSound, keeps, out_has, width_range}
@@ -303,22 +303,23 @@ module _ (edition : ℕ) (text : List Entry) (keep : IsElaborable text) where
   below_size : (size : ℕ) → IsTrue (nat_le size 65536) → size ≤ 65536
   below_size size h = grind (arith, nat_tests)
 
-  below_32 : (size : ℕ) → IsTrue (nat_le size 32) → size ≤ 32
-  below_32 size h = grind (arith, nat_tests)
+  below_most : (space : Space) (size : ℕ) → IsTrue (nat_le size (most_cells edition space)) → size ≤ most_cells edition space
+  below_most space size h = grind (arith, nat_tests)
 
-  cells_few : (e : Entry) (start : ℕ) → ItemKeeps text e → AllByRecursion HasFewCells (item_storages text start e)
+  cells_few : (e : Entry) (start : ℕ) → ((space : Space) → IsSmall edition space e) → AllByRecursion (HasFewCells edition) (item_storages text start e)
   cells_few (code name bits size counter) start k = tt
   cells_few (register kind name width input when) start k = (tt, tt)
-  cells_few (memory InMemory name width size addr_width value addr when) start k = (below_size size k.2, tt)
-  cells_few (memory InFile name width size addr_width value addr when) start k = (below_32 size k.2, tt)
+  cells_few (memory InMemory name width size addr_width value addr when) start k = (below_most InMemory size (k InMemory), tt)
+  cells_few (memory InFile name width size addr_width value addr when) start k = (below_most InFile size (k InFile), tt)
   cells_few (net name width value) start k = tt
   cells_few (bus name width drivers) start k = tt
   cells_few (module_item name ports equations) start k = tt
   cells_few (part name of links) start k = tt
 
-  all_cells : (entries : List Entry) (start : ℕ) → AllByRecursion (ItemKeeps text) entries → AllByRecursion HasFewCells (storages_from text start entries)
+  all_cells : (entries : List Entry) (start : ℕ) → ((space : Space) → AllByRecursion (IsSmall edition space) entries) → AllByRecursion (HasFewCells edition) (storages_from text start entries)
   all_cells [] start k = tt
-  all_cells (e ∷ entries) start k = all_append HasFewCells (item_storages text start e) _ (cells_few e start k.0) (all_cells entries (start + count_item text e) k.1)
+  all_cells (e ∷ entries) start k =
+      all_append (HasFewCells edition) (item_storages text start e) _ (cells_few e start (λ space. (k space).0)) (all_cells entries (start + count_item text e) (λ space. (k space).1))
 
   abbrev HasFewWords : Code → Type 0
   HasFewWords made = made.words ≤ 65536
@@ -358,24 +359,24 @@ module _ (edition : ℕ) (text : List Entry) (keep : IsElaborable text) where
       let r = all_registers entries (start + count_item text e) in
       omega (arith, registers_append (item_storages text start e) (storages_from text (start + count_item text e) entries), item_registers e start)
 
-  within_limits : IsWithinLimits (netlist_in edition text)
-  within_limits = record {
-    nets = omega (arith, length_items text 0 0 0 text, keep.few_nets);
+  within_limits : IsFewIn edition text → IsWithinLimits (netlist_in edition text)
+  within_limits few = record {
+    nets = omega (arith, length_items text 0 0 0 text, few.nets);
     registers = omega (arith, all_registers text 0, keep.few_registers);
-    cells = all_cells text 0 keep.items;
+    cells = all_cells text 0 few.cells;
     words = all_words text keep.items;
   }
 
-  pub formed : IsWellFormed (netlist_in edition text)
-  formed =
+  pub formed : IsFewIn edition text → IsWellFormed (netlist_in edition text)
+  formed few =
       let a = all_formed text 0 0 0 keep.items keep.driven (all_located edition text keep) in
       record {
         names = names_differ edition text keep.names;
         nets = net_at (nets_from text 0 0 0 text) a.nets_keep;
         storages = a.storages_keep;
         codes = a.codes_keep;
-        mode = mode_is text edition;
-        limits = within_limits;
+        special = special_is text edition;
+        limits = within_limits few;
       }
 
 -- ---- answers that are the netlist of a text, where the text is seen as another that is the same
@@ -384,6 +385,6 @@ pub answer_same : {E : Type 0} (edition : ℕ) (text seen : List Entry) → seen
 answer_same edition text seen same (Ok made) is = is ∙ ap (netlist_in edition) same
 answer_same edition text seen same (Err e) is = tt
 
-pub answer_formed : {E : Type 0} (edition : ℕ) (text seen : List Entry) → IsElaborable text → seen ≡ text → (r : Result Netlist E) → IfOk r (λ made. made ≡ netlist_in edition seen) → IfOk r IsWellFormed
-answer_formed edition text seen keep same (Ok made) is = subst IsWellFormed (sym (is ∙ ap (netlist_in edition) same)) (formed edition text keep)
-answer_formed edition text seen keep same (Err e) is = tt
+pub answer_formed : {E : Type 0} (edition : ℕ) (text seen : List Entry) → IsElaborable text → IsFewIn edition text → seen ≡ text → (r : Result Netlist E) → IfOk r (λ made. made ≡ netlist_in edition seen) → IfOk r IsWellFormed
+answer_formed edition text seen keep few same (Ok made) is = subst IsWellFormed (sym (is ∙ ap (netlist_in edition) same)) (formed edition text keep few)
+answer_formed edition text seen keep few same (Err e) is = tt

@@ -1,17 +1,19 @@
--- The mode of a text's netlist is a register of 2 bits at most.
-use Rattle.std.proofs.Common.{ℕ, zero, suc, ◌≡◌, ◌+◌, ◌≤◌, ◌==◌, Bool, true, false, if◌then◌else◌, List, [], ◌∷◌, ◌++◌, length, Option, Some, None, slice_get, refl, sym, ap, ◌∙◌, subst, arith, IsTrue, nat_le, append_assoc, length-append}
+-- The mode of a text's netlist is a register of 2 bits at most, and its bank a file.
+use Rattle.std.proofs.Common.{ℕ, ◌≡◌, ◌+◌, ◌≤◌, Bool, true, false, if◌then◌else◌, List, [], ◌∷◌, ◌++◌, length, Option, Some, None, slice_get, refl, sym, ap, subst, arith, nat_le, eqb-true, append_assoc, length-append}
 use Rattle.std.specs.List.{AllByRecursion}
 use Rattle.std.proofs.lemmas.Bool.Decides.{nat_tests}
 use Rattle.rec_bits.proofs.Lists.{all_append}
 use Rattle.net_model.specs.declared.hardware.Storage.{Storage}
-use Rattle.net_model.specs.declared.hardware.Storage.TheVariants.{Register}
+use Rattle.net_model.specs.declared.hardware.Storage.TheVariants.{Register, File}
+use Rattle.net_model.specs.declared.hardware.Cells.{Cells}
+use Rattle.net_model.specs.declared.hardware.Space.TheVariants.{Memory as InMemory, File as InFile}
 use Rattle.net_model.specs.declared.units.RegisterKind.TheVariants.{Plain, Mode as AsMode}
-use Rattle.net_model.specs.Editions.{is_moded}
-use Rattle.net_model.specs.Nets.{IsRegister, storage_bits}
-use Rattle.net_model.specs.CheckedRules.{IsMode}
+use Rattle.net_model.specs.Editions.{is_banked, is_moded}
+use Rattle.net_model.specs.Nets.{HasCells, IsRegister, storage_bits}
+use Rattle.net_model.specs.CheckedRules.{IsBank, IsMode, IsSpecial, IsSpecialIf}
 use Rattle.net_model.specs.Written.{Entry, code, register, memory, net, bus, module_item, part}
 use Rattle.net_model.specs.Numbering.{count_item, count_storages}
-use Rattle.net_model.specs.Elaborated.{item_storages, lone_mode, modes_from, netlist_in, own_modes, special_in, storages_from}
+use Rattle.net_model.specs.Elaborated.{files_from, item_storages, lone_bank, lone_mode, modes_from, netlist_in, own_files, own_modes, storages_from}
 use Rattle.net_elab.proofs.Standing.{length_stored}
 
 -- the register of this number in a list has this width
@@ -64,9 +66,45 @@ module _ (text : List Entry) where
           narrow w e k is = let small : w ≤ 2 = grind (arith, nat_tests) in omega (arith, small, is)
       by false e = tt
 
-  pub mode_is : (edition : ℕ) → IsMode (netlist_in edition text) (special_in edition text)
-  mode_is edition = by (is_moded edition)
+  -- each file among items is a file
+  file_at : (before rest : List Storage) (cells : Cells) (n : ℕ) → length before ≡ n → HasCells InFile (slice_get (before ++ File cells ∷ rest) n)
+  file_at before rest cells n is =
+      subst (λ (k : ℕ). HasCells InFile (slice_get (before ++ File cells ∷ rest) k)) is (subst (HasCells InFile) (sym (at_end before rest (File cells))) tt)
+
+  own_filed : (before rest : List Storage) (start n : ℕ) (e : Entry) → length before ≡ n
+      → AllByRecursion (λ (id : ℕ). HasCells InFile (slice_get (before ++ (item_storages text start e ++ rest)) id)) (own_files n e)
+  own_filed before rest start n (memory InFile name width size addr_width value addr when) is = (file_at before rest _ n is, tt)
+  own_filed before rest start n (memory InMemory name width size addr_width value addr when) is = tt
+  own_filed before rest start n (register kind name width input when) is = tt
+  own_filed before rest start n (code name bits size counter) is = tt
+  own_filed before rest start n (net name width value) is = tt
+  own_filed before rest start n (bus name width drivers) is = tt
+  own_filed before rest start n (module_item name ports equations) is = tt
+  own_filed before rest start n (part name of links) is = tt
+
+  all_filed : (before : List Storage) (start n : ℕ) (entries : List Entry) → length before ≡ n
+      → AllByRecursion (λ (id : ℕ). HasCells InFile (slice_get (before ++ storages_from text start entries) id)) (files_from n entries)
+  all_filed before start n [] is = tt
+  all_filed before start n (e ∷ entries) is =
+      let rest = storages_from text (start + count_item text e) entries in
+      let own = item_storages text start e in
+      let more : length (before ++ own) ≡ n + count_storages e = omega (arith, is, length-append before own, length_stored text start e) in
+      all_append (λ (id : ℕ). HasCells InFile (slice_get (before ++ (own ++ rest)) id)) (own_files n e) (files_from (n + count_storages e) entries)
+      (own_filed before rest start n e is)
+      (subst (λ (list : List Storage). AllByRecursion (λ (id : ℕ). HasCells InFile (slice_get list id)) (files_from (n + count_storages e) entries)) (append_assoc before own rest)
+      (all_filed (before ++ own) (start + count_item text e) (n + count_storages e) entries more))
+
+  lone_filed : (edition : ℕ) (files : List ℕ) → AllByRecursion (λ (id : ℕ). HasCells InFile (slice_get (storages_from text 0 text) id)) files → IsBank (netlist_in edition text) (lone_bank files)
+  lone_filed edition [] h = tt
+  lone_filed edition (file ∷ other ∷ files) h = tt
+  lone_filed edition (file ∷ []) h = h.0
+
+  pub special_is : (edition : ℕ) → IsSpecial (netlist_in edition text)
+  special_is edition = by (is_moded edition) refl (is_banked edition) refl
     where
-      by : (b : Bool) → IsMode (netlist_in edition text) (if b then lone_mode (modes_from 0 text) else None)
-      by true = lone_is edition (modes_from 0 text) (all_wide [] 0 0 text refl)
-      by false = tt
+      by : (b : Bool) → is_moded edition ≡ b → (f : Bool) → is_banked edition ≡ f
+          → IsSpecialIf f (netlist_in edition text) (if b then lone_mode (modes_from 0 text) else if f then lone_bank (files_from 0 text) else None)
+      by true moded true banked = absurd (omega (arith, eqb-true edition 3 moded, eqb-true edition 4 banked))
+      by true moded false banked = lone_is edition (modes_from 0 text) (all_wide [] 0 0 text refl)
+      by false moded true banked = lone_filed edition (files_from 0 text) (all_filed [] 0 0 text refl)
+      by false moded false banked = tt

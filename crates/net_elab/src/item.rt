@@ -140,6 +140,7 @@ fn emit_memory(
     let when = emit_if(alloc, &site, nets, name.at, write.when.as_ref())?;
     let cells = Cells {
         name: copy_of(alloc, name)?,
+        name_at: name.at,
         width: shape.width as u8,
         size: shape.size as u32,
         addr_width: shape.addr_width as u8,

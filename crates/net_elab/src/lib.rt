@@ -1,9 +1,9 @@
 //! Netlist texts, elaborated: the netlist that the items of a text say.
 //!
-//! Promise: `elaborate` gives, for a text whose items keep N1 to N4 and N11 (`IsElaborable`),
-//! exactly the netlist that it says, of its edition, net by net, modules and parts included
-//! (`exact`: `netlist_of`), and that netlist keeps these rules said of a netlist alone (`formed`:
-//! `IsWellFormed`).
+//! Promise: `elaborate` gives, for a text whose items keep N1 to N4 and N11 (`IsElaborable`, and
+//! `IsFewIn` for the limits that its edition asks for), exactly the netlist that it says, of its
+//! edition, net by net, modules and parts included (`exact`: `netlist_of`), and that netlist keeps
+//! these rules said of a netlist alone (`formed`: `IsWellFormed`).
 //!
 //! Invariant: nets are numbered before any is made (`IsNumbered`), so that a name may stand for a
 //! net that comes later. What is emitted for an expression stands at the end of the list of nets,
@@ -15,7 +15,7 @@
 //! - `count`: how many nets an expression and a part give.
 //! - `numbers`: the last net of each item, its storage, and the wires of its ports, for the whole
 //!   text.
-//! - `modes`: the register that is the mode of a text.
+//! - `modes`: the register that is the mode of a text, or the file that is its bank.
 //! - `site`: what names stand for where an expression stands: among the items, or in a part.
 //! - `expression`, `part`, `item`: the nets of expressions, of the parts of modules, and of items.
 //! - `whole`: `elaborate`, item by item.

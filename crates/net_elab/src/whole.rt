@@ -2,7 +2,7 @@
 
 ghost use Rattle.std.specs.Prelude.{◌≡◌, IfOk, map};
 ghost use Rattle.net_model.specs.CheckedRules.{IsWellFormed};
-ghost use Rattle.net_model.specs.Elaborable.{IsElaborable};
+ghost use Rattle.net_model.specs.Elaborable.{IsElaborable, IsFewIn};
 ghost use Rattle.net_model.specs.Elaborated.{netlist_in, netlist_of};
 ghost use Rattle.net_model.specs.Written.{entry_of, text_of};
 
@@ -45,6 +45,7 @@ fn emit_items(alloc: Global, edition: u8, text: &Text) -> Result<Netlist, NoMemo
 pub fn elaborate(alloc: Global, units: &Units, names: &Names) -> Result<Netlist, NoMemory>
     requires names { names.now ≡ units.now.items }
     requires keeps { IsElaborable (map entry_of units.now.items) }
+    requires few { IsFewIn units.now.edition (map entry_of units.now.items) }
     ensures exact { IfOk result (λ netlist. netlist ≡ netlist_of (text_of units.now)) }
     ensures formed { IfOk result IsWellFormed }
 {

@@ -1,5 +1,5 @@
 -- Netlists without modes, and the texts that are taken.
-use Rattle.std.proofs.Common.{◌≡◌, ℕ, List, [], ◌∷◌, None, sym, ap, ◌∙◌, subst}
+use Rattle.std.proofs.Common.{◌≡◌, ℕ, List, [], ◌∷◌, None, sym, ap, ◌∙◌, subst, arith}
 use Rattle.net_model.specs.declared.hardware.Netlist.{Netlist}
 use Rattle.net_model.specs.CheckedRules.{Ordered}
 use Rattle.net_model.specs.ModeRules.{AreModesOf, base_at, Moded}
@@ -8,9 +8,10 @@ use Rattle.net_front.specs.declared.front.NetRefusal.{NetRefusal}
 use Rattle.net_front.specs.declared.front.NetRefusal.TheVariants.{Text, Fault, Memory}
 use Rattle.net_extract.specs.declared.netlists.Isa.{Isa}
 use Rattle.net_extract.specs.Extraction.{AreIsas, IsIsaOf}
-use Rattle.net_extract.specs.Taken.{IsRoutedTakenRefusal, IsTakenNet}
+use Rattle.net_extract.specs.Taken.{IsRoutedTakenRefusal, IsTakenModes, IsTakenNet}
 use Rattle.net_extract.proofs.RoutedTaken.{taken_plain}
 use Rattle.net_compile.specs.Inner.Faults.{net_fault}
+use Rattle.net_compile.specs.Tasks.{compiled_edition}
 use Rattle.net_explain.specs.Explained.{explained_edition, HasTakenNet, IsUntaken}
 use Rattle.net_explain.specs.Inner.Telling.{IsAlone, IsPlainNet}
 
@@ -48,7 +49,12 @@ module _ (net : List ℕ) (checked : Ordered) (is : IsTakenNet explained_edition
       routed = record {
         entries = is.routed.entries;
         file = is.routed.file;
-        netlist = record { kept = is.routed.netlist.kept; netlist = same ∙ is.routed.netlist.netlist; rules = rules };
+        netlist = record {
+          kept = is.routed.netlist.kept;
+          rest = is.routed.file.file.keeps.rest;
+          netlist = same ∙ is.routed.netlist.netlist;
+          rules = rules;
+        };
       };
       taken = is.taken;
     }
@@ -64,6 +70,10 @@ module _ (net : List ℕ) (checked : Ordered) (is : IsTakenNet explained_edition
 
 pub taken_file : (net : List ℕ) (modes : Moded) → IsPlainNet net modes → HasTakenNet net
 taken_file net modes is = record { entries = is.routed.entries; file = is.routed.file; taken = is.taken }
+
+-- programs are compiled for it
+pub taken_modes : (net : List ℕ) (modes : Moded) → IsPlainNet net modes → IsTakenModes compiled_edition net modes
+taken_modes net modes is = record { routed = is.routed; taken = (let taken = is.taken in omega (arith, taken)) }
 
 -- why it isn't
 pub untaken : (net : List ℕ) (refusal : NetRefusal) → IsRoutedTakenRefusal explained_edition net refusal → IsUntaken net (net_fault refusal)

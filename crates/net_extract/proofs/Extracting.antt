@@ -1,6 +1,6 @@
 -- A text of a netlist that keeps N10, N12 and N13 keeps all rules, and the patterns of that netlist
 -- are those of the text.
-use Rattle.std.proofs.Common.{◌≡◌, ℕ, suc, List, [], ◌∷◌, Option, Some, None, inr, refl, subst, sym}
+use Rattle.std.proofs.Common.{◌≡◌, ◌≤◌, ℕ, suc, true, List, [], ◌∷◌, Option, Some, None, refl, subst, sym}
 use Rattle.std.specs.Prelude.{slice_get}
 use Rattle.bit_bdd.specs.Diagrams.{Diagrams}
 use Rattle.net_model.specs.declared.fault.CheckFault.{CheckFault}
@@ -8,17 +8,19 @@ use Rattle.net_model.specs.declared.fault.CheckFault.TheVariants.{Fault as Broke
 use Rattle.net_model.specs.declared.hardware.Netlist.{Netlist}
 use Rattle.net_model.specs.CheckedRules.{Ordered}
 use Rattle.net_model.specs.Fixed.{in_mode}
+use Rattle.net_model.specs.Editions.{is_banked}
 use Rattle.net_model.specs.ModeRules.{Moded}
 use Rattle.net_model.specs.Patterns.{ArePatterns}
 use Rattle.net_model.proofs.ModeFaults.{base_is}
 use Rattle.net_model.specs.Written.{Text as NetText}
-use Rattle.net_front.specs.Fronts.{IsCheckedOf, IsModedOf, IsNetFile, check_refusal}
+use Rattle.net_front.specs.Fronts.{IsCheckedOf, IsModedOf, IsNetFile, taken_of}
 use Rattle.sym_expr.specs.declared.pool.Node.{Node}
 use Rattle.transfer_set.specs.Rows.{row_patterns}
 use Rattle.transfer_set.specs.Tables.{IsPatternTable, Table}
 use Rattle.transfer_set.specs.TextMarks.{HasPlainNames}
 use Rattle.net_extract.specs.Extraction.{AreExtractedFrom, AreIsas}
-use Rattle.net_extract.specs.Extracts.{AreRoutedModes, IsExtracted, IsModesRefusal, IsModesText, IsRoutedModes, IsRoutedRefusal, ModesBreakRoutes}
+use Rattle.net_extract.specs.Extracts.{AreRoutedModes, IsExtracted, IsModesRefusal, IsModesText, IsRoutedModes, ModesBreakRoutes, extracted_edition}
+use Rattle.net_extract.specs.Taken.{IsTakenModes, IsViewedModes}
 use Rattle.net_extract.specs.declared.netlists.Isa.{Isa}
 use Rattle.net_extract.proofs.PlainNames.{plain_names}
 
@@ -50,21 +52,31 @@ isas_of_text bytes entries file moded of isas from =
     isas_of moded.netlist plain moded.bases
     (λ v base at. subst HasPlainNames (sym (base_is moded.netlist moded.bases of.rules v base at)) (names_in moded.netlist moded.netlist.special v plain)) isas from
 
-pub routed_modes : (bytes : List ℕ) (entries : NetText) → IsNetFile bytes entries → (moded : Moded) → IsModedOf entries moded → AreRoutedModes moded.netlist → IsRoutedModes bytes moded
+routed_modes : (bytes : List ℕ) (entries : NetText) → IsNetFile bytes entries → (moded : Moded) → IsModedOf entries moded → AreRoutedModes moded.netlist → IsRoutedModes bytes moded
 routed_modes bytes entries file moded of routed = record {
   entries = entries;
   file = record { file = file; routed = subst AreRoutedModes of.netlist routed };
   netlist = of;
 }
 
-pub routes_refused : (bytes : List ℕ) (entries : NetText) → IsNetFile bytes entries → (moded : Moded) → IsModedOf entries moded → (cause : CheckFault) → IsModesRefusal moded.netlist cause → IsRoutedRefusal bytes (check_refusal cause)
-routes_refused bytes entries file moded of (Broken fault) is =
-    inr (record { entries = entries; file = file; broken = subst (λ (n : Netlist). ModesBreakRoutes n fault) of.netlist is })
-routes_refused bytes entries file moded of CheckMemory is = tt
+-- where its edition is taken
+pub taken_modes : (newest : ℕ) (bytes : List ℕ) (entries : NetText) → IsNetFile bytes entries → entries.edition ≤ newest → (moded : Moded) → IsModedOf entries moded → AreRoutedModes moded.netlist → IsTakenModes newest bytes moded
+unfolding routed_modes
+taken_modes newest bytes entries file taken moded of routed = record { routed = routed_modes bytes entries file moded of routed; taken = taken }
 
-pub text_of_modes : (bytes text : List ℕ) (moded : Moded) → IsRoutedModes bytes moded → IsModesText moded.netlist.special moded.netlist text → IsExtracted bytes text
+-- or where it has a bank
+pub viewed_modes : (bytes : List ℕ) (entries : NetText) → IsNetFile bytes entries → is_banked entries.edition ≡ true → (moded : Moded) → IsModedOf entries moded → AreRoutedModes moded.netlist → IsViewedModes bytes moded
+unfolding routed_modes
+viewed_modes bytes entries file banked moded of routed = record { routed = routed_modes bytes entries file moded of routed; banked = banked }
+
+pub routes_refused : (entries : NetText) (moded : Moded) → IsModedOf entries moded → (cause : CheckFault) → IsModesRefusal moded.netlist cause → IsModesRefusal (taken_of entries) cause
+routes_refused entries moded of (Broken fault) is = subst (λ (n : Netlist). ModesBreakRoutes n fault) of.netlist is
+routes_refused entries moded of CheckMemory is = tt
+
+pub text_of_modes : (bytes text : List ℕ) (moded : Moded) → IsTakenModes extracted_edition bytes moded → IsModesText moded.netlist.special moded.netlist text → IsExtracted bytes text
 text_of_modes bytes text moded net written = record {
-  entries = net.entries;
-  file = net.file;
-  written = subst (λ (n : Netlist). IsModesText n.special n text) net.netlist.netlist written;
+  entries = net.routed.entries;
+  file = net.routed.file;
+  taken = net.taken;
+  written = subst (λ (n : Netlist). IsModesText n.special n text) net.routed.netlist.netlist written;
 }

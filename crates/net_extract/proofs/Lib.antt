@@ -4,3 +4,4 @@ pub mod PlainNames
 pub mod RoutedLaws
 pub mod RoutedTaken
 pub mod OverModes
+mod ViewNames

@@ -11,12 +11,12 @@ use Rattle.lexing.specs.Laws.{IsKind, IsTokenOf}
 use Rattle.lexing.proofs.TokenLaws.{are_tokens}
 use Rattle.net_lexer.specs.Netlists.{netlists, net_tokens}
 use Rattle.grammar.specs.declared.words.Ident.{Ident}
-use Rattle.net_model.specs.Editions.{Lexed, Word, edited, is_added, item_or_name, item_told, lexed_in, names_version, word_in}
+use Rattle.net_model.specs.Editions.{Lexed, Word, edited, is_added, is_banked, item_or_name, item_told, lexed_in, names_version, word_in}
 use Rattle.net_model.specs.Grammar.{IsItem, IsSized, IsItems, IsText, ItemBehind, ItemByWord}
 use Rattle.grammar.specs.declared.words.Word.TheVariants.{Name as Named, Symbol as Shows, Key as Keyed, Other}
 use Rattle.net_model.specs.declared.words.Key.TheVariants.{Item, Operator as Operates}
 use Rattle.net_model.specs.declared.words.ItemWord.{ItemWord}
-use Rattle.net_model.specs.declared.words.ItemWord.TheVariants.{Code, Register, Mode, Memory, File, Net, Bus, Module, Part}
+use Rattle.net_model.specs.declared.words.ItemWord.TheVariants.{Code, Register, Mode, Memory, File, Bank, Net, Bus, Module, Part}
 use Rattle.net_model.specs.declared.hardware.Space.TheVariants.{Memory as InMemory, File as InFile}
 use Rattle.net_model.specs.declared.words.Operator.TheVariants.{Unary, Binary}
 use Rattle.net_model.specs.declared.hardware.Netlist.{Netlist}
@@ -26,7 +26,7 @@ use Rattle.net_model.specs.Numbering.{count_item}
 use Rattle.net_model.specs.TextNames.{own_name}
 use Rattle.net_model.specs.Texts.{first_name, name_in, name_of}
 use Rattle.net_model.specs.Written.{Text, Entry, code, register, memory}
-use Rattle.net_front.specs.Fronts.{SaysNet}
+use Rattle.net_front.specs.Fronts.{SaysNet, taken_of}
 use Rattle.net_parser.specs.Texts.{net_lexed}
 use Rattle.net_parser.specs.Words.{binary_of, form_of, item_of, reserved_of, sign_of, sign_word, symbol_of, unary_of}
 use Rattle.lexing.specs.Words.{lexed_all, lexed_of, or_word, word_of}
@@ -34,6 +34,8 @@ use Rattle.std.specs.Str.{bytes_eq}
 use Rattle.std.specs.Prelude.{codes}
 use Rattle.net_model.specs.declared.words.Symbol.TheVariants.{Version}
 use Rattle.transfer_set.specs.TextMarks.{HasPlainNames, Plain, is_mark}
+use Rattle.net_front.proofs.FrontLaws.{taken_banked, taken_plain}
+use Rattle.net_extract.proofs.ViewNames.{view_code, view_storages}
 
 -- ---- bytes
 
@@ -167,6 +169,8 @@ spelled_behind Memory ts entry spelled is =
     subst SpelledEntry (sym is.second.second.second.second.same) (spelled_sized is.front is.value (spelled_front is spelled) is.first)
 spelled_behind File ts entry spelled is =
     subst SpelledEntry (sym is.second.second.second.second.same) (spelled_sized is.front is.value (spelled_front is spelled) is.first)
+spelled_behind Bank ts entry spelled is =
+    subst SpelledEntry (sym is.second.second.second.second.same) (spelled_sized is.front is.value (spelled_front is spelled) is.first)
 spelled_behind Net ts entry spelled is =
     subst SpelledEntry (sym is.second.second.same) (spelled_sized is.front is.value (spelled_front is spelled) is.first)
 spelled_behind Bus ts entry spelled is =
@@ -232,16 +236,30 @@ pub record HasSpelledNames (netlist : Netlist) : Type 0 where
   pub code : AllPass is_name_byte (first_name netlist.codes)
 
 -- so have those of a text that is read
-pub spelled_names : (bytes : List ℕ) (text : Text) → SaysNet bytes text → HasSpelledNames (netlist_of text)
-spelled_names bytes text says =
+own_names : (bytes : List ℕ) (text : Text) → SaysNet bytes text → HasSpelledNames (netlist_of text)
+own_names bytes text says =
     let spelled = spelled_text (net_lexed bytes) text (spelled_words bytes) says.text.spelled in
     record {
       storages = spelled_storages text.items 0 text.items spelled;
       code = spelled_code text.items text.items spelled;
     }
 
+-- and those of the netlist that is taken for it
+pub spelled_names : (bytes : List ℕ) (text : Text) → SaysNet bytes text → HasSpelledNames (taken_of text)
+spelled_names bytes text says = by (is_banked text.edition) refl
+  where
+    own : HasSpelledNames (netlist_of text)
+    own = own_names bytes text says
+
+    by : (b : Bool) → is_banked text.edition ≡ b → HasSpelledNames (taken_of text)
+    by true banked = subst HasSpelledNames (sym (taken_banked text banked)) (record {
+      storages = view_storages (AllPass is_name_byte) (netlist_of text) own.storages;
+      code = view_code (AllPass is_name_byte) (netlist_of text) own.code;
+    })
+    by false plain = subst HasSpelledNames (sym (taken_plain text plain)) own
+
 -- which have no marks
-pub plain_names : (bytes : List ℕ) (text : Text) → SaysNet bytes text → HasPlainNames (netlist_of text)
+pub plain_names : (bytes : List ℕ) (text : Text) → SaysNet bytes text → HasPlainNames (taken_of text)
 plain_names bytes text says =
     let spelled = spelled_names bytes text says in
     record { storages = λ id. plain_bytes _ (spelled.storages id); code = plain_bytes _ spelled.code }

@@ -4,16 +4,14 @@ use Rattle.std.proofs.lemmas.Bool.{cases_lt}
 use Rattle.net_model.specs.declared.fault.NetFault.{NetFault}
 use Rattle.net_model.specs.declared.fault.NetFault.TheVariants.{AlwaysClash, PatternLarge, TooMany}
 use Rattle.net_model.specs.declared.hardware.Netlist.{Netlist}
-use Rattle.net_model.specs.Elaborated.{netlist_of}
 use Rattle.net_model.specs.ModeRules.{base_at}
 use Rattle.net_model.specs.NetFaults.{name_at}
 use Rattle.net_model.specs.Transfers.{ClashesAlways}
 use Rattle.net_model.proofs.ModeFaults.{alone_base, some_modes}
 use Rattle.net_model.specs.Written.{Text as NetText}
-use Rattle.net_parser.specs.Texts.{IsNoNetText}
-use Rattle.net_front.proofs.FrontLaws.{no_text_fault, no_broken_rule, one_broken_rule}
+use Rattle.net_front.specs.Fronts.{taken_of}
 use Rattle.route_trace.specs.Limits.{HasMany, IsNamed, KeepsLimits}
-use Rattle.net_extract.specs.Extracts.{AreRoutedModes, BreaksAnyRule, BreaksRoutes, HasCleanWord, InEachMode, InFirstMode, IsRouted, IsRoutedFile, ModesBreakRoutes, Property}
+use Rattle.net_extract.specs.Extracts.{AreRoutedModes, BreaksRouteRule, BreaksRoutes, HasCleanWord, InEachMode, InFirstMode, IsRouted, IsRoutedFile, ModesBreakRoutes, Property}
 
 -- ---- of one netlist
 
@@ -145,20 +143,12 @@ module _ (netlist : Netlist) where
 
 -- ---- of a text
 
-pub no_text_fault_where_broken : (bytes : List ℕ) (fault : NetFault) (offset : ℕ) → BreaksAnyRule bytes fault → IsNoNetText bytes offset → ⊥
-no_text_fault_where_broken bytes fault offset (inl breaks) faulty = no_text_fault bytes breaks.entries offset breaks.says faulty
-no_text_fault_where_broken bytes fault offset (inr breaks) faulty = no_text_fault bytes breaks.entries offset breaks.file.says faulty
+pub no_broken_route : (bytes : List ℕ) (entries : NetText) (fault : NetFault) → IsRoutedFile bytes entries → BreaksRouteRule bytes fault → ⊥
+no_broken_route bytes entries fault file breaks =
+    kept_modes_break_none (taken_of breaks.entries) fault
+    (subst (λ e. AreRoutedModes (taken_of e)) (file.file.says.only breaks.entries breaks.file.says.text) file.routed) breaks.broken
 
-pub no_broken_any : (bytes : List ℕ) (entries : NetText) (fault : NetFault) → IsRoutedFile bytes entries → BreaksAnyRule bytes fault → ⊥
-no_broken_any bytes entries fault file (inl breaks) = no_broken_rule bytes entries fault file.file breaks
-no_broken_any bytes entries fault file (inr breaks) =
-    kept_modes_break_none (netlist_of breaks.entries) fault
-    (subst (λ e. AreRoutedModes (netlist_of e)) (file.file.says.only breaks.entries breaks.file.says.text) file.routed) breaks.broken
-
-pub one_broken_any : (bytes : List ℕ) (fault later : NetFault) → BreaksAnyRule bytes fault → BreaksAnyRule bytes later → fault ≡ later
-one_broken_any bytes fault later (inl a) (inl b) = one_broken_rule bytes fault later a b
-one_broken_any bytes fault later (inl a) (inr b) = absurd (no_broken_rule bytes b.entries fault b.file a)
-one_broken_any bytes fault later (inr a) (inl b) = absurd (no_broken_rule bytes a.entries later a.file b)
-one_broken_any bytes fault later (inr a) (inr b) =
-    one_modes_break (netlist_of a.entries) fault later a.broken
-    (subst (λ e. ModesBreakRoutes (netlist_of e) later) (sym (a.file.says.only b.entries b.file.says.text)) b.broken)
+pub one_broken_route : (bytes : List ℕ) (fault later : NetFault) → BreaksRouteRule bytes fault → BreaksRouteRule bytes later → fault ≡ later
+one_broken_route bytes fault later a b =
+    one_modes_break (taken_of a.entries) fault later a.broken
+    (subst (λ e. ModesBreakRoutes (taken_of e) later) (sym (a.file.says.only b.entries b.file.says.text)) b.broken)

@@ -1,5 +1,5 @@
 -- What is extracted from the text of a netlist, and why nothing is.
-use Rattle.std.specs.Prelude.{◌≡◌, ◌<◌, ◌⊎◌, ℕ, zero, suc, List, [], ◌∷◌, codes, Option, Some, None}
+use Rattle.std.specs.Prelude.{◌≡◌, ◌<◌, ◌≤◌, ℕ, zero, suc, List, [], ◌∷◌, codes, Option, Some, None}
 use Rattle.std.specs.Fmt.{decimal}
 use Rattle.std.specs.List.{concat}
 use Rattle.net_model.specs.declared.fault.CheckFault.{CheckFault}
@@ -8,16 +8,12 @@ use Rattle.net_model.specs.declared.fault.NetFault.{NetFault}
 use Rattle.net_model.specs.declared.fault.NetFault.TheVariants.{AlwaysClash, PatternLarge, TooMany}
 use Rattle.net_model.specs.declared.hardware.Netlist.{Netlist}
 use Rattle.net_model.specs.CheckedRules.{Ordered}
-use Rattle.net_model.specs.Elaborated.{netlist_of}
 use Rattle.net_model.specs.ModeRules.{base_at, Moded, modes_in}
 use Rattle.net_model.specs.NetFaults.{name_at}
 use Rattle.net_model.specs.Patterns.{ArePatterns, Pattern}
 use Rattle.net_model.specs.Transfers.{ClashesAlways, IsClean}
 use Rattle.net_model.specs.Written.{Text as NetText}
-use Rattle.net_parser.specs.Texts.{IsNoNetText}
-use Rattle.net_front.specs.Fronts.{BreaksRule, IsCheckedOf, IsModedOf, IsNetFile}
-use Rattle.net_front.specs.declared.front.NetRefusal.{NetRefusal}
-use Rattle.net_front.specs.declared.front.NetRefusal.TheVariants.{Text, Fault, Memory}
+use Rattle.net_front.specs.Fronts.{IsCheckedOf, IsModedOf, IsNetFile, taken_of}
 use Rattle.transfer_set.specs.PatternsText.{IsPatternsText}
 use Rattle.route_trace.specs.Limits.{IsRouteFault, KeepsLimits}
 use Rattle.route_trace.specs.declared.RouteFault.TheVariants.{PatternLarge as RouteLarge, TooMany as RoutesMany}
@@ -91,29 +87,21 @@ IsModesRefusal netlist CheckMemory = Unit {0}
 
 -- ---- texts
 
--- the bytes are a netlist text, and its items keep all rules
+-- the bytes are a netlist text, and its items keep all rules: N10, N12 and N13 are asked of the netlist
+-- that is taken for them, which is the view where there is a bank
 pub record IsRoutedFile (bytes : List ℕ) (entries : NetText) : Type 0 where
   pub file : IsNetFile bytes entries
-  pub routed : AreRoutedModes (netlist_of entries)
+  pub routed : AreRoutedModes (taken_of entries)
 
 -- the bytes are a netlist text whose items keep N1 to N9, N11 and N14, and this is what they break
 -- of N10, N12 and N13
 pub record BreaksRouteRule (bytes : List ℕ) (fault : NetFault) : Type 0 where
   pub entries : NetText
   pub file : IsNetFile bytes entries
-  pub broken : ModesBreakRoutes (netlist_of entries) fault
+  pub broken : ModesBreakRoutes (taken_of entries) fault
 
--- the bytes are a netlist text, and this is the first rule of all that its items break
-abbrev pub BreaksAnyRule : List ℕ → NetFault → Type 0
-BreaksAnyRule bytes fault = BreaksRule bytes fault ⊎ BreaksRouteRule bytes fault
-
--- why the bytes are no netlist's that keeps all rules; nothing is said where memory ran out
-abbrev pub IsRoutedRefusal : List ℕ → NetRefusal → Type 0
-IsRoutedRefusal bytes (Text at) = IsNoNetText bytes at
-IsRoutedRefusal bytes (Fault fault) = BreaksAnyRule bytes fault
-IsRoutedRefusal bytes Memory = Unit {0}
-
--- this netlist, which was checked, is that of the bytes, which are of an edition without modes
+-- this netlist, which was checked, is that of the bytes, which are of an edition without modes and
+-- without a bank
 pub record IsRoutedNet (bytes : List ℕ) (checked : Ordered) : Type 0 where
   pub entries : NetText
   pub file : IsRoutedFile bytes entries
@@ -150,8 +138,13 @@ abbrev pub IsModesText : Option ℕ → Netlist → List ℕ → Type 0
 IsModesText None netlist text = IsTextOf netlist text
 IsModesText (Some mode) netlist text = AreTextsBelow netlist (modes_in netlist) text
 
+-- the newest edition of netlist texts, each of which is extracted from
+abbrev pub extracted_edition : ℕ
+extracted_edition = 4
+
 -- the bytes are a netlist text that keeps all rules, and the text is that of its patterns
 pub record IsExtracted (bytes text : List ℕ) : Type 0 where
   pub entries : NetText
   pub file : IsRoutedFile bytes entries
-  pub written : IsModesText (netlist_of entries).special (netlist_of entries) text
+  pub taken : entries.edition ≤ extracted_edition
+  pub written : IsModesText (taken_of entries).special (taken_of entries) text

@@ -1,16 +1,15 @@
 //! What is extracted from a netlist.
 
-ghost use Rattle.std.specs.Prelude.{◌≡◌, ◌<◌, ◌^◌, length, IfOk, IfErr};
-ghost use Rattle.std.specs.List.{AllByRecursion};
-ghost use Rattle.net_model.specs.CheckedRules.{Ordered};
-ghost use Rattle.net_extract.specs.Extracts.{AreRoutedModes, HasCleanWord, IsModesRefusal, IsRouteRefusal, IsRouted, IsRoutedModes, IsRoutedRefusal};
+ghost use Rattle.std.specs.Prelude.{◌<◌, ◌^◌, length, IfOk, IfErr};
+ghost use Rattle.net_extract.specs.Extracts.{AreRoutedModes, IsModesRefusal, IsRouteRefusal, IsRouted};
 ghost use Rattle.net_extract.specs.Extraction.{AreExtractedFrom, AreIsas, IsExtractedFrom};
 ghost use Rattle.net_extract.specs.Inner.Modes.{AreControlledIn, IsClashRefusal, IsControlledIn, IsLimitRefusal};
+ghost use Rattle.net_extract.specs.Taken.{IsRoutedBankedRefusal, IsRoutedTakenRefusal, IsTakenModes, IsViewedModes};
 
 use crate::routed::{controls_of, patterns_of};
 use bit_bdd::{Book, SetId};
 use ctl_bdd::ControlBits;
-use net_front::{NetRefusal, read_net};
+use net_front::{NetRefusal, read_banked, read_net};
 use net_model::{CheckFault, Checked, Modes};
 use rec_bits::Items;
 use std::alloc::Global;
@@ -122,16 +121,35 @@ pub fn extract_modes(alloc: Global, modes: &Modes) -> Result<Items<Isa>, CheckFa
 }
 
 /// The netlist of a text that keeps all rules, N10, N12 and N13 among them, with what it is in its
-/// modes, and the instruction set of each. `Text` comes exactly where the bytes are no netlist
-/// text, and `Fault` exactly where they are one that breaks a rule, with the first: N10, and then
-/// N12 and N13, come after all others. `Memory` is want of memory.
-pub fn read_extracted(alloc: Global, bytes: &[u8]) -> Result<(Modes, Items<Isa>), NetRefusal>
+/// modes, and the instruction set of each; of a text with a bank it is the view of its netlist.
+/// `Text` comes exactly where the bytes are no netlist text, and `Fault` exactly where they are one
+/// that breaks a rule, with the first: N10, and then N12 and N13, come after all others. A text whose
+/// edition is later than `newest` is refused as by `net_front::read_net`. `Memory` is want of memory.
+pub fn read_extracted(
+    alloc: Global,
+    bytes: &[u8],
+    newest: u8,
+) -> Result<(Modes, Items<Isa>), NetRefusal>
     requires { length bytes.now < 2 ^ 32 }
-    ensures netlist { IfOk result (λ both. IsRoutedModes bytes.now both.0) }
+    ensures netlist { IfOk result (λ both. IsTakenModes newest bytes.now both.0) }
     ensures isas { IfOk result (λ both. AreIsas both.0.bases both.1) }
-    ensures refused { IfErr result (IsRoutedRefusal bytes.now) }
+    ensures refused { IfErr result (IsRoutedTakenRefusal newest bytes.now) }
 {
-    let (_, modes) = read_net(alloc, bytes)?;
+    let (_, modes) = read_net(alloc, bytes, newest)?;
+    let isas = extract_modes(alloc, &modes)?;
+    Ok((modes, isas))
+}
+
+/// The view of the netlist of a text that has a bank and keeps all rules, with its instruction set,
+/// which is the only one. The refusals of such a text are those of `read_extracted`, and those of
+/// another are those of `net_front::read_banked`.
+pub fn read_viewed(alloc: Global, bytes: &[u8]) -> Result<(Modes, Items<Isa>), NetRefusal>
+    requires { length bytes.now < 2 ^ 32 }
+    ensures netlist { IfOk result (λ both. IsViewedModes bytes.now both.0) }
+    ensures isas { IfOk result (λ both. AreIsas both.0.bases both.1) }
+    ensures refused { IfErr result (IsRoutedBankedRefusal bytes.now) }
+{
+    let (_, modes) = read_banked(alloc, bytes)?;
     let isas = extract_modes(alloc, &modes)?;
     Ok((modes, isas))
 }

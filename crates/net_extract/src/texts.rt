@@ -2,8 +2,9 @@
 
 ghost use Rattle.std.specs.Prelude.{◌≡◌, ◌<◌, ◌^◌, ◌++◌, length, IfOk, IfErr, OnOk};
 ghost use Rattle.net_model.specs.ModeRules.{modes_in};
-ghost use Rattle.net_extract.specs.Extracts.{AreTextsBelow, IsExtracted, IsModesText, IsRoutedModes, IsRoutedRefusal, IsTextOf, mode_line};
+ghost use Rattle.net_extract.specs.Extracts.{AreTextsBelow, IsExtracted, IsModesText, IsTextOf, extracted_edition, mode_line};
 ghost use Rattle.net_extract.specs.Extraction.{AreIsas, IsIsaOf};
+ghost use Rattle.net_extract.specs.Taken.{IsRoutedTakenRefusal, IsTakenModes};
 
 use crate::netlists::{Isa, read_extracted};
 use itoa::Buffer;
@@ -12,14 +13,17 @@ use net_model::{Checked, Modes};
 use rec_bits::NoMemory;
 use std::alloc::Global;
 
+// The newest edition of netlist texts: each is taken.
+const NEWEST: u8 = 4;
+
 /// The netlist of a text, which keeps all rules, N10, N12 and N13 among them, with what it is in
 /// its modes. The refusals are those of `read_extracted`.
 pub fn read_routed(alloc: Global, bytes: &[u8]) -> Result<Modes, NetRefusal>
     requires { length bytes.now < 2 ^ 32 }
-    ensures found { IfOk result (IsRoutedModes bytes.now) }
-    ensures refused { IfErr result (IsRoutedRefusal bytes.now) }
+    ensures found { IfOk result (IsTakenModes extracted_edition bytes.now) }
+    ensures refused { IfErr result (IsRoutedTakenRefusal extracted_edition bytes.now) }
 {
-    let (modes, _) = read_extracted(alloc, bytes)?;
+    let (modes, _) = read_extracted(alloc, bytes, NEWEST)?;
     Ok(modes)
 }
 
@@ -82,9 +86,9 @@ fn modes_text(alloc: Global, modes: &Modes, isas: &[Isa]) -> Result<Vec<u8>, NoM
 pub fn extract(alloc: Global, bytes: &[u8]) -> Result<Vec<u8>, NetRefusal>
     requires { length bytes.now < 2 ^ 32 }
     ensures text { IfOk result (λ text. IsExtracted bytes.now text.items) }
-    ensures refused { IfErr result (IsRoutedRefusal bytes.now) }
+    ensures refused { IfErr result (IsRoutedTakenRefusal extracted_edition bytes.now) }
 {
-    let (modes, isas) = read_extracted(alloc, bytes)?;
+    let (modes, isas) = read_extracted(alloc, bytes, NEWEST)?;
     let text = modes_text(alloc, &modes, isas.as_slice())?;
     Ok(text)
 }

@@ -1,16 +1,16 @@
 -- Which netlist texts a command takes that doesn't take all editions, and why it refuses others. A
 -- text of a later edition is refused as one that breaks N6: it has the part that its edition adds.
-use Rattle.std.specs.Prelude.{◌≡◌, ◌<◌, ◌⊎◌, if◌then◌else◌, ℕ, List, Option, Some, Bool, true, false, IsTrue}
+use Rattle.std.specs.Prelude.{◌≡◌, ◌<◌, ◌≤◌, ◌⊎◌, if◌then◌else◌, ℕ, List, Option, Some, Bool, true, false, IsTrue}
 use Rattle.net_model.specs.declared.fault.NetFault.{NetFault}
 use Rattle.net_model.specs.declared.fault.NetFault.TheVariants.{Enable, ControlOp, WideSelect, FileAddr, Role as LacksRole}
 use Rattle.net_model.specs.declared.fault.Role.{Role}
-use Rattle.net_model.specs.declared.fault.Role.TheVariants.{File as NoFile, Mode as NoMode}
+use Rattle.net_model.specs.declared.fault.Role.TheVariants.{File as NoFile, Mode as NoMode, Bank as NoBank}
 use Rattle.net_model.specs.declared.words.ItemWord.{ItemWord}
-use Rattle.net_model.specs.declared.words.ItemWord.TheVariants.{Mode}
-use Rattle.net_model.specs.Editions.{added_by}
+use Rattle.net_model.specs.declared.words.ItemWord.TheVariants.{Mode, Bank}
+use Rattle.net_model.specs.Editions.{added_by, is_banked, is_moded}
 use Rattle.net_model.specs.Written.{Text as NetText}
 use Rattle.net_parser.specs.Texts.{IsNoNetText}
-use Rattle.net_front.specs.Fronts.{BreaksFirst, BreaksRule, SaysNet}
+use Rattle.net_front.specs.Fronts.{BreaksFirst, BreaksRule, IsNetFile, SaysNet}
 use Rattle.net_front.specs.declared.front.NetRefusal.{NetRefusal}
 use Rattle.net_front.specs.declared.front.NetRefusal.TheVariants.{Text, Fault, Memory}
 
@@ -25,6 +25,7 @@ is_behind_roles _ = false
 -- the part that an edition adds, as N6 names it
 abbrev pub role_of : Option ItemWord → Role
 role_of (Some Mode) = NoMode
+role_of (Some Bank) = NoBank
 role_of _ = NoFile
 
 abbrev pub added_role : ℕ → Role
@@ -34,28 +35,67 @@ added_role edition = role_of (added_by edition)
 abbrev pub KeepsRoles : NetText → Type 0
 KeepsRoles entries = (fault : NetFault) → BreaksFirst entries fault → IsTrue (is_behind_roles fault)
 
--- the bytes are a netlist text of a later edition than the newest that is taken, and its items keep
--- N6 and all that is tried before it
-pub record IsNewer (newest : ℕ) (bytes : List ℕ) : Type 0 where
+-- ---- for a command that doesn't take these editions
+
+-- the bytes are a netlist text of an edition that isn't taken, and its items keep N6 and all that is
+-- tried before it
+pub record IsUntaken (Untaken : ℕ → Type 0) (bytes : List ℕ) : Type 0 where
   pub entries : NetText
   pub says : SaysNet bytes entries
-  pub newer : newest < entries.edition
+  pub untaken : Untaken entries.edition
   pub keeps : KeepsRoles entries
 
--- the bytes are a netlist text, and this is the first rule that it breaks, where editions are taken
--- up to the newest
-abbrev pub BreaksTaken : ℕ → List ℕ → NetFault → Type 0
-BreaksTaken newest bytes fault =
-    (BreaksRule bytes fault × (IsNewer newest bytes → ⊥))
-    ⊎ ((newer : IsNewer newest bytes) × (fault ≡ LacksRole (added_role newer.entries.edition)))
+-- the bytes are a netlist text, and this is the first rule that it breaks; one of an edition that
+-- isn't taken breaks N6 by a part that its edition tells
+abbrev pub BreaksFor : (ℕ → Type 0) → (ℕ → Role) → List ℕ → NetFault → Type 0
+BreaksFor Untaken role bytes fault =
+    (BreaksRule bytes fault × (IsUntaken Untaken bytes → ⊥))
+    ⊎ ((is : IsUntaken Untaken bytes) × (fault ≡ LacksRole (role is.entries.edition)))
 
 -- why the bytes are not taken; nothing is said where memory ran out
-abbrev pub IsTakenRefusal : ℕ → List ℕ → NetRefusal → Type 0
-IsTakenRefusal newest bytes (Text at) = IsNoNetText bytes at
-IsTakenRefusal newest bytes (Fault fault) = BreaksTaken newest bytes fault
-IsTakenRefusal newest bytes Memory = Unit {0}
+abbrev pub IsRefusalFor : (ℕ → Type 0) → (ℕ → Role) → List ℕ → NetRefusal → Type 0
+IsRefusalFor Untaken role bytes (Text at) = IsNoNetText bytes at
+IsRefusalFor Untaken role bytes (Fault fault) = BreaksFor Untaken role bytes fault
+IsRefusalFor Untaken role bytes Memory = Unit {0}
 
 -- what a refusal of items is told as, where their edition isn't taken and adds this part
 abbrev pub newer_of : Role → NetRefusal → NetRefusal
 newer_of role (Fault fault) = if is_behind_roles fault then Fault (LacksRole role) else Fault fault
 newer_of role refusal = refusal
+
+-- ---- for one that takes editions up to a newest
+
+abbrev pub IsLater : ℕ → ℕ → Type 0
+IsLater newest edition = newest < edition
+
+abbrev pub IsNewer : ℕ → List ℕ → Type 0
+IsNewer newest bytes = IsUntaken (IsLater newest) bytes
+
+abbrev pub BreaksTaken : ℕ → List ℕ → NetFault → Type 0
+BreaksTaken newest bytes fault = BreaksFor (IsLater newest) added_role bytes fault
+
+abbrev pub IsTakenRefusal : ℕ → List ℕ → NetRefusal → Type 0
+IsTakenRefusal newest bytes refusal = IsRefusalFor (IsLater newest) added_role bytes refusal
+
+-- the bytes are a netlist text whose edition is taken, and its items keep the rules
+pub record IsTakenFile (newest : ℕ) (bytes : List ℕ) (entries : NetText) : Type 0 where
+  pub file : IsNetFile bytes entries
+  pub taken : entries.edition ≤ newest
+
+-- ---- for one that takes texts with a bank alone
+
+abbrev pub HasNoBank : ℕ → Type 0
+HasNoBank edition = is_banked edition ≡ false
+
+-- the part that a text of another edition is told to have, or to lack
+abbrev pub unbanked_role : ℕ → Role
+unbanked_role edition = if is_moded edition then NoMode else NoBank
+
+abbrev pub IsUnbanked : List ℕ → Type 0
+IsUnbanked bytes = IsUntaken HasNoBank bytes
+
+abbrev pub BreaksBanked : List ℕ → NetFault → Type 0
+BreaksBanked bytes fault = BreaksFor HasNoBank unbanked_role bytes fault
+
+abbrev pub IsBankedRefusal : List ℕ → NetRefusal → Type 0
+IsBankedRefusal bytes refusal = IsRefusalFor HasNoBank unbanked_role bytes refusal

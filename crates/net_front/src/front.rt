@@ -1,12 +1,16 @@
 //! Netlists from bytes.
 
-ghost use Rattle.std.specs.Prelude.{◌≡◌, ◌^◌, ◌<◌, length, IfOk, IfErr};
+ghost use Rattle.std.specs.Prelude.{◌≡◌, ◌^◌, ◌<◌, true, length, IfOk, IfErr, MatchResult};
+ghost use Rattle.net_model.specs.CheckedRules.{IsWellFormed};
+ghost use Rattle.net_model.specs.Editions.{is_banked};
+ghost use Rattle.net_model.specs.NetFaults.{Refuses};
 ghost use Rattle.net_model.specs.Written.{text_of};
-ghost use Rattle.net_front.specs.Fronts.{IsModedOf, SaysNet, IsItemsRefusal, IsNetFile, IsNetRefusal, IsRuleRefusal};
+ghost use Rattle.net_front.specs.Fronts.{IsModedOf, IsTakenAs, IsViewOf, RefusesIf, SaysNet, IsItemsRefusal, IsRuleRefusal};
 
 use crate::flat::flatten;
-use net_check::check_modes;
-use net_model::{CheckFault, Modes, NetFault, Units};
+use bank_view::view;
+use net_check::{check, check_modes};
+use net_model::{CheckFault, Modes, NetFault, Netlist, Units, is_banked};
 use rec_bits::{NoMemory, ParseFault};
 use std::alloc::Global;
 
@@ -70,29 +74,37 @@ pub(crate) fn items(alloc: Global, bytes: &[u8]) -> Result<Units, NetRefusal>
     Ok(units)
 }
 
-// What the netlist of the items is in its modes, where it keeps the rules in each.
+// The view of a netlist that has a bank, where the netlist keeps the rules: then the view does.
+fn viewed(alloc: Global, netlist: Netlist) -> Result<Modes, CheckFault>
+    requires formed { IsWellFormed netlist }
+    requires banked { is_banked netlist.edition ≡ true }
+    ensures { MatchResult result (IsViewOf netlist) (Refuses netlist) }
+{
+    let checked = check(alloc, netlist)?;
+    let view = view(alloc, checked.netlist())?;
+    check_modes(alloc, view)
+}
+
+// What a netlist is in its modes, or its view where it has a bank, where it keeps the rules.
+fn seen(alloc: Global, netlist: Netlist) -> Result<Modes, CheckFault>
+    requires { IsWellFormed netlist }
+    ensures { MatchResult result (IsTakenAs (is_banked netlist.edition) netlist)
+        (RefusesIf (is_banked netlist.edition) netlist) }
+{
+    if is_banked(netlist.edition) {
+        return viewed(alloc, netlist);
+    }
+    check_modes(alloc, netlist)
+}
+
+// What the netlist of the items is in its modes, or its view where it has a bank, where the netlist
+// keeps the rules in each.
 pub(crate) fn modes(alloc: Global, units: &Units) -> Result<Modes, NetRefusal>
     requires { length units.now.items < 2 ^ 32 }
     ensures found { IfOk result (IsModedOf (text_of units.now)) }
     ensures refused { IfErr result (IsRuleRefusal (text_of units.now)) }
 {
     let netlist = flatten(alloc, units)?;
-    let modes = check_modes(alloc, netlist)?;
+    let modes = seen(alloc, netlist)?;
     Ok(modes)
-}
-
-/// The items of a netlist's text, which keep the rules, and their netlist with what it is in its
-/// modes. `Text` comes exactly where the bytes are no netlist text, with the offset of the first
-/// token such that those before it begin some text and with it they don't, or the length of the
-/// bytes where all of them begin one. `Fault` comes exactly where they are one that breaks a rule,
-/// with the first; each is tried in all modes before the next. `Memory` is want of memory.
-pub fn read_net(alloc: Global, bytes: &[u8]) -> Result<(Units, Modes), NetRefusal>
-    requires { length bytes.now < 2 ^ 32 }
-    ensures found { IfOk result (λ read. IsNetFile bytes.now (text_of read.0)) }
-    ensures modes { IfOk result (λ read. IsModedOf (text_of read.0) read.1) }
-    ensures refused { IfErr result (IsNetRefusal bytes.now) }
-{
-    let units = items(alloc, bytes)?;
-    let modes = modes(alloc, &units)?;
-    Ok((units, modes))
 }

@@ -4,7 +4,7 @@ use Rattle.std.proofs.lemmas.Bool.{cases_lt}
 use Rattle.net_model.specs.declared.hardware.Netlist.{Netlist}
 use Rattle.net_model.specs.declared.fault.Role.{Role}
 use Rattle.net_model.specs.declared.fault.Role.TheVariants.{Pc, Size, Addr}
-use Rattle.net_model.specs.declared.fault.Role.TheVariants.{Code as NotOneCode, Memory as NotOneMemory, File as NoFile, Mode as NoMode}
+use Rattle.net_model.specs.declared.fault.Role.TheVariants.{Code as NotOneCode, Memory as NotOneMemory, File as NoFile, Mode as NoMode, Bank as NoBank}
 use Rattle.net_model.specs.declared.fault.NetFault.{NetFault}
 use Rattle.net_model.specs.declared.fault.NetFault.TheVariants.{Cycle, Enable, ControlOp, WideSelect, FileAddr}
 use Rattle.net_model.specs.declared.fault.NetFault.TheVariants.{Role as RoleFault}
@@ -43,6 +43,7 @@ module _ (netlist : Netlist) where
   has_no_lack Addr r l = l.4 r.address
   has_no_lack NoFile r l = l.5 r.file
   has_no_lack NoMode r l = l.6 r.mode
+  has_no_lack NoBank r l = l.7 r.bank
 
   -- the role that is lacking first
   one_lack : (r s : Role) → LacksRole netlist r → LacksRole netlist s → r ≡ s
@@ -53,6 +54,7 @@ module _ (netlist : Netlist) where
   one_lack NotOneCode Addr k l = absurd (k l.0)
   one_lack NotOneCode NoFile k l = absurd (k l.0)
   one_lack NotOneCode NoMode k l = absurd (k l.0)
+  one_lack NotOneCode NoBank k l = absurd (k l.0)
   one_lack NotOneMemory NotOneCode k l = absurd (l k.0)
   one_lack NotOneMemory NotOneMemory k l = refl
   one_lack NotOneMemory Pc k l = absurd (k.1 l.1)
@@ -60,6 +62,7 @@ module _ (netlist : Netlist) where
   one_lack NotOneMemory Addr k l = absurd (k.1 l.1)
   one_lack NotOneMemory NoFile k l = absurd (k.1 l.1)
   one_lack NotOneMemory NoMode k l = absurd (k.1 l.1)
+  one_lack NotOneMemory NoBank k l = absurd (k.1 l.1)
   one_lack Pc NotOneCode k l = absurd (l k.0)
   one_lack Pc NotOneMemory k l = absurd (l.1 k.1)
   one_lack Pc Pc k l = refl
@@ -67,6 +70,7 @@ module _ (netlist : Netlist) where
   one_lack Pc Addr k l = absurd (k.2 l.2)
   one_lack Pc NoFile k l = absurd (k.2 l.2)
   one_lack Pc NoMode k l = absurd (k.2 l.2)
+  one_lack Pc NoBank k l = absurd (k.2 l.2)
   one_lack Size NotOneCode k l = absurd (l k.0)
   one_lack Size NotOneMemory k l = absurd (l.1 k.1)
   one_lack Size Pc k l = absurd (l.2 k.2)
@@ -74,6 +78,7 @@ module _ (netlist : Netlist) where
   one_lack Size Addr k l = absurd (k.3 l.3)
   one_lack Size NoFile k l = absurd (k.3 l.3)
   one_lack Size NoMode k l = absurd (k.3 l.3)
+  one_lack Size NoBank k l = absurd (k.3 l.3)
   one_lack Addr NotOneCode k l = absurd (l k.0)
   one_lack Addr NotOneMemory k l = absurd (l.1 k.1)
   one_lack Addr Pc k l = absurd (l.2 k.2)
@@ -81,6 +86,7 @@ module _ (netlist : Netlist) where
   one_lack Addr Addr k l = refl
   one_lack Addr NoFile k l = absurd (k.4 l.4)
   one_lack Addr NoMode k l = absurd (k.4 l.4)
+  one_lack Addr NoBank k l = absurd (k.4 l.4)
   one_lack NoFile NotOneCode k l = absurd (l k.0)
   one_lack NoFile NotOneMemory k l = absurd (l.1 k.1)
   one_lack NoFile Pc k l = absurd (l.2 k.2)
@@ -88,6 +94,7 @@ module _ (netlist : Netlist) where
   one_lack NoFile Addr k l = absurd (l.4 k.4)
   one_lack NoFile NoFile k l = refl
   one_lack NoFile NoMode k l = absurd (k.5 l.5)
+  one_lack NoFile NoBank k l = absurd (k.5 l.5)
   one_lack NoMode NotOneCode k l = absurd (l k.0)
   one_lack NoMode NotOneMemory k l = absurd (l.1 k.1)
   one_lack NoMode Pc k l = absurd (l.2 k.2)
@@ -95,6 +102,15 @@ module _ (netlist : Netlist) where
   one_lack NoMode Addr k l = absurd (l.4 k.4)
   one_lack NoMode NoFile k l = absurd (l.5 k.5)
   one_lack NoMode NoMode k l = refl
+  one_lack NoMode NoBank k l = absurd (k.6 l.6)
+  one_lack NoBank NotOneCode k l = absurd (l k.0)
+  one_lack NoBank NotOneMemory k l = absurd (l.1 k.1)
+  one_lack NoBank Pc k l = absurd (l.2 k.2)
+  one_lack NoBank Size k l = absurd (l.3 k.3)
+  one_lack NoBank Addr k l = absurd (l.4 k.4)
+  one_lack NoBank NoFile k l = absurd (l.5 k.5)
+  one_lack NoBank NoMode k l = absurd (l.6 k.6)
+  one_lack NoBank NoBank k l = refl
 
   -- ---- the fault
 

@@ -14,8 +14,10 @@ use Rattle.net_model.specs.declared.hardware.Gate.TheVariants.{Word, Reg, Read, 
 use Rattle.net_model.specs.Nets.{storage_array, storage_bits, width_at}
 use Rattle.net_model.specs.Widths.{HasWidth, IsNet, RowsFit, RestFits, DriversFit, GateFits, WhenFits, ArrayFits}
 use Rattle.net_model.specs.CheckedRules.{ArrayKeeps, ReadKeeps, GateKeeps, IsWhole, NetKeeps, StorageKeeps, IsWellFormed}
+use Rattle.net_model.specs.Editions.{is_banked}
 use Rattle.net_model.specs.Fixed.{fixed_gate, fixed_net, fixed_of, in_mode, mode_count}
 use Rattle.net_model.specs.ModeRules.{base_at, bases_below, modes_in}
+use Rattle.net_model.proofs.ByEdition.{few_plain, nets_within}
 use Rattle.net_model.proofs.Fixing.{same_width}
 
 module _ (netlist : Netlist) (mode v : ℕ) where
@@ -127,28 +129,28 @@ module _ (netlist : Netlist) (mode v : ℕ) where
   storages_keep [] h = tt
   storages_keep (storage ∷ storages) h = (storage_keeps storage h.0, storages_keep storages h.1)
 
-  pub fixed_formed : v < 2 ^ storage_bits (slice_get netlist.storages mode) → IsWellFormed netlist → IsWellFormed fixed
-  fixed_formed small h = record {
+  pub fixed_formed : v < 2 ^ storage_bits (slice_get netlist.storages mode) → is_banked netlist.edition ≡ false → IsWellFormed netlist → IsWellFormed fixed
+  fixed_formed small plain h = record {
     names = h.names;
     nets = λ n. subst (NetKeeps fixed) (sym (slice_get-map (fixed_net mode v) netlist.nets n)) (net_keeps small (slice_get netlist.nets n) (h.nets n));
     storages = storages_keep netlist.storages h.storages;
     codes = h.codes;
-    mode = tt;
+    special = tt;
     limits = record {
-      nets = omega (arith, same_length, h.limits.nets);
+      nets = omega (arith, same_length, h.limits.nets, nets_within netlist.edition);
       registers = h.limits.registers;
-      cells = h.limits.cells;
+      cells = few_plain netlist.edition plain netlist.storages h.limits.cells;
       words = h.limits.words;
     };
   }
 
-in_mode_formed : (netlist : Netlist) (special : Option ℕ) (v : ℕ) → v < mode_count special netlist → IsWellFormed netlist → IsWellFormed (in_mode special v netlist)
-in_mode_formed netlist None v small h = h
-in_mode_formed netlist (Some mode) v small h = fixed_formed netlist mode v small h
+in_mode_formed : (netlist : Netlist) (special : Option ℕ) (v : ℕ) → v < mode_count special netlist → is_banked netlist.edition ≡ false → IsWellFormed netlist → IsWellFormed (in_mode special v netlist)
+in_mode_formed netlist None v small plain h = h
+in_mode_formed netlist (Some mode) v small plain h = fixed_formed netlist mode v small plain h
 
--- in each of its modes a well-formed netlist is well-formed
-pub base_formed : (netlist : Netlist) → IsWellFormed netlist → (v : ℕ) → v < modes_in netlist → IsWellFormed (base_at netlist v)
-base_formed netlist h v small = in_mode_formed netlist netlist.special v small h
+-- in each of its modes a well-formed netlist without a bank is well-formed
+pub base_formed : (netlist : Netlist) → is_banked netlist.edition ≡ false → IsWellFormed netlist → (v : ℕ) → v < modes_in netlist → IsWellFormed (base_at netlist v)
+base_formed netlist plain h v small = in_mode_formed netlist netlist.special v small plain h
 
 -- ---- the list of all modes
 

@@ -16,18 +16,24 @@ use Rattle.net_model.specs.Widths.{IsNet, GateFits, NetFits, StorageFits, IsType
 use Rattle.net_model.specs.Symbolic.{is_static}
 use Rattle.net_model.specs.Control.{write_enables, bus_enables, IsSound}
 use Rattle.net_model.proofs.Offsets.{all_parts}
-use Rattle.net_model.specs.CheckedRules.{ReadKeeps, GateKeeps, NetKeeps, StorageKeeps, memory_count, register_count, IsWellFormed, IsCounter, KeepsRules, HasRoles, count_in}
+use Rattle.net_model.specs.CheckedRules.{ReadKeeps, GateKeeps, NetKeeps, StorageKeeps, memory_count, register_count, IsWellFormed, IsCounter, KeepsRules, HasBankIf, HasFileIf, HasRoles, count_in}
+use Rattle.net_model.specs.Editions.{is_banked}
+use Rattle.net_model.proofs.ByEdition.{nets_within}
 
 -- ---- widths: a space has one storage at most, so a read is of its cells
 
 -- each space has one storage at most
 pub one_each : (netlist : Netlist) → HasRoles netlist → (space : Space) → count_in space netlist.storages ≤ 1
 one_each netlist r InMemory = omega (arith, r.memory)
-one_each netlist r InFile = few (netlist.edition == 2) r.file.0
+one_each netlist r InFile = by (is_banked netlist.edition) r.file r.bank
   where
     few : (b : Bool) → count_in InFile netlist.storages ≡ cond b 1 0 → count_in InFile netlist.storages ≤ 1
     few true e = omega (arith, e)
     few false e = omega (arith, e)
+
+    by : (b : Bool) → HasFileIf b netlist → HasBankIf b netlist → count_in InFile netlist.storages ≤ 1
+    by true file bank = omega (arith, bank.one)
+    by false file bank = few (netlist.edition == 2) file.0
 
 read_fits : (netlist : Netlist) (id width addr : ℕ) → ((space : Space) → count_in space netlist.storages ≤ 1) → (o : Option Storage) → slice_get netlist.storages id ≡ o → ReadKeeps netlist width addr o → IsNet netlist addr × (width_in (space_of o) netlist.storages ≡ width)
 read_fits netlist id width addr one None e h = absurd h
@@ -62,7 +68,7 @@ pub typed_of : (netlist : Netlist) → IsWellFormed netlist → HasRoles netlist
 typed_of netlist w r = record {
   nets = λ n. net_fits netlist (slice_get netlist.nets n) (one_each netlist r) (w.nets n);
   storages = storages_fit netlist netlist.storages w.storages;
-  few = omega (arith, w.limits.nets);
+  few = omega (arith, w.limits.nets, nets_within netlist.edition);
 }
 
 -- ---- control

@@ -6,7 +6,8 @@ use Rattle.std.specs.List.{AllByRecursion, list_all}
 use Rattle.rec_bits.proofs.Booleans.{and_left, and_right, left_false, right_false}
 use Rattle.rec_bits.specs.Faults.{least, gather, broken}
 use Rattle.rec_bits.proofs.Faults.{least_none}
-use Rattle.net_model.proofs.Spaces.{by_space}
+use Rattle.net_model.proofs.ByEdition.{nets_within}
+use Rattle.net_model.proofs.Memories.{most_within}
 use Rattle.net_model.specs.declared.hardware.Space.{Space}
 use Rattle.net_model.specs.declared.hardware.Space.TheVariants.{Memory as InMemory, File as InFile}
 use Rattle.net_model.specs.declared.fault.NetFault.{NetFault}
@@ -22,13 +23,14 @@ use Rattle.net_model.specs.TextWidths.{wide, is_width, port_width, ports_of}
 use Rattle.net_model.specs.NameRules.{is_among, repeated, port_name, repeated_ports, duplicates, is_register, unknown_in_item, unknowns}
 use Rattle.net_model.specs.WidthRules.{has_width, feeds, enables, driver_feeds, binding_feeds, feeds_port, port_keeps, widths_fit, misfit, misfits}
 use Rattle.net_model.specs.DriverRules.{names_new, is_driven, drives_once, binding_name, covers_binding, is_driven_item, undriven, undrivens}
-use Rattle.net_model.specs.LimitRules.{count_registers, cells_of, most_cells, words_of, greatest, over, limit_fault}
+use Rattle.net_model.specs.Editions.{is_banked}
+use Rattle.net_model.specs.LimitRules.{count_registers, cells_of, data_size, file_size, most_cells, most_nets, words_of, greatest, over, limit_fault}
 use Rattle.rec_bits.specs.Faults.{or_else}
 use Rattle.rec_bits.specs.Counts.{capped}
 use Rattle.net_model.specs.TextRules.{first_fault}
 use Rattle.rec_bits.specs.Faults.{fault_at}
 use Rattle.net_model.specs.Numbering.{bound, count_items}
-use Rattle.net_model.specs.Elaborable.{Feeds, FeedsIf, DriverFeeds, IsBound, PortFed, PortKeeps, IsRegisterItem, ItemKeeps, item_names, IsDriven, IsElaborable}
+use Rattle.net_model.specs.Elaborable.{Feeds, FeedsIf, DriverFeeds, IsBound, PortFed, PortKeeps, IsRegisterItem, ItemKeeps, item_names, IsDriven, IsElaborable, IsFewIn, IsSmall}
 
 -- ---- a rule that is broken nowhere
 
@@ -227,7 +229,7 @@ ports_apart_at (e ∷ text) (suc i) h = ports_apart_at text i h.1
 
 module _ (text : List Entry) (apart : AllByRecursion (λ e. repeated_ports e ≡ []) text) where
   item_keeps : (e : Entry) → repeated_ports e ≡ [] → unknown_in_item text e ≡ [] → IsTrue (widths_fit text e) → IsTrue (is_driven_item text e)
-      → ((space : Space) → IsTrue (nat_le (cells_of space e) (most_cells space))) → IsTrue (nat_le (words_of e) 65536) → ItemKeeps text e
+      → ((space : Space) → IsTrue (nat_le (cells_of space e) 65536)) → IsTrue (nat_le (words_of e) 65536) → ItemKeeps text e
   item_keeps (code name bits size counter) own known fit driven cells words =
       (fit, words, register_item (item_named text counter.name) (kept (is_register (item_named text counter.name)) counter.at known))
   item_keeps (register kind name width input when) own known fit driven cells words =
@@ -245,8 +247,8 @@ module _ (text : List Entry) (apart : AllByRecursion (λ e. repeated_ports e ≡
       let a = and_left (x && y && v && w) (enables s when) fit in
       let b = and_left (x && y && v) w a in
       let c = and_left (x && y) v b in
-      let few : (own : Space) → ((space : Space) → IsTrue (nat_le (cells_of space (memory own name width size addr_width value addr when)) (most_cells space))) → IsTrue (nat_le size (most_cells own)) =
-      λ own h. elim own as (λ own. ((space : Space) → IsTrue (nat_le (cells_of space (memory own name width size addr_width value addr when)) (most_cells space))) → IsTrue (nat_le size (most_cells own))) [ InMemory ↦ λ h. h InMemory | InFile ↦ λ h. h InFile ] h in (
+      let few : (own : Space) → ((space : Space) → IsTrue (nat_le (cells_of space (memory own name width size addr_width value addr when)) 65536)) → IsTrue (nat_le size 65536) =
+      λ own h. elim own as (λ own. ((space : Space) → IsTrue (nat_le (cells_of space (memory own name width size addr_width value addr when)) 65536)) → IsTrue (nat_le size 65536)) [ InMemory ↦ λ h. h InMemory | InFile ↦ λ h. h InFile ] h in (
         and_left x y c,
         and_right x y c,
         few space cells,
@@ -277,7 +279,7 @@ module _ (text : List Entry) (apart : AllByRecursion (λ e. repeated_ports e ≡
 
   items_keep : (entries : List Entry) → AllByRecursion (λ e. repeated_ports e ≡ []) entries → AllByRecursion (λ e. unknown_in_item text e ≡ []) entries
       → AllByRecursion (λ e. misfit text e ≡ []) entries → AllByRecursion (λ e. undriven text e ≡ []) entries
-      → ((space : Space) → AllByRecursion (λ e. IsTrue (nat_le (cells_of space e) (most_cells space))) entries) → AllByRecursion (λ e. IsTrue (nat_le (words_of e) 65536)) entries
+      → ((space : Space) → AllByRecursion (λ e. IsTrue (nat_le (cells_of space e) 65536)) entries) → AllByRecursion (λ e. IsTrue (nat_le (words_of e) 65536)) entries
       → AllByRecursion (ItemKeeps text) entries
   items_keep [] own known fit driven cells words = tt
   items_keep (e ∷ entries) own known fit driven cells words = (
@@ -298,11 +300,12 @@ within_so false fault h = absurd (cc h)
 within : (kind : NetKind) (limit count : ℕ) → over kind limit count ≡ None → IsTrue (nat_le count limit)
 within kind limit count h = within_so (nat_le count limit) _ h
 
-told_nets : (n : ℕ) → IsTrue (nat_le (capped n) 4096) → n ≤ 4096
-told_nets n h = let k : capped n ≤ 4096 = grind (arith, nat_tests) in omega arith
+-- a count that is kept below a bound that no kept count reaches
+told_below : (bound n : ℕ) → bound ≤ 4096 → IsTrue (nat_le (capped n) bound) → n ≤ bound
+told_below bound n small h = let k : capped n ≤ bound = grind (arith, nat_tests) in omega arith
 
-told_registers : (n : ℕ) → IsTrue (nat_le (capped n) 13) → n ≤ 13
-told_registers n h = let k : capped n ≤ 13 = grind (arith, nat_tests) in omega arith
+wider : (n limit bound : ℕ) → limit ≤ bound → IsTrue (nat_le n limit) → IsTrue (nat_le n bound)
+wider n limit bound le h = let k : n ≤ limit = grind (arith, nat_tests) in let l : n ≤ bound = omega arith in grind (arith, nat_tests)
 
 first_within : (a b limit : ℕ) → IsTrue (nat_le (max a b) limit) → IsTrue (nat_le a limit)
 first_within a b limit h = let k : max a b ≤ limit = grind (arith, nat_tests) in let l : a ≤ limit = omega arith in grind (arith, nat_tests)
@@ -317,50 +320,83 @@ sizes_within size limit (e ∷ text) h =
 
 -- ---- texts
 
--- the offsets of each rule are none, and the limits are kept
-record KeepsAll (text : List Entry) : Type 0 where
+-- the sizes of the items of a space, of which those of a file and of a memory are kept
+sizes_kept : (edition : ℕ) (text : List Entry) → IsTrue (nat_le (file_size edition text) 32) → IsTrue (nat_le (data_size edition text) 65536) → (space : Space)
+    → IsTrue (nat_le (greatest (cells_of space) text) (most_cells edition space))
+sizes_kept edition text small large InMemory = by (is_banked edition) large
+  where
+    by : (b : Bool) → IsTrue (nat_le (if b then max (greatest (cells_of InFile) text) (greatest (cells_of InMemory) text) else greatest (cells_of InMemory) text) 65536)
+        → IsTrue (nat_le (greatest (cells_of InMemory) text) 65536)
+    by true large = second_within (greatest (cells_of InFile) text) (greatest (cells_of InMemory) text) 65536 large
+    by false large = large
+sizes_kept edition text small large InFile = by (is_banked edition) small large
+  where
+    by : (b : Bool) → IsTrue (nat_le (if b then 0 else greatest (cells_of InFile) text) 32)
+        → IsTrue (nat_le (if b then max (greatest (cells_of InFile) text) (greatest (cells_of InMemory) text) else greatest (cells_of InMemory) text) 65536)
+        → IsTrue (nat_le (greatest (cells_of InFile) text) (if b then 65536 else 32))
+    by true small large = first_within (greatest (cells_of InFile) text) (greatest (cells_of InMemory) text) 65536 large
+    by false small large = small
+
+-- the offsets of each rule are none, and the limits of an edition are kept
+record KeepsAll (edition : ℕ) (text : List Entry) : Type 0 where
   no_duplicates : duplicates text ≡ []
   no_unknowns : unknowns text ≡ []
   no_misfits : misfits text ≡ []
   no_undrivens : undrivens text ≡ []
-  nets : IsTrue (nat_le (capped (count_items text text)) 4096)
+  nets : IsTrue (nat_le (capped (count_items text text)) (most_nets edition))
   registers : IsTrue (nat_le (capped (count_registers text)) 13)
-  cells : (space : Space) → IsTrue (nat_le (greatest (cells_of space) text) (most_cells space))
+  cells : (space : Space) → IsTrue (nat_le (greatest (cells_of space) text) (most_cells edition space))
   words : IsTrue (nat_le (greatest words_of text) 65536)
 
-keeps_all : (text : List Entry) → first_fault text ≡ None → KeepsAll text
-keeps_all text h =
+keeps_all : (edition : ℕ) (text : List Entry) → first_fault edition text ≡ None → KeepsAll edition text
+keeps_all edition text h =
     let a = both_none (fault_at Duplicate (least (duplicates text))) _ h in
     let b = both_none (fault_at Unknown (least (unknowns text))) _ a.1 in
     let c = both_none (fault_at Width (least (misfits text))) _ b.1 in
-    let d = both_none (fault_at Driver (least (undrivens text))) (limit_fault text) c.1 in
-    let e = both_none (over Nets 4096 (capped (count_items text text))) _ d.1 in
+    let d = both_none (fault_at Driver (least (undrivens text))) (limit_fault edition text) c.1 in
+    let e = both_none (over Nets (most_nets edition) (capped (count_items text text))) _ d.1 in
     let f = both_none (over Registers 13 (capped (count_registers text))) _ e.1 in
-    let x = both_none (over File 32 (greatest (cells_of InFile) text)) _ f.1 in
-    let g = both_none (over Cells 65536 (greatest (cells_of InMemory) text)) (over Words 65536 (greatest words_of text)) x.1 in
+    let x = both_none (over File 32 (file_size edition text)) _ f.1 in
+    let g = both_none (over Cells 65536 (data_size edition text)) (over Words 65536 (greatest words_of text)) x.1 in
     record {
       no_duplicates = rule_kept Duplicate (duplicates text) a.0;
       no_unknowns = rule_kept Unknown (unknowns text) b.0;
       no_misfits = rule_kept Width (misfits text) c.0;
       no_undrivens = rule_kept Driver (undrivens text) d.0;
-      nets = within Nets 4096 (capped (count_items text text)) e.0;
+      nets = within Nets (most_nets edition) (capped (count_items text text)) e.0;
       registers = within Registers 13 (capped (count_registers text)) f.0;
-      cells = by_space (λ space. IsTrue (nat_le (greatest (cells_of space) text) (most_cells space))) (within Cells 65536 (greatest (cells_of InMemory) text) g.0) (within File 32 (greatest (cells_of InFile) text) x.0);
+      cells = sizes_kept edition text (within File 32 (file_size edition text) x.0) (within Cells 65536 (data_size edition text) g.0);
       words = within Words 65536 (greatest words_of text) g.1;
     }
 
-pub elaborable_of : (text : List Entry) → first_fault text ≡ None → length text < 2 ^ 32 → IsElaborable text
-elaborable_of text h few =
-    let k = keeps_all text h in
+-- what an edition allows no edition has more of
+loose : (edition : ℕ) (space : Space) (text : List Entry) → AllByRecursion (IsSmall edition space) text → AllByRecursion (λ e. IsTrue (nat_le (cells_of space e) 65536)) text
+loose edition space [] h = tt
+loose edition space (e ∷ text) h =
+    (wider (cells_of space e) (most_cells edition space) 65536 (most_within edition space) h.0, loose edition space text h.1)
+
+-- items that keep the rules have as much as their edition asks for
+pub few_in_edition : (edition : ℕ) (text : List Entry) → first_fault edition text ≡ None → IsFewIn edition text
+few_in_edition edition text h =
+    let k = keeps_all edition text h in
+    record {
+      nets = told_below (most_nets edition) (count_items text text) (nets_within edition) k.nets;
+      cells = λ space. sizes_within (cells_of space) (most_cells edition space) text (k.cells space);
+    }
+
+pub elaborable_of : (edition : ℕ) (text : List Entry) → first_fault edition text ≡ None → length text < 2 ^ 32 → IsElaborable text
+elaborable_of edition text h few =
+    let k = keeps_all edition text h in
+    let of_edition = few_in_edition edition text h in
     let names = left_none (repeated [] (map own_name text)) (gather repeated_ports text) k.no_duplicates in
     let apart = gather_none repeated_ports text (right_none (repeated [] (map own_name text)) (gather repeated_ports text) k.no_duplicates) in
     let driven = gather_none (undriven text) text k.no_undrivens in
     record {
       names = items_new [] text names;
       items = items_keep text apart text apart (gather_none (unknown_in_item text) text k.no_unknowns) (gather_none (misfit text) text k.no_misfits) driven
-          (λ space. sizes_within (cells_of space) (most_cells space) text (k.cells space)) (sizes_within words_of 65536 text k.words);
+          (λ space. loose edition space text (of_edition.cells space)) (sizes_within words_of 65536 text k.words);
       driven = items_driven text apart text driven;
-      few_nets = told_nets (count_items text text) k.nets;
-      few_registers = told_registers (count_registers text) k.registers;
+      few_nets = omega (arith, of_edition.nets, nets_within edition);
+      few_registers = told_below 13 (count_registers text) (omega arith) k.registers;
       few_items = few;
     }

@@ -32,3 +32,4 @@ pub mod Bases
 pub mod Fixes
 pub mod ModeFaults
 pub mod BaseTexts
+pub mod ByEdition

@@ -1,5 +1,5 @@
 -- The data memory of a checked netlist.
-use Rattle.std.proofs.Common.{◌≡◌, ◌≤◌, ℕ, List, [], ◌∷◌, length, refl, arith, Option, ◌∙◌, Some, ap, None}
+use Rattle.std.proofs.Common.{◌≡◌, ◌≤◌, ◌==◌, ℕ, Bool, true, false, if◌then◌else◌, List, [], ◌∷◌, length, refl, arith, Option, ◌∙◌, Some, ap, None}
 use Rattle.std.specs.Prelude.{slice_get}
 use Rattle.std.specs.List.{AllByRecursion}
 use Rattle.net_model.proofs.Storages.{array_of, array_no_register}
@@ -57,20 +57,28 @@ memory_is_wide netlist (File cells ∷ storages) keeps one = memory_is_wide netl
 pub memory_width_of : (netlist : Netlist) (order : List ℕ) → KeepsRules netlist order → IsWidth (memory_width netlist.storages)
 memory_width_of netlist order rules = memory_is_wide netlist netlist.storages rules.formed.storages rules.roles.memory
 
-few_in : (space : Space) (storages : List Storage) → AllByRecursion HasFewCells storages → size_in space storages ≤ most_cells space
-few_in InMemory [] h = omega arith
-few_in InFile [] h = omega arith
-few_in InMemory (Register name width input when ∷ storages) h = few_in InMemory storages h.1
-few_in InMemory (Memory cells ∷ storages) h = h.0
-few_in InMemory (File cells ∷ storages) h = few_in InMemory storages h.1
-few_in InFile (Register name width input when ∷ storages) h = few_in InFile storages h.1
-few_in InFile (Memory cells ∷ storages) h = few_in InFile storages h.1
-few_in InFile (File cells ∷ storages) h = h.0
+-- in no edition are there more than 65,536
+pub most_within : (edition : ℕ) (space : Space) → most_cells edition space ≤ 65536
+most_within edition InMemory = omega arith
+most_within edition InFile = by (edition == 4)
+  where
+    by : (b : Bool) → (if b then 65536 else 32) ≤ 65536
+    by true = omega arith
+    by false = omega arith
 
-pub few_cells : (netlist : Netlist) (order : List ℕ) (s : State) (space : Space) → KeepsRules netlist order → IsState netlist s → length (held s space) ≤ most_cells space
-few_cells netlist order s space k h = omega (arith, h.cells space, few_in space netlist.storages k.formed.limits.cells)
+few_in : (edition : ℕ) (space : Space) (storages : List Storage) → AllByRecursion (HasFewCells edition) storages → size_in space storages ≤ most_cells edition space
+few_in edition InMemory [] h = omega arith
+few_in edition InFile [] h = omega arith
+few_in edition InMemory (Register name width input when ∷ storages) h = few_in edition InMemory storages h.1
+few_in edition InMemory (Memory cells ∷ storages) h = h.0
+few_in edition InMemory (File cells ∷ storages) h = few_in edition InMemory storages h.1
+few_in edition InFile (Register name width input when ∷ storages) h = few_in edition InFile storages h.1
+few_in edition InFile (Memory cells ∷ storages) h = few_in edition InFile storages h.1
+few_in edition InFile (File cells ∷ storages) h = h.0
 
--- neither has more than 65,536
+-- neither space has more than 65,536
 pub few_sizes : (netlist : Netlist) (order : List ℕ) → KeepsRules netlist order → (space : Space) → size_in space netlist.storages ≤ 65536
-few_sizes netlist order k InMemory = few_in InMemory netlist.storages k.formed.limits.cells
-few_sizes netlist order k InFile = omega (arith, few_in InFile netlist.storages k.formed.limits.cells)
+few_sizes netlist order k space = omega (arith, few_in netlist.edition space netlist.storages k.formed.limits.cells, most_within netlist.edition space)
+
+pub few_cells : (netlist : Netlist) (order : List ℕ) (s : State) (space : Space) → KeepsRules netlist order → IsState netlist s → length (held s space) ≤ 65536
+few_cells netlist order s space k h = omega (arith, h.cells space, few_sizes netlist order k space)

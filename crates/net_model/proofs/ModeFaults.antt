@@ -13,7 +13,7 @@ use Rattle.net_model.specs.declared.hardware.Gate.{Gate}
 use Rattle.net_model.specs.declared.hardware.Gate.TheVariants.{Word, Reg, Read, Const, Wire, Un, Bin, Slice, Cat, Zext, Sext, Case, Bus}
 use Rattle.net_model.specs.declared.fault.Role.{Role}
 use Rattle.net_model.specs.declared.fault.Role.TheVariants.{Pc, Size, Addr}
-use Rattle.net_model.specs.declared.fault.Role.TheVariants.{Code as NotOneCode, Memory as NotOneMemory, File as NoFile, Mode as NoMode}
+use Rattle.net_model.specs.declared.fault.Role.TheVariants.{Code as NotOneCode, Memory as NotOneMemory, File as NoFile, Mode as NoMode, Bank as NoBank}
 use Rattle.net_model.specs.declared.fault.CheckFault.{CheckFault}
 use Rattle.net_model.specs.declared.fault.CheckFault.TheVariants.{Fault}
 use Rattle.net_model.specs.declared.fault.CheckFault.TheVariants.{Memory as NoRoom}
@@ -24,10 +24,11 @@ use Rattle.net_model.specs.Nets.{gate_nets, nets_of, storage_bits}
 use Rattle.net_model.specs.Depends.{Depends, IsAcyclic, IsLeastOnCycle, named_by}
 use Rattle.net_model.specs.Symbolic.{all_nets, gate_static, net_static, static_within, is_static}
 use Rattle.net_model.specs.Control.{enables, gate_enables, gate_selectors, selectors, control_places, is_selector, write_enables, AllPass}
-use Rattle.net_model.specs.CheckedRules.{HasRoles, HasStaticEnables, HasPlainControl, HasNarrowSelectors, control_within, net_control, is_control, is_control_gate, is_plain, file_addrs, gate_file_addrs, storage_file_addrs, KeepsRules, Ordered}
+use Rattle.net_model.specs.CheckedRules.{HasRoles, HasStaticEnables, HasPlainControl, HasNarrowSelectors, control_within, net_control, is_control, is_control_gate, is_plain, all_file_addrs, file_addrs, gate_file_addrs, storage_file_addrs, KeepsRules, Ordered}
 use Rattle.net_model.specs.NetFaults.{FaultOf, IsFaultOrMemory, LacksRole, net_name, name_at, failing}
 use Rattle.net_model.specs.Fixed.{fixed_gate, fixed_net, fixed_of, in_mode, mode_count}
 use Rattle.net_model.specs.ModeRules.{AreModesOf, base_at, bases_below, bases_of, KeepsInOrder, KeepsModes, ModeFaultOf, IsTriedBefore, modes_in, RefusesModes, rule_place, whole_of}
+use Rattle.net_model.proofs.ByEdition.{no_special}
 use Rattle.net_model.proofs.Fixes.{length_bases}
 use Rattle.net_model.proofs.Fixing.{same_width}
 use Rattle.net_model.proofs.FaultLaws.{kept_no_fault, one_fault}
@@ -124,7 +125,7 @@ module _ (mode v : ℕ) where
     selectors_same : selectors (fixed_of mode v netlist) ≡ selectors netlist
     selectors_same = gather_same gate_selectors gate_selectors same_selectors netlist.nets
 
-    file_addrs_same : file_addrs (fixed_of mode v netlist) ≡ file_addrs netlist
+    file_addrs_same : file_addrs (fixed_of mode v netlist) ≡ all_file_addrs netlist
     file_addrs_same =
         ap (λ (ns : List ℕ). gather storage_file_addrs netlist.storages ++ ns)
         (gather_same (gate_file_addrs (fixed_of mode v netlist)) (gate_file_addrs netlist) (same_addrs netlist) netlist.nets)
@@ -273,6 +274,7 @@ module _ (netlist : Netlist) (mode u v : ℕ) where
     address = h.address;
     file = h.file;
     mode = tt;
+    bank = tt;
   }
 
   lacks_alike : (role : Role) → LacksRole a role → LacksRole b role
@@ -283,6 +285,7 @@ module _ (netlist : Netlist) (mode u v : ℕ) where
   lacks_alike Addr h = h
   lacks_alike NoFile h = h
   lacks_alike NoMode h = h
+  lacks_alike NoBank h = h
 
   enables_kept : HasStaticEnables a → HasStaticEnables b
   enables_kept = pass_alike (is_static a) (is_static b) static_alike (enables a) (enables b) enables_alike
@@ -398,7 +401,7 @@ alone_bases netlist none = ap (bases_below netlist) (alone_modes netlist none) �
 
 pub modes_alone : (checked : Ordered) → checked.netlist.special ≡ None → KeepsRules checked.netlist checked.order → AreModesOf checked.netlist (checked ∷ [])
 modes_alone checked none rules = record {
-  special = rules.formed.mode;
+  special = no_special checked.netlist checked.netlist.special none;
   are = sym (alone_bases checked.netlist none);
   rules = (rules, tt);
 }

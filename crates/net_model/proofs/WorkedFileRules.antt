@@ -21,7 +21,7 @@ f4_formed = record {
   nets = at_each (λ n net. NetKeeps f4 net) (λ n. tt) f4.nets (search rules);
   storages = search rules;
   codes = search rules;
-  mode = tt;
+  special = tt;
   limits = record { nets = lit≤ tt; registers = lit≤ tt; cells = (tt, (lit≤ tt, (lit≤ tt, tt))); words = (lit≤ tt, tt) };
 }
 
@@ -42,6 +42,7 @@ f4_roles = record {
   address = lit≤ tt;
   file = (refl, (lit≤ tt, lit≤ tt));
   mode = tt;
+  bank = tt;
 }
 
 pub f4_keeps : KeepsRules f4 f4_order
@@ -63,7 +64,7 @@ first_breaks order k = cc (k.roles.file.0)
 pub fileless_breaks : (order : List ℕ) → KeepsRules (record f4 {
   storages =
       Register (codes "PC") 2 2 None
-      ∷ Memory (record { name = codes "M"; width = 4; size = 1; addr_width = 1; value = 10; addr = 11; when = Some 12 }) ∷ [];
+      ∷ Memory (record { name = codes "M"; name_at = 145; width = 4; size = 1; addr_width = 1; value = 10; addr = 11; when = Some 12 }) ∷ [];
 }) order → ⊥
 fileless_breaks order k = cc (k.roles.file.0)
 
@@ -71,7 +72,7 @@ fileless_breaks order k = cc (k.roles.file.0)
 pub counter_breaks : (order : List ℕ) → KeepsRules (record f4 {
   storages =
       Register (codes "PC") 2 2 None
-      ∷ File (record { name = codes "R"; width = 4; size = 3; addr_width = 2; value = 7; addr = 3; when = None })
-      ∷ Memory (record { name = codes "M"; width = 4; size = 1; addr_width = 1; value = 10; addr = 11; when = Some 12 }) ∷ [];
+      ∷ File (record { name = codes "R"; name_at = 75; width = 4; size = 3; addr_width = 2; value = 7; addr = 3; when = None })
+      ∷ Memory (record { name = codes "M"; name_at = 145; width = 4; size = 1; addr_width = 1; value = 10; addr = 11; when = Some 12 }) ∷ [];
 }) order → ⊥
 counter_breaks order k = cc (k.addresses.0)

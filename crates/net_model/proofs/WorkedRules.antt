@@ -57,7 +57,7 @@ s8_formed = record {
   nets = s8_nets;
   storages = search rules;
   codes = search rules;
-  mode = tt;
+  special = tt;
   limits = record { nets = lit≤ tt; registers = lit≤ tt; cells = (tt, (lit≤ tt, tt)); words = (lit≤ tt, tt) };
 }
 
@@ -78,6 +78,7 @@ s8_roles = record {
   address = lit≤ tt;
   file = (refl, tt);
   mode = tt;
+  bank = tt;
 }
 
 pub s8_keeps : KeepsRules s8 s8_order
@@ -106,7 +107,7 @@ b2_formed = record {
   nets = at_each (λ n net. NetKeeps b2 net) (λ n. tt) b2.nets (search rules);
   storages = search rules;
   codes = search rules;
-  mode = tt;
+  special = tt;
   limits = record { nets = lit≤ tt; registers = lit≤ tt; cells = search rules; words = (lit≤ tt, tt) };
 }
 
@@ -130,6 +131,7 @@ b2_keeps = record {
     address = lit≤ tt;
     file = (refl, tt);
     mode = tt;
+    bank = tt;
   };
   enables = search rules;
   control = search rules;
@@ -177,7 +179,7 @@ a16_formed = record {
   nets = at_each (λ n net. NetKeeps a16 net) (λ n. tt) a16.nets (search (rules, a16_branch_whole, a16_alu_apart, a16_branch_apart, a16_pc_apart, a16_one_apart, a16_when_apart));
   storages = search rules;
   codes = search rules;
-  mode = tt;
+  special = tt;
   limits = record { nets = lit≤ tt; registers = lit≤ tt; cells = search rules; words = (lit≤ tt, tt) };
 }
 
@@ -201,6 +203,7 @@ a16_keeps = record {
     address = lit≤ tt;
     file = (refl, tt);
     mode = tt;
+    bank = tt;
   };
   enables = search rules;
   control = search rules;
@@ -216,7 +219,7 @@ ring_breaks order k = omega (arith, (k.ordered.falls 0).0, (k.ordered.falls 1).0
 abbrev enabled_by : Gate → Netlist
 enabled_by gate = record {
   nets = s8.nets ++ record { width = 1; name_at = 0; gate = gate } ∷ [];
-  storages = Register (codes "PC") 4 5 None ∷ Memory (record { name = codes "M"; width = 5; size = 4; addr_width = 2; value = 7; addr = 8; when = (Some 11) }) ∷ [];
+  storages = Register (codes "PC") 4 5 None ∷ Memory (record { name = codes "M"; name_at = 0; width = 5; size = 4; addr_width = 2; value = 7; addr = 8; when = (Some 11) }) ∷ [];
   codes = s8.codes;
   edition = 1;
   special = None;
@@ -231,10 +234,10 @@ pub added_breaks : (order : List ℕ) → KeepsRules (enabled_by (Bin Add 1 9)) 
 added_breaks order k = cc (k.control.0)
 
 -- the program counter has no `when`
-pub held_breaks : (order : List ℕ) → KeepsRules (record s8 { storages = Register (codes "PC") 4 5 (Some 10) ∷ Memory (record { name = codes "M"; width = 5; size = 4; addr_width = 2; value = 7; addr = 8; when = (Some 10) }) ∷ [] }) order → ⊥
+pub held_breaks : (order : List ℕ) → KeepsRules (record s8 { storages = Register (codes "PC") 4 5 (Some 10) ∷ Memory (record { name = codes "M"; name_at = 0; width = 5; size = 4; addr_width = 2; value = 7; addr = 8; when = (Some 10) }) ∷ [] }) order → ⊥
 held_breaks order k = k.roles.counter
 
 -- two storages of one name
-pub twice_breaks : (order : List ℕ) → KeepsRules (record s8 { storages = Register (codes "M") 4 5 None ∷ Memory (record { name = codes "M"; width = 5; size = 4; addr_width = 2; value = 7; addr = 8; when = (Some 10) }) ∷ [] }) order → ⊥
+pub twice_breaks : (order : List ℕ) → KeepsRules (record s8 { storages = Register (codes "M") 4 5 None ∷ Memory (record { name = codes "M"; name_at = 0; width = 5; size = 4; addr_width = 2; value = 7; addr = 8; when = (Some 10) }) ∷ [] }) order → ⊥
 unfolding IsDistinct
 twice_breaks order k = cc (k.formed.names.0.0)

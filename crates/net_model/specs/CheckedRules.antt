@@ -1,6 +1,6 @@
 -- The rules that a checked netlist keeps, each said of the netlist alone. The rules N10, N12 and
 -- N13 speak of all instruction words and are asked later.
-use Rattle.std.specs.Prelude.{ℕ, zero, suc, ◌+◌, ◌==◌, if◌then◌else◌, ◌^◌, ◌<◌, ◌≤◌, ◌≡◌, ◌++◌, ◌&&◌, ◌||◌, not, nat_eq, List, [], ◌∷◌, length, map, Option, Some, None, slice_get, Bool, true, false, IsTrue}
+use Rattle.std.specs.Prelude.{ℕ, zero, suc, ◌+◌, ◌==◌, if◌then◌else◌, ◌^◌, ◌<◌, ◌≤◌, ◌≡◌, ◌++◌, ◌&&◌, ◌||◌, not, nat_eq, List, [], ◌∷◌, length, map, Option, Some, None, slice_get, Bool, true, false, IsTrue, is_some}
 use Rattle.std.specs.List.{AllByRecursion, IsDistinct, list_any}
 use Rattle.std.specs.Cmp.Lexicographic.{pointwise}
 use Rattle.rec_bits.specs.declared.operator.Op1.TheVariants.{Not}
@@ -15,9 +15,9 @@ use Rattle.net_model.specs.declared.hardware.Space.{Space}
 use Rattle.net_model.specs.declared.hardware.Space.TheVariants.{Memory as InMemory, File as InFile}
 use Rattle.net_model.specs.declared.hardware.Gate.{Gate}
 use Rattle.net_model.specs.declared.hardware.Gate.TheVariants.{Word, Reg, Read, Const, Wire, Un, Bin, Slice, Cat, Zext, Sext, Case}
-use Rattle.net_model.specs.Editions.{is_moded}
-use Rattle.net_model.specs.Nets.{width_at, gate_nets, storage_bits, IsRegister, counter_of, counter_width, memory_size, memory_width, addr_width_in, array_in, is_in, space_at, storage_array, storage_name}
-use Rattle.net_model.specs.LimitRules.{most_cells}
+use Rattle.net_model.specs.Editions.{is_banked, is_moded}
+use Rattle.net_model.specs.Nets.{width_at, gate_nets, storage_bits, IsRegister, HasCells, counter_of, counter_width, memory_size, memory_width, size_in, width_in, addr_width_in, array_in, is_in, space_at, storage_array, storage_name}
+use Rattle.net_model.specs.LimitRules.{most_cells, most_nets}
 use Rattle.rec_bits.specs.Faults.{gather}
 use Rattle.net_model.specs.Widths.{GateFits, HasWidth, StorageFits}
 use Rattle.net_model.specs.Symbolic.{all_nets, is_static}
@@ -95,6 +95,19 @@ IsMode netlist None = Unit {0}
 IsMode netlist (Some id) =
     IsRegister (slice_get netlist.storages id) × (storage_bits (slice_get netlist.storages id) ≤ 2)
 
+-- a bank is a file
+abbrev pub IsBank : Netlist → Option ℕ → Type 0
+IsBank netlist None = Unit {0}
+IsBank netlist (Some id) = HasCells InFile (slice_get netlist.storages id)
+
+-- what is special is the bank, in a netlist that may have one, and otherwise the mode
+abbrev pub IsSpecialIf : Bool → Netlist → Option ℕ → Type 0
+IsSpecialIf true netlist special = IsBank netlist special
+IsSpecialIf false netlist special = IsMode netlist special
+
+abbrev pub IsSpecial : Netlist → Type 0
+IsSpecial netlist = IsSpecialIf (is_banked netlist.edition) netlist netlist.special
+
 -- ---- N11: limits
 
 abbrev pub register_count : List Storage → ℕ
@@ -110,18 +123,18 @@ count_in space (storage ∷ storages) = (if is_in space storage then 1 else 0) +
 abbrev pub memory_count : List Storage → ℕ
 memory_count storages = count_in InMemory storages
 
--- a memory has at most 65,536 cells, and a file 32
-abbrev pub HasFewCells : Storage → Type 0
-HasFewCells (Register name width input when) = Unit {0}
-HasFewCells (Memory cells) = cells.size ≤ most_cells InMemory
-HasFewCells (File cells) = cells.size ≤ most_cells InFile
+-- a memory has at most 65,536 cells, and a file 32, or as many as a memory where it is a bank
+abbrev pub HasFewCells : ℕ → Storage → Type 0
+HasFewCells edition (Register name width input when) = Unit {0}
+HasFewCells edition (Memory cells) = cells.size ≤ most_cells edition InMemory
+HasFewCells edition (File cells) = cells.size ≤ most_cells edition InFile
 
--- at most 4,096 nets, 13 registers, so many cells of a memory and of a file, and 65,536 words of a
--- code
+-- at most 4,096 nets, or 1,000 beside a bank, 13 registers, so many cells of a memory and of a file,
+-- and 65,536 words of a code
 pub record IsWithinLimits (netlist : Netlist) : Type 0 where
-  pub nets : length netlist.nets ≤ 4096
+  pub nets : length netlist.nets ≤ most_nets netlist.edition
   pub registers : register_count netlist.storages ≤ 13
-  pub cells : AllByRecursion HasFewCells netlist.storages
+  pub cells : AllByRecursion (HasFewCells netlist.edition) netlist.storages
   pub words : AllByRecursion (λ (code : Code). code.words ≤ 65536) netlist.codes
 
 -- the rules N1 to N4 and N11, which a netlist keeps as it is made of a text
@@ -130,7 +143,7 @@ pub record IsWellFormed (netlist : Netlist) : Type 0 where
   pub nets : (n : ℕ) → NetKeeps netlist (slice_get netlist.nets n)
   pub storages : AllByRecursion (StorageKeeps netlist) netlist.storages
   pub codes : AllByRecursion (CodeKeeps netlist) netlist.codes
-  pub mode : IsMode netlist netlist.special
+  pub special : IsSpecial netlist
   pub limits : IsWithinLimits netlist
 
 -- ---- N6: what a processor has one of
@@ -172,7 +185,7 @@ HasSizes netlist =
 abbrev pub HasAddress : Netlist → Type 0
 HasAddress netlist = memory_addr_width netlist.storages ≤ memory_width netlist.storages
 
--- how many files a netlist of an edition has
+-- how many files a netlist of an edition has; which of them are banks is asked apart
 abbrev pub files_of : ℕ → ℕ
 files_of edition = if edition == 2 then 1 else 0
 
@@ -181,10 +194,18 @@ abbrev pub IsReached : Option Cells → Type 0
 IsReached None = Unit {0}
 IsReached (Some cells) = IsAddressed cells.size cells.addr_width
 
--- as many files as its edition has, and an address reaches all cells
-abbrev pub HasFile : Netlist → Type 0
-HasFile netlist =
+-- as many files as the edition of a netlist has, and an address reaches all cells
+abbrev pub HasFiles : Netlist → Type 0
+HasFiles netlist =
     (count_in InFile netlist.storages ≡ files_of netlist.edition) × IsReached (array_in InFile netlist.storages)
+
+abbrev pub HasFileIf : Bool → Netlist → Type 0
+HasFileIf true netlist = Unit {0}
+HasFileIf false netlist = HasFiles netlist
+
+-- its edition's file; a bank is none
+abbrev pub HasFile : Netlist → Type 0
+HasFile netlist = HasFileIf (is_banked netlist.edition) netlist
 
 -- there is a mode, where one is asked for
 abbrev pub HasModeIf : Bool → Option ℕ → Type 0
@@ -196,7 +217,29 @@ HasModeIf false special = Unit {0}
 abbrev pub HasMode : Netlist → Type 0
 HasMode netlist = HasModeIf (is_moded netlist.edition) netlist.special
 
--- a code, a memory, a program counter and the edition's file or mode, of sizes that fit together
+-- The bank is the only file, of the memory's widths and at most as large as an address reaches, and
+-- the memory has a cell for each address; a cell holds an address and one bit more of both, with
+-- room for a sign.
+pub record HasBankBeside (storages : List Storage) (bank : Option ℕ) : Type 0 where
+  pub special : IsTrue (is_some bank)
+  pub one : count_in InFile storages ≡ 1
+  pub width : width_in InFile storages ≡ memory_width storages
+  pub addresses : addr_width_in InFile storages ≡ memory_addr_width storages
+  pub size : IsAddressed (size_in InFile storages) (memory_addr_width storages)
+  pub full : memory_size storages ≡ 2 ^ memory_addr_width storages
+  pub few : memory_addr_width storages ≤ 15
+  pub narrow : memory_addr_width storages + 2 ≤ memory_width storages
+
+abbrev pub HasBankIf : Bool → Netlist → Type 0
+HasBankIf true netlist = HasBankBeside netlist.storages netlist.special
+HasBankIf false netlist = Unit {0}
+
+-- a bank beside the memory, where its edition has one
+abbrev pub HasBank : Netlist → Type 0
+HasBank netlist = HasBankIf (is_banked netlist.edition) netlist
+
+-- a code, a memory, a program counter and the edition's file, mode or bank, of sizes that fit
+-- together
 pub record HasRoles (netlist : Netlist) : Type 0 where
   pub code : HasOneCode netlist
   pub memory : HasOneMemory netlist
@@ -205,6 +248,7 @@ pub record HasRoles (netlist : Netlist) : Type 0 where
   pub address : HasAddress netlist
   pub file : HasFile netlist
   pub mode : HasMode netlist
+  pub bank : HasBank netlist
 
 -- ---- N7: enables depend on the instruction word alone
 
@@ -272,11 +316,15 @@ abbrev pub gate_file_addrs : Netlist → Gate → List ℕ
 gate_file_addrs netlist (Read memory addr) = addr_in_file (space_at netlist memory) addr
 gate_file_addrs netlist _ = []
 
--- the addresses at which the file is written and read
-abbrev pub file_addrs : Netlist → List ℕ
-file_addrs netlist =
+-- the addresses at which the files are written and read
+abbrev pub all_file_addrs : Netlist → List ℕ
+all_file_addrs netlist =
     gather storage_file_addrs netlist.storages
     ++ gather (λ (net : Net). gate_file_addrs netlist net.gate) netlist.nets
+
+-- those of the register file: a bank is none
+abbrev pub file_addrs : Netlist → List ℕ
+file_addrs netlist = if is_banked netlist.edition then [] else all_file_addrs netlist
 
 abbrev pub HasStaticFileAddrs : Netlist → Type 0
 HasStaticFileAddrs netlist = AllPass (is_static netlist) (file_addrs netlist)

@@ -9,7 +9,7 @@ use Rattle.grammar.specs.declared.words.Word.TheVariants.{Name, Number, Symbol a
 use Rattle.net_model.specs.declared.words.Key.{Key}
 use Rattle.net_model.specs.declared.words.Key.TheVariants.{Item}
 use Rattle.net_model.specs.declared.words.ItemWord.{ItemWord}
-use Rattle.net_model.specs.declared.words.ItemWord.TheVariants.{File, Mode}
+use Rattle.net_model.specs.declared.words.ItemWord.TheVariants.{File, Mode, Bank}
 use Rattle.net_model.specs.declared.words.Symbol.{Symbol}
 use Rattle.net_model.specs.declared.words.Symbol.TheVariants.{Version}
 
@@ -25,17 +25,22 @@ Lexed = LexedOf Symbol Key
 
 -- the item that the edition of a number adds, and none where there is no such edition
 abbrev pub added_by : ℕ → Option ItemWord
-added_by n = if n == 2 then Some File else if n == 3 then Some Mode else None
+added_by n = if n == 2 then Some File else if n == 3 then Some Mode else if n == 4 then Some Bank else None
 
 -- a text is the word of such an item
 abbrev pub is_added : ItemWord → List ℕ → Bool
 is_added File text = bytes_eq text (codes "file")
 is_added Mode text = bytes_eq text (codes "mode")
+is_added Bank text = bytes_eq text (codes "bank")
 is_added _ text = false
 
 -- the edition whose netlists have a mode: at each of its numbers such a netlist is another one
 abbrev pub is_moded : ℕ → Bool
 is_moded edition = edition == 3
+
+-- the edition whose netlists have a bank, a second data memory; its item gives a file
+abbrev pub is_banked : ℕ → Bool
+is_banked edition = edition == 4
 
 -- ---- the words of a text
 

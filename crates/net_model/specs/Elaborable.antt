@@ -8,7 +8,8 @@ use Rattle.net_model.specs.Written.{Entry, code, register, memory, net, bus, mod
 use Rattle.net_model.specs.TextNames.{own_name, item_named, Scope, in_text, in_module}
 use Rattle.net_model.specs.TextWidths.{wide, is_width, ports_of}
 use Rattle.net_model.specs.DriverRules.{is_driven_item, names_new}
-use Rattle.net_model.specs.LimitRules.{count_registers, most_cells}
+use Rattle.net_model.specs.LimitRules.{cells_of, count_registers, most_cells, most_nets}
+use Rattle.net_model.specs.declared.hardware.Space.{Space}
 use Rattle.net_model.specs.Numbering.{bound, count_items}
 
 -- an expression that keeps the rule of widths and has this width
@@ -46,7 +47,7 @@ ItemKeeps text (code name bits size counter) =
 ItemKeeps text (register kind name width input when) =
     IsTrue (is_width width) × Feeds (in_text text) width input × FeedsIf (in_text text) 1 when
 ItemKeeps text (memory space name width size addr_width value addr when) =
-    IsTrue (is_width width) × IsTrue (is_width addr_width) × IsTrue (nat_le size (most_cells space))
+    IsTrue (is_width width) × IsTrue (is_width addr_width) × IsTrue (nat_le size 65536)
     × Feeds (in_text text) width value
     × Feeds (in_text text) addr_width addr × FeedsIf (in_text text) 1 when
 ItemKeeps text (net name width value) = IsTrue (is_width width) × Feeds (in_text text) width value
@@ -71,3 +72,12 @@ pub record IsElaborable (text : List Entry) : Type 0 where
   pub few_nets : count_items text text ≤ 4096
   pub few_registers : count_registers text ≤ 13
   pub few_items : length text < 2 ^ 32
+
+-- an item has few enough cells
+abbrev pub IsSmall : ℕ → Space → Entry → Type 0
+IsSmall edition space e = IsTrue (nat_le (cells_of space e) (most_cells edition space))
+
+-- as few nets, and as few cells in each item, as an edition asks for
+pub record IsFewIn (edition : ℕ) (text : List Entry) : Type 0 where
+  pub nets : count_items text text ≤ most_nets edition
+  pub cells : (space : Space) → AllByRecursion (IsSmall edition space) text

@@ -13,7 +13,7 @@ use Rattle.net_model.specs.declared.units.RegisterKind.TheVariants.{Mode as AsMo
 use Rattle.net_model.specs.declared.hardware.Space.TheVariants.{Memory as InMemory, File as InFile}
 use Rattle.net_model.specs.declared.hardware.Gate.{Gate}
 use Rattle.net_model.specs.declared.hardware.Gate.TheVariants.{Word, Reg, Read, Const, Wire, Un, Bin, Slice, Cat, Zext, Sext, Case, Bus}
-use Rattle.net_model.specs.Editions.{is_moded}
+use Rattle.net_model.specs.Editions.{is_banked, is_moded}
 use Rattle.net_model.specs.Written.{Text, Entry, code, register, memory, net, bus, module_item, part, Phrase, named, const, un, bin, cat, slice, zext, sext, read, case, Rows, no_rows, row, Rest, no_rest, rest}
 use Rattle.net_model.specs.TextNames.{item_named}
 use Rattle.net_model.specs.TextWidths.{wide, ports_of}
@@ -199,6 +199,7 @@ item_storages text start (register kind name width input when) =
 item_storages text start (memory space name width size addr_width value addr when) =
     storage_in space (record {
       name = name.name;
+      name_at = name.at;
       width = width;
       size = size;
       addr_width = addr_width;
@@ -250,9 +251,27 @@ abbrev pub lone_mode : List (ℕ × ℕ) → Option ℕ
 lone_mode (mode ∷ []) = if nat_le mode.1 2 then Some mode.0 else None
 lone_mode _ = None
 
--- the mode of items that are of an edition; only one edition has any
+-- the files among items, which are banks where the edition has one: the storage of each, where the
+-- first item's storage has a number
+abbrev pub own_files : ℕ → Entry → List ℕ
+own_files storage (memory InFile name width size addr_width value addr when) = storage ∷ []
+own_files storage _ = []
+
+abbrev pub files_from : ℕ → List Entry → List ℕ
+files_from storage [] = []
+files_from storage (e ∷ entries) = own_files storage e ++ files_from (storage + count_storages e) entries
+
+-- the storage of the bank, where there is one alone
+abbrev pub lone_bank : List ℕ → Option ℕ
+lone_bank (bank ∷ []) = Some bank
+lone_bank _ = None
+
+-- the mode, or the bank, of items that are of an edition; one edition has a mode, and one a bank
 abbrev pub special_in : ℕ → List Entry → Option ℕ
-special_in edition text = if is_moded edition then lone_mode (modes_from 0 text) else None
+special_in edition text =
+    if is_moded edition then lone_mode (modes_from 0 text)
+    else if is_banked edition then lone_bank (files_from 0 text)
+    else None
 
 -- the netlist of items that are of an edition, and of a text
 abbrev pub netlist_in : ℕ → List Entry → Netlist

@@ -8,7 +8,7 @@ use Rattle.grammar.specs.Tokens.{Sign, IsName, IsNumber, ByWord, IsNothing, Behi
 use Rattle.grammar.specs.declared.words.Word.TheVariants.{Name, Number, Symbol as Shows, Key as Keyed}
 use Rattle.net_model.specs.declared.words.Key.TheVariants.{Item, Operator as Operates}
 use Rattle.net_model.specs.declared.words.ItemWord.{ItemWord}
-use Rattle.net_model.specs.declared.words.ItemWord.TheVariants.{Code, Register, Mode, Memory, File, Net, Bus, Module, Part}
+use Rattle.net_model.specs.declared.words.ItemWord.TheVariants.{Code, Register, Mode, Memory, File, Bank, Net, Bus, Module, Part}
 use Rattle.net_model.specs.declared.hardware.Space.{Space}
 use Rattle.net_model.specs.declared.units.RegisterKind.{RegisterKind}
 use Rattle.net_model.specs.declared.units.RegisterKind.TheVariants.{Plain, Mode as AsMode}
@@ -212,12 +212,16 @@ IsFed symbol = do
   when ← Before IsWhen Semicolon
   Return (input, when)
 
--- 'write' Expr 'at' Expr [ 'when' Expr ] ';'
-abbrev pub IsWrite : List Lexed → Phrase × (Phrase × Option Phrase) → Type 0
-IsWrite = do
-  value ← Behind Write IsOuter
+-- Expr 'at' Expr [ 'when' Expr ] ';'
+abbrev pub IsWritten : List Lexed → Phrase × (Phrase × Option Phrase) → Type 0
+IsWritten = do
+  value ← IsOuter
   fed ← IsFed At
   Return (value, fed)
+
+-- 'write' Expr 'at' Expr [ 'when' Expr ] ';'
+abbrev pub IsWrite : List Lexed → Phrase × (Phrase × Option Phrase) → Type 0
+IsWrite = Behind Write IsWritten
 
 -- Expr 'when' Expr ';'
 abbrev pub IsDriver : List Lexed → Phrase × Phrase → Type 0
@@ -299,6 +303,25 @@ IsCells space = do
   write ← IsWrite
   Return (memory space sized.0 sized.1 size addr_width write.0 write.1.0 write.1.1)
 
+-- three constants of value 0 in place of what a bank writes: it never changes
+abbrev pub no_write : ℕ → ℕ → Phrase × (Phrase × Option Phrase)
+no_write width addr_width = (const 0 width, (const 0 addr_width, Some (const 0 1)))
+
+-- behind the sizes of a bank: a write, or the end of the item
+abbrev pub WriteBehind : Phrase × (Phrase × Option Phrase) → Word → ℕ → List Lexed → Phrase × (Phrase × Option Phrase) → Type 0
+WriteBehind none (Shows Semicolon) at = Return none
+WriteBehind none (Shows Write) at = IsWritten
+WriteBehind none _ at = IsNothing
+
+-- name ':' number 'size' number 'addr' number [ 'write' Expr 'at' Expr [ 'when' Expr ] ] ';'
+abbrev pub IsBank : List Lexed → Entry → Type 0
+IsBank = do
+  sized ← IsSized
+  size ← Behind Size IsNumber
+  addr_width ← Behind Addr IsNumber
+  write ← ByWord (WriteBehind (no_write sized.1 addr_width))
+  Return (memory InFile sized.0 sized.1 size addr_width write.0 write.1.0 write.1.1)
+
 -- what stands behind the word of an item
 abbrev pub ItemBehind : ItemWord → List Lexed → Entry → Type 0
 -- 'code' name ':' number 'size' number 'at' name ';'
@@ -315,6 +338,8 @@ ItemBehind Mode = IsLatch AsMode
 ItemBehind Memory = IsCells InMemory
 -- 'file' Cells
 ItemBehind File = IsCells InFile
+-- 'bank' Bank
+ItemBehind Bank = IsBank
 -- 'net' name ':' number '=' Expr ';'
 ItemBehind Net = do
   sized ← IsSized

@@ -41,3 +41,4 @@ pub mod Fixed
 pub mod Modes
 pub mod ModeRules
 pub mod WorkedModes
+pub mod WorkedBank

@@ -7,6 +7,7 @@ use Rattle.net_model.specs.declared.fault.NetKind.{NetKind}
 use Rattle.net_model.specs.declared.fault.NetKind.TheVariants.{Nets, Registers, Cells, Words, File}
 use Rattle.net_model.specs.declared.hardware.Space.{Space}
 use Rattle.net_model.specs.declared.hardware.Space.TheVariants.{Memory as InMemory, File as InFile}
+use Rattle.net_model.specs.Editions.{is_banked}
 use Rattle.net_model.specs.Written.{Entry, code, register, memory}
 use Rattle.net_model.specs.Numbering.{count_items}
 use Rattle.rec_bits.specs.Faults.{or_else}
@@ -25,10 +26,16 @@ cells_of InMemory (memory InMemory name width size addr_width value addr when) =
 cells_of InFile (memory InFile name width size addr_width value addr when) = size
 cells_of _ _ = 0
 
--- how many a memory and a file may have
-abbrev pub most_cells : Space → ℕ
-most_cells InMemory = 65536
-most_cells InFile = 32
+-- how many a memory and a file may have in an edition; where it has a bank, a file is the bank, and
+-- may have as many as the memory
+abbrev pub most_cells : ℕ → Space → ℕ
+most_cells edition InMemory = 65536
+most_cells edition InFile = if is_banked edition then 65536 else 32
+
+-- how many nets there may be in an edition; where it has a bank, so few that the netlist with one
+-- memory in place of two has no more than the others
+abbrev pub most_nets : ℕ → ℕ
+most_nets edition = if is_banked edition then 1000 else 4096
 
 abbrev pub words_of : Entry → ℕ
 words_of (code name bits size counter) = size
@@ -43,11 +50,21 @@ greatest size (e ∷ entries) = max (size e) (greatest size entries)
 abbrev pub over : NetKind → ℕ → ℕ → Option NetFault
 over kind bound count = if nat_le count bound then None else Some (Limit kind count bound)
 
--- N11: the nets, the registers, the cells of a file and of a memory and the words of a code, in
--- this order
-abbrev pub limit_fault : List Entry → Option NetFault
-limit_fault text =
-    or_else (over Nets 4096 (capped (count_items text text)))
+-- the greatest size of a register file in a text of an edition: a bank is none
+abbrev pub file_size : ℕ → List Entry → ℕ
+file_size edition text = if is_banked edition then 0 else greatest (cells_of InFile) text
+
+-- the greatest size of a memory or a bank
+abbrev pub data_size : ℕ → List Entry → ℕ
+data_size edition text =
+    if is_banked edition then max (greatest (cells_of InFile) text) (greatest (cells_of InMemory) text)
+    else greatest (cells_of InMemory) text
+
+-- N11 in an edition: the nets, the registers, the cells of a file and of a memory or a bank and the
+-- words of a code, in this order
+abbrev pub limit_fault : ℕ → List Entry → Option NetFault
+limit_fault edition text =
+    or_else (over Nets (most_nets edition) (capped (count_items text text)))
     (or_else (over Registers 13 (capped (count_registers text)))
-    (or_else (over File 32 (greatest (cells_of InFile) text))
-    (or_else (over Cells 65536 (greatest (cells_of InMemory) text)) (over Words 65536 (greatest words_of text)))))
+    (or_else (over File 32 (file_size edition text))
+    (or_else (over Cells 65536 (data_size edition text)) (over Words 65536 (greatest words_of text)))))

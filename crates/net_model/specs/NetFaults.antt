@@ -6,7 +6,7 @@ use Rattle.net_model.specs.declared.hardware.Netlist.{Netlist}
 use Rattle.net_model.specs.declared.hardware.Net.{Net}
 use Rattle.net_model.specs.declared.fault.Role.{Role}
 use Rattle.net_model.specs.declared.fault.Role.TheVariants.{Pc, Size, Addr}
-use Rattle.net_model.specs.declared.fault.Role.TheVariants.{Code as NotOneCode, Memory as NotOneMemory, File as NoFile, Mode as NoMode}
+use Rattle.net_model.specs.declared.fault.Role.TheVariants.{Code as NotOneCode, Memory as NotOneMemory, File as NoFile, Mode as NoMode, Bank as NoBank}
 use Rattle.net_model.specs.declared.fault.NetFault.{NetFault}
 use Rattle.net_model.specs.declared.fault.NetFault.TheVariants.{Cycle, Enable, ControlOp, WideSelect, FileAddr}
 use Rattle.net_model.specs.declared.fault.NetFault.TheVariants.{Role as RoleFault}
@@ -15,7 +15,7 @@ use Rattle.net_model.specs.declared.fault.CheckFault.TheVariants.{Fault, Memory}
 use Rattle.net_model.specs.Symbolic.{is_static}
 use Rattle.net_model.specs.Control.{enables, selectors, control_places, is_selector}
 use Rattle.net_model.specs.Depends.{IsLeastOnCycle, named_by, IsAcyclic}
-use Rattle.net_model.specs.CheckedRules.{Ordered, HasOneCode, HasOneMemory, HasCounter, HasSizes, HasAddress, HasRoles, HasFile, HasMode, HasStaticEnables, is_plain, HasPlainControl, HasNarrowSelectors, file_addrs, KeepsRules}
+use Rattle.net_model.specs.CheckedRules.{Ordered, HasOneCode, HasOneMemory, HasCounter, HasSizes, HasAddress, HasRoles, HasFile, HasMode, HasBank, HasStaticEnables, is_plain, HasPlainControl, HasNarrowSelectors, file_addrs, KeepsRules}
 
 -- ---- offsets at which a rule is broken
 
@@ -48,6 +48,9 @@ LacksRole netlist NoFile =
 LacksRole netlist NoMode =
     HasOneCode netlist × HasOneMemory netlist × HasCounter netlist × HasSizes netlist × HasAddress netlist
     × HasFile netlist × (¬ HasMode netlist)
+LacksRole netlist NoBank =
+    HasOneCode netlist × HasOneMemory netlist × HasCounter netlist × HasSizes netlist × HasAddress netlist
+    × HasFile netlist × HasMode netlist × (¬ HasBank netlist)
 
 -- ---- N7 to N9 and N14: where they are broken
 

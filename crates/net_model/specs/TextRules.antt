@@ -1,5 +1,5 @@
 -- Which rule of netlist texts is broken first, and where.
-use Rattle.std.specs.Prelude.{List, Option}
+use Rattle.std.specs.Prelude.{ℕ, List, Option}
 use Rattle.rec_bits.specs.Faults.{least}
 use Rattle.net_model.specs.declared.fault.NetFault.{NetFault}
 use Rattle.net_model.specs.declared.fault.NetFault.TheVariants.{Duplicate, Unknown, Width, Driver}
@@ -11,10 +11,10 @@ use Rattle.net_model.specs.LimitRules.{limit_fault}
 use Rattle.rec_bits.specs.Faults.{or_else}
 use Rattle.rec_bits.specs.Faults.{fault_at}
 
--- the first of the rules N1 to N4 and N11 that is broken
-abbrev pub first_fault : List Entry → Option NetFault
-first_fault text =
+-- the first of the rules N1 to N4 and N11 that items of an edition break
+abbrev pub first_fault : ℕ → List Entry → Option NetFault
+first_fault edition text =
     or_else (fault_at Duplicate (least (duplicates text)))
     (or_else (fault_at Unknown (least (unknowns text)))
     (or_else (fault_at Width (least (misfits text)))
-    (or_else (fault_at Driver (least (undrivens text))) (limit_fault text))))
+    (or_else (fault_at Driver (least (undrivens text))) (limit_fault edition text))))

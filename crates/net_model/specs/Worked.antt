@@ -29,7 +29,7 @@ s8 = record {
       ∷ net 1 (Slice 0 7 7) ∷ net 4 (Const 1) ∷ net 4 (Bin Add 6 2) ∷ net 4 (Slice 0 3 0)
       ∷ net 4 (Case 1 ((0, 3) ∷ (1, 4) ∷ []) None) ∷ net 4 (Reg 0)
       ∷ net 5 (Slice 0 4 0) ∷ net 2 (Slice 0 6 5) ∷ net 1 (Slice 0 7 7) ∷ net 1 (Un Not 9) ∷ [];
-  storages = Register (codes "PC") 4 5 None ∷ Memory (record { name = codes "M"; width = 5; size = 4; addr_width = 2; value = 7; addr = 8; when = (Some 10) }) ∷ [];
+  storages = Register (codes "PC") 4 5 None ∷ Memory (record { name = codes "M"; name_at = 0; width = 5; size = 4; addr_width = 2; value = 7; addr = 8; when = (Some 10) }) ∷ [];
   codes = record { name = codes "I"; bits = 8; words = 16; counter = 0 } ∷ [];
   edition = 1;
   special = None;
@@ -55,7 +55,7 @@ a16 = record {
       ∷ net 4 (Const 4) ∷ net 1 (Bin Eq 2 30) ∷ [];
   storages =
       Register (codes "PC") 8 22 None ∷ Register (codes "ACC") 16 25 (Some 28)
-      ∷ Memory (record { name = codes "M"; width = 16; size = 256; addr_width = 8; value = 29; addr = 4; when = (Some 31) }) ∷ [];
+      ∷ Memory (record { name = codes "M"; name_at = 0; width = 16; size = 256; addr_width = 8; value = 29; addr = 4; when = (Some 31) }) ∷ [];
   codes = record { name = codes "I"; bits = 12; words = 256; counter = 0 } ∷ [];
   edition = 1;
   special = None;
@@ -78,7 +78,7 @@ z16 = record {
       ∷ net 4 (Const 4) ∷ net 1 (Bin Eq 2 34) ∷ [];
   storages =
       Register (codes "PC") 8 20 None ∷ Register (codes "ACC") 16 23 (Some 26) ∷ Register (codes "Z") 1 29 (Some 32)
-      ∷ Memory (record { name = codes "M"; width = 16; size = 256; addr_width = 8; value = 27; addr = 4; when = (Some 35) }) ∷ [];
+      ∷ Memory (record { name = codes "M"; name_at = 0; width = 16; size = 256; addr_width = 8; value = 27; addr = 4; when = (Some 35) }) ∷ [];
   codes = record { name = codes "I"; bits = 12; words = 256; counter = 0 } ∷ [];
   edition = 1;
   special = None;
@@ -98,7 +98,7 @@ b2 = record {
       ∷ net 1 (Const 0) ∷ net 1 (Const 0) ∷ [];
   storages =
       Register (codes "PC") 2 2 None ∷ Register (codes "X") 2 9 None
-      ∷ Memory (record { name = codes "M"; width = 2; size = 1; addr_width = 1; value = 4; addr = 10; when = (Some 11) }) ∷ [];
+      ∷ Memory (record { name = codes "M"; name_at = 0; width = 2; size = 1; addr_width = 1; value = 4; addr = 10; when = (Some 11) }) ∷ [];
   codes = record { name = codes "I"; bits = 4; words = 4; counter = 0 } ∷ [];
   edition = 1;
   special = None;

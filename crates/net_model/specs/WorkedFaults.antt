@@ -35,15 +35,15 @@ cells size top =
 abbrev s8 : List Entry
 s8 = code (ident (codes "I") 5) 8 16 (ident (codes "PC") 22) ∷ control 1 ∷ cells 4 4 ∷ []
 
-kept : first_fault s8 ≡ None
+kept : first_fault 1 s8 ≡ None
 kept = refl
 
 -- N1: the later of two registers, and of a port of each direction
-two_registers : first_fault (s8 ++ register Plain (ident (codes "PC") 150) 4 (use_of (codes "I") 160) None ∷ [])
+two_registers : first_fault 1 (s8 ++ register Plain (ident (codes "PC") 150) 4 (use_of (codes "I") 160) None ∷ [])
     ≡ Some (Duplicate 150)
 two_registers = refl
 
-two_ports : first_fault (module_item (ident (codes "D") 7)
+two_ports : first_fault 1 (module_item (ident (codes "D") 7)
     (record { output = false; name = ident (codes "a") 12; width = 1 }
     ∷ record { output = true; name = ident (codes "a") 23; width = 1 } ∷ []) [] ∷ [])
     ≡ Some (Duplicate 23)
@@ -51,14 +51,14 @@ two_ports = refl
 
 -- N2: a name of nothing, also where its width is wrong too; a memory is no register, and a register
 -- no memory
-no_such_net : first_fault (net (ident (codes "R") 4) 99 (use_of (codes "Q") 12) ∷ []) ≡ Some (Unknown 12)
+no_such_net : first_fault 1 (net (ident (codes "R") 4) 99 (use_of (codes "Q") 12) ∷ []) ≡ Some (Unknown 12)
 no_such_net = refl
 
-counter_is_memory : first_fault (code (ident (codes "I") 5) 8 16 (ident (codes "M") 22) ∷ cells 4 4 ∷ [])
+counter_is_memory : first_fault 1 (code (ident (codes "I") 5) 8 16 (ident (codes "M") 22) ∷ cells 4 4 ∷ [])
     ≡ Some (Unknown 22)
 counter_is_memory = refl
 
-reads_register : first_fault (s8 ++ net (ident (codes "R") 152) 4 (read (ident (codes "PC") 165) (const 0 2)) ∷ [])
+reads_register : first_fault 1 (s8 ++ net (ident (codes "R") 152) 4 (read (ident (codes "PC") 165) (const 0 2)) ∷ [])
     ≡ Some (Unknown 165)
 reads_register = refl
 
@@ -81,54 +81,54 @@ linked output links =
 abbrev link : Ident × Phrase
 link = (ident (codes "a") 62, const 1 1)
 
-part_kept : first_fault (linked (codes "y") (link ∷ [])) ≡ None
+part_kept : first_fault 1 (linked (codes "y") (link ∷ [])) ≡ None
 part_kept = refl
 
-input_is_no_output : first_fault (linked (codes "a") (link ∷ [])) ≡ Some (Unknown 90)
+input_is_no_output : first_fault 1 (linked (codes "a") (link ∷ [])) ≡ Some (Unknown 90)
 input_is_no_output = refl
 
-output_is_no_input : first_fault (doubled (use_of (codes "y") 41) ∷ []) ≡ Some (Unknown 41)
+output_is_no_input : first_fault 1 (doubled (use_of (codes "y") 41) ∷ []) ≡ Some (Unknown 41)
 output_is_no_input = refl
 
-module_reads : first_fault (s8 ++ doubled (read (ident (codes "M") 46) (use_of (codes "a") 49)) ∷ [])
+module_reads : first_fault 1 (s8 ++ doubled (read (ident (codes "M") 46) (use_of (codes "a") 49)) ∷ [])
     ≡ Some (Unknown 46)
 module_reads = refl
 
 -- N3: a slice that is one bit too long, a number that doesn't fit, and the first of two faults
-too_long : first_fault (code (ident (codes "I") 5) 8 16 (ident (codes "PC") 22) ∷ control 1 ∷ cells 4 5 ∷ [])
+too_long : first_fault 1 (code (ident (codes "I") 5) 8 16 (ident (codes "PC") 22) ∷ control 1 ∷ cells 4 5 ∷ [])
     ≡ Some (Width 97)
 too_long = refl
 
-too_great : first_fault (code (ident (codes "I") 5) 8 16 (ident (codes "PC") 22) ∷ control 2 ∷ cells 4 5 ∷ [])
+too_great : first_fault 1 (code (ident (codes "I") 5) 8 16 (ident (codes "PC") 22) ∷ control 2 ∷ cells 4 5 ∷ [])
     ≡ Some (Width 35)
 too_great = refl
 
-wide_net : first_fault (s8 ++ net (ident (codes "R") 152) 70 (use_of (codes "I") 165) ∷ []) ≡ Some (Width 152)
+wide_net : first_fault 1 (s8 ++ net (ident (codes "R") 152) 70 (use_of (codes "I") 165) ∷ []) ≡ Some (Width 152)
 wide_net = refl
 
 -- N4: a part without a link, with two links of one input, and a case with a number twice
-no_link : first_fault (linked (codes "y") []) ≡ Some (Driver 55)
+no_link : first_fault 1 (linked (codes "y") []) ≡ Some (Driver 55)
 no_link = refl
 
-two_links : first_fault (linked (codes "y") (link ∷ link ∷ [])) ≡ Some (Driver 55)
+two_links : first_fault 1 (linked (codes "y") (link ∷ link ∷ [])) ≡ Some (Driver 55)
 two_links = refl
 
-no_equation : first_fault (module_item (ident (codes "D") 7)
+no_equation : first_fault 1 (module_item (ident (codes "D") 7)
     (record { output = true; name = ident (codes "y") 24; width = 2 } ∷ []) [] ∷ [])
     ≡ Some (Driver 7)
 no_equation = refl
 
-number_twice : first_fault (code (ident (codes "I") 5) 8 16 (ident (codes "PC") 22) ∷ control 0 ∷ cells 4 4 ∷ [])
+number_twice : first_fault 1 (code (ident (codes "I") 5) 8 16 (ident (codes "PC") 22) ∷ control 0 ∷ cells 4 4 ∷ [])
     ≡ Some (Driver 35)
 number_twice = refl
 
 -- N11: a memory and a code that are too large
-too_many_cells : first_fault
+too_many_cells : first_fault 1
     (code (ident (codes "I") 5) 8 16 (ident (codes "PC") 22) ∷ control 1 ∷ cells 65537 4 ∷ [])
     ≡ Some (Limit Cells 65537 65536)
 too_many_cells = refl
 
-too_many_words : first_fault
+too_many_words : first_fault 1
     (code (ident (codes "I") 5) 8 65538 (ident (codes "PC") 22) ∷ control 1 ∷ cells 65536 4 ∷ [])
     ≡ Some (Limit Words 65538 65536)
 too_many_words = refl

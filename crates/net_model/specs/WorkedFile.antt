@@ -73,8 +73,8 @@ f4 = record {
       ∷ net_at 145 1 (Slice 0 4 4) ∷ [];
   storages =
       Register (codes "PC") 2 2 None
-      ∷ File (record { name = codes "R"; width = 4; size = 3; addr_width = 2; value = 7; addr = 8; when = None })
-      ∷ Memory (record { name = codes "M"; width = 4; size = 1; addr_width = 1; value = 10; addr = 11; when = Some 12 })
+      ∷ File (record { name = codes "R"; name_at = 75; width = 4; size = 3; addr_width = 2; value = 7; addr = 8; when = None })
+      ∷ Memory (record { name = codes "M"; name_at = 145; width = 4; size = 1; addr_width = 1; value = 10; addr = 11; when = Some 12 })
       ∷ [];
   codes = record { name = codes "I"; bits = 5; words = 4; counter = 0 } ∷ [];
   edition = 2;
@@ -106,10 +106,10 @@ pub f4_elaborated : netlist_in 2 (f4_items 3 (bits 1 0) (bits 1 0)) ≡ f4
 f4_elaborated = refl
 
 -- a file may have 32 cells; one more is too many, though a memory may have it
-pub f4_limit : limit_fault (f4_items 32 (bits 1 0) (bits 1 0)) ≡ None
+pub f4_limit : limit_fault 2 (f4_items 32 (bits 1 0) (bits 1 0)) ≡ None
 f4_limit = refl
 
-pub f4_over : limit_fault (f4_items 33 (bits 1 0) (bits 1 0)) ≡ Some (Limit FileCells 33 32)
+pub f4_over : limit_fault 2 (f4_items 33 (bits 1 0) (bits 1 0)) ≡ Some (Limit FileCells 33 32)
 f4_over = refl
 
 -- each address of the file depends on the word alone; a slice of the program counter is at fault at

@@ -49,7 +49,7 @@ s16 = record {
       ∷ net 1 (Slice 0 0 0) ∷ net 4 (Const 3) ∷ net 1 (Bin Eq 2 36) ∷ [];
   storages =
       Register (codes "PC") 8 22 None ∷ Register (codes "ACC") 16 25 (Some 28) ∷ Register (codes "S") 1 35 (Some 37)
-      ∷ Memory (record { name = codes "M"; width = 16; size = 256; addr_width = 8; value = 29; addr = 4; when = Some 31 }) ∷ [];
+      ∷ Memory (record { name = codes "M"; name_at = 0; width = 16; size = 256; addr_width = 8; value = 29; addr = 4; when = Some 31 }) ∷ [];
   codes = record { name = codes "I"; bits = 12; words = 256; counter = 0 } ∷ [];
   edition = 3;
   special = Some 2;

@@ -2,10 +2,10 @@
 
 ghost use Rattle.std.specs.Prelude.{◌≡◌, ◌++◌, map, option_to_list, IfOk, OnOk};
 ghost use Rattle.rec_bits.specs.Faults.{gather};
-ghost use Rattle.net_model.specs.CheckedRules.{file_addrs, gate_file_addrs, storage_file_addrs};
+ghost use Rattle.net_model.specs.CheckedRules.{all_file_addrs, file_addrs, gate_file_addrs, storage_file_addrs};
 ghost use Rattle.net_model.specs.Control.{control_places, enables, gate_enables, selectors, storage_enables, write_enables};
 
-use crate::{Gate, Netlist, Space, Storage};
+use crate::{Gate, Netlist, Space, Storage, is_banked};
 use rec_bits::{Items, NoMemory};
 use std::alloc::Global;
 
@@ -91,16 +91,27 @@ impl Netlist {
         }
     }
 
-    /// The nets of the addresses at which the file is written, in order of the storages, then of
-    /// those at which it is read, in order of the nets.
-    pub fn file_addrs(&self, alloc: Global) -> Result<Items<u32>, NoMemory>
-        ensures { IfOk result (λ nets. nets ≡ file_addrs self.now) }
+    // The addresses at which a file is written, in order of the storages, then of those at which
+    // one is read, in order of the nets.
+    fn all_file_addrs(&self, alloc: Global) -> Result<Items<u32>, NoMemory>
+        ensures { IfOk result (λ nets. nets ≡ all_file_addrs self.now) }
     {
         let mut nets = self.file_writes(alloc)?;
         for net in self.nets.as_slice() {
             self.push_file_read(&mut nets, &net.gate)?;
         }
         Ok(nets)
+    }
+
+    /// The nets of the addresses at which the register file is written, in order of the storages,
+    /// then of those at which it is read, in order of the nets. A bank is no register file.
+    pub fn file_addrs(&self, alloc: Global) -> Result<Items<u32>, NoMemory>
+        ensures { IfOk result (λ nets. nets ≡ file_addrs self.now) }
+    {
+        if is_banked(self.edition) {
+            return Ok(Items::new(alloc));
+        }
+        self.all_file_addrs(alloc)
     }
 
     fn push_selectors(&self, nets: &mut Items<u32>) -> Result<(), NoMemory>

@@ -55,6 +55,7 @@ pub enum Role {
     Addr,
     File,
     Mode,
+    Bank,
 }
 
 /// What there may be too much of in a netlist.

@@ -64,11 +64,12 @@ pub enum Space {
     File,
 }
 
-/// Cells at addresses, and the nets that write one of them at each clock: its value, its address
-/// and, if not always, its enable.
+/// Cells at addresses, with the offset of their name in the text, and the nets that write one of
+/// them at each clock: its value, its address and, if not always, its enable.
 #[derive(Drop)]
 pub struct Cells {
     pub name: Name,
+    pub name_at: u64,
     pub width: u8,
     pub size: u32,
     pub addr_width: u8,
@@ -77,8 +78,9 @@ pub struct Cells {
     pub when: Option<u32>,
 }
 
-/// A register, a memory or a register file. What feeds it is named by the numbers of nets; without
-/// a `when` it takes its input at each clock.
+/// A register, a memory, or a register file. The bank of a netlist that has one, its second data
+/// memory, is kept as a file is. What feeds a storage is named by the numbers of nets; without a
+/// `when` it takes its input at each clock.
 #[derive(Drop)]
 pub enum Storage {
     Register {
@@ -107,11 +109,11 @@ pub struct Netlist {
     pub nets: Items<Net>,
     pub storages: Items<Storage>,
     pub codes: Items<Code>,
-    /// The edition of its text: 2 where it has a register file, 3 where it has a mode, and
-    /// otherwise 1.
+    /// The edition of its text: 2 where it has a register file, 3 where it has a mode, 4 where it
+    /// has a bank, and otherwise 1; 5 where it is the view of one that has a bank.
     pub edition: u8,
     /// The register that is the mode, where the edition has one, and it is alone and has 2 bits at
-    /// most.
+    /// most; or the file that is the bank, where the edition has one, and it is alone.
     pub special: Option<u32>,
 }
 

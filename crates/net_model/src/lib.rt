@@ -26,6 +26,7 @@
 //!   a register file.
 //! - `flags`: what is told of each net by its gate and by what is told of the nets that it names.
 //! - `checked`: `Checked`, with its program counter, its memory, its file and its static nets.
+//! - `editions`: which editions add what.
 //! - `modes`: `Modes`, a netlist with what it is in each of its modes, all checked.
 //! - `laws`: the three laws above.
 //! - `specs/` of meaning, cited publicly: `Nets`, `Value`, `Clock`, `Symbolic`, `Terms`, `Meaning`,
@@ -43,6 +44,7 @@
 
 mod checked;
 mod controls;
+mod editions;
 mod expression;
 mod fault;
 mod flags;
@@ -55,6 +57,7 @@ mod units;
 mod words;
 
 pub use checked::Checked;
+pub use editions::is_banked;
 pub use expression::{Expr, Transfer};
 pub use fault::{CheckFault, NetFault, NetKind, Role};
 pub use flags::{Property, flags_of, is_set};

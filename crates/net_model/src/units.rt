@@ -35,7 +35,7 @@ pub enum Unit {
         input: NetExpr,
         when: Option<NetExpr>,
     },
-    /// A memory, or a register file.
+    /// A memory, a register file, or in a text of the edition that adds it the bank.
     Memory {
         space: Space,
         name: Ident,

@@ -26,6 +26,7 @@ pub enum ItemWord {
     Mode,
     Memory,
     File,
+    Bank,
     Net,
     Bus,
     Module,

@@ -62,6 +62,7 @@ fn copy_cells(alloc: Global, cells: &Cells) -> Result<Cells, NoMemory>
 {
     Ok(Cells {
         name: Name::from_slice(alloc, cells.name.as_slice())?,
+        name_at: cells.name_at,
         width: cells.width,
         size: cells.size,
         addr_width: cells.addr_width,

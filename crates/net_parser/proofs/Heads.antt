@@ -8,7 +8,7 @@ use Rattle.grammar.proofs.Tokens.{there_behind, there_before}
 use Rattle.grammar.specs.Tokens.{Behind, Before}
 use Rattle.grammar.specs.declared.words.Word.TheVariants.{Number}
 use Rattle.net_model.specs.declared.words.Symbol.TheVariants.{Semicolon, Version}
-use Rattle.net_model.specs.declared.words.ItemWord.TheVariants.{File, Mode}
+use Rattle.net_model.specs.declared.words.ItemWord.TheVariants.{File, Mode, Bank}
 use Rattle.net_model.specs.Editions.{Lexed, added_by}
 use Rattle.net_model.specs.Grammar.{IsEditionNumber, IsHead, IsItems}
 use Rattle.net_model.specs.Written.{Entry}
@@ -34,9 +34,10 @@ head_number ts o (with_one a r n) =
     subst IsHeadNumber (sym n) (subst (λ (x : ℕ). IsTrue (is_some (added_by x))) (sym r.second.second.second.same) r.second.first.is.1)
 
 pub edition_small : (n : ℕ) → IsTrue (is_some (added_by n)) → n < 256
-edition_small n h = by (n == 2) (n == 3) refl refl h
+edition_small n h = by (n == 2) (n == 3) (n == 4) refl refl refl h
   where
-    by : (b c : Bool) → (n == 2) ≡ b → (n == 3) ≡ c → IsTrue (is_some (if b then Some File else if c then Some Mode else None)) → n < 256
-    by true c e f k = omega (arith, eqb-true n 2 e)
-    by false true e f k = omega (arith, eqb-true n 3 f)
-    by false false e f k = absurd (cc k)
+    by : (b c d : Bool) → (n == 2) ≡ b → (n == 3) ≡ c → (n == 4) ≡ d → IsTrue (is_some (if b then Some File else if c then Some Mode else if d then Some Bank else None)) → n < 256
+    by true c d e f g k = omega (arith, eqb-true n 2 e)
+    by false true d e f g k = omega (arith, eqb-true n 3 f)
+    by false false true e f g k = omega (arith, eqb-true n 4 g)
+    by false false false e f g k = absurd (cc k)

@@ -8,13 +8,13 @@ use Rattle.grammar.proofs.Repeats.{Repeated}
 use Rattle.grammar.specs.declared.words.Ident.{Ident}
 use Rattle.net_model.specs.declared.units.Port.{Port}
 use Rattle.net_model.specs.Editions.{Lexed, Word}
-use Rattle.net_model.specs.Grammar.{LeafBehind, ExprBehind, IsExpr, IsSized, IsWhen, IsFed, IsWrite, IsDirection, IsDriver, IsDrivers, IsBinding, IsBindings, IsEquation, IsLinks, IsPort, IsPorts, ItemByWord, IsItem, direction}
+use Rattle.net_model.specs.Grammar.{LeafBehind, ExprBehind, IsExpr, IsSized, IsWhen, IsFed, IsWrite, IsWritten, WriteBehind, IsDirection, IsDriver, IsDrivers, IsBinding, IsBindings, IsEquation, IsLinks, IsPort, IsPorts, ItemByWord, IsItem, direction}
 use Rattle.grammar.specs.declared.words.Word.TheVariants.{Name, Number, Symbol as Shows, Key as Keyed}
 use Rattle.net_model.specs.declared.words.Key.TheVariants.{Item as Begins, Operator as Operates}
 use Rattle.net_model.specs.declared.words.ItemWord.{ItemWord}
 use Rattle.net_model.specs.declared.words.ItemWord.TheVariants.{Code}
 use Rattle.net_model.specs.declared.words.Symbol.{Symbol}
-use Rattle.net_model.specs.declared.words.Symbol.TheVariants.{Semicolon, Comma, In, Out, When}
+use Rattle.net_model.specs.declared.words.Symbol.TheVariants.{Semicolon, Comma, In, Out, When, Write}
 use Rattle.net_model.specs.Written.{Phrase, Entry}
 use Rattle.grammar.specs.Tokens.{Behind, Before, ByWord, IsName, BeginsSo}
 use Rattle.net_parser.specs.Inner.Steps.{HasNoItem, expr_word, first_word, name_word, when_word, link_word, item_word, after_expr, after_when, after_drivers, after_equations, after_links, after_list, after_items}
@@ -30,8 +30,20 @@ there_when_end = there_before there_maybe
 pub there_fed : {s : Symbol} → There (IsFed s)
 there_fed = there_bind (there_behind (there_expr 64)) (λ i. there_bind there_when_end (λ w. there_return))
 
+pub there_written : There IsWritten
+there_written = there_bind (there_expr 64) (λ v. there_bind there_fed (λ f. there_return))
+
 pub there_write : There IsWrite
-there_write = there_bind (there_behind (there_expr 64)) (λ v. there_bind there_fed (λ f. there_return))
+there_write = there_behind there_written
+
+pub there_maybe_written : (none : Phrase × (Phrase × Option Phrase)) → There (ByWord (WriteBehind none))
+there_maybe_written none = there_word (WriteBehind none) (Shows Semicolon) 0 there_return
+
+-- behind the sizes of a bank there is a write or the end
+pub no_write_word : (none : Phrase × (Phrase × Option Phrase)) (w : Word) → (w ≡ Shows Semicolon → ⊥) → (w ≡ Shows Write → ⊥) → (at : ℕ) (x : List Lexed) (v : Phrase × (Phrase × Option Phrase)) → WriteBehind none w at x v → ⊥
+no_write_word none (Shows Semicolon) f g at x v h = f refl
+no_write_word none (Shows Write) f g at x v h = g refl
+no_write_word none _ f g at x v h = absurd h
 
 pub there_driver : There IsDriver
 there_driver = there_bind (there_expr 64) (λ v. there_bind (there_before (there_behind (there_expr 64))) (λ e. there_return))

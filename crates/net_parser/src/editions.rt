@@ -14,6 +14,7 @@ pub fn added_by(edition: u64) -> Option<ItemWord>
     match edition {
         2 => Some(ItemWord::File),
         3 => Some(ItemWord::Mode),
+        4 => Some(ItemWord::Bank),
         _ => None,
     }
 }
@@ -25,6 +26,7 @@ fn is_added(item: ItemWord, text: &[u8]) -> bool
     match item {
         ItemWord::File => text == b"file".as_slice(),
         ItemWord::Mode => text == b"mode".as_slice(),
+        ItemWord::Bank => text == b"bank".as_slice(),
         _ => false,
     }
 }

@@ -4,16 +4,16 @@ ghost use Rattle.std.specs.Prelude.{◌≡◌, MatchOption, map};
 ghost use Rattle.grammar.specs.Reading.{Gives, never};
 ghost use Rattle.net_model.specs.declared.words.ItemWord.TheVariants.{Bus, Code, Module, Net, Part};
 ghost use Rattle.net_model.specs.declared.words.Symbol.TheVariants.{At, Semicolon};
-ghost use Rattle.grammar.specs.Tokens.{Before, Behind, IsName};
-ghost use Rattle.net_model.specs.Grammar.{IsCells, IsFed, IsItem, IsItems, IsLatch, IsWrite, ItemBehind};
-ghost use Rattle.net_model.specs.Written.{entry_of, phrase_of, when_of};
+ghost use Rattle.grammar.specs.Tokens.{Before, Behind, ByWord, IsName};
+ghost use Rattle.net_model.specs.Grammar.{IsBank, IsCells, IsFed, IsItem, IsItems, IsLatch, IsWrite, IsWritten, ItemBehind, WriteBehind, no_write};
+ghost use Rattle.net_model.specs.Written.{const, entry_of, phrase_of, when_of};
 ghost use Rattle.net_parser.specs.Inner.Steps.{HasNoItem, OpensItem, after_items};
 
-use crate::expression::{enclosed, expr_behind};
+use crate::expression::{enclosed, expr, expr_behind};
 use crate::parts::{
     LEVELS, braced_drivers, braced_equations, enclosed_links, enclosed_ports, sized_name, when_end,
 };
-use grammar::{Stop, expect, front, keeping, name, name_behind, number_behind};
+use grammar::{Stop, expect, front, is_symbol, keeping, name, name_behind, number_behind};
 use net_model::{Ident, ItemWord, Key, Lexed, NetExpr, RegisterKind, Space, Symbol, Unit, Word};
 use rec_bits::Items;
 use std::alloc::Global;
@@ -67,6 +67,22 @@ fn fed(alloc: Global, symbol: Symbol, ts: &[Lexed]) -> Result<(Fed, &[Lexed]), S
     Ok(((input, when), rest))
 }
 
+/// What cells are written with: a value, and behind it where and when.
+type Write = (NetExpr, Fed);
+
+fn zero(width: u64) -> NetExpr
+    ensures { phrase_of result ≡ const 0 width }
+{
+    NetExpr::Const { value: 0, width }
+}
+
+/// Three constants of value 0 for what never writes.
+fn no_write(width: u64, addr_width: u64) -> Write
+    ensures { (phrase_of result.0, (phrase_of result.1.0, when_of result.1.1)) ≡ no_write width addr_width }
+{
+    (zero(width), (zero(addr_width), Some(zero(1))))
+}
+
 /// A register or the mode, behind its word.
 fn register(alloc: Global, kind: RegisterKind, ts: &[Lexed]) -> Result<(Unit, &[Lexed]), Stop>
     ensures { Gives (λ x. (entry_of x.0, x.1.now)) (IsLatch kind) never ts.now result }
@@ -83,14 +99,46 @@ fn register(alloc: Global, kind: RegisterKind, ts: &[Lexed]) -> Result<(Unit, &[
     Ok((unit, rest))
 }
 
+/// What is written to cells, where and when, and the end of the item, behind `write`.
+fn stored(alloc: Global, ts: &[Lexed]) -> Result<(Write, &[Lexed]), Stop>
+    ensures { Gives (λ x. ((phrase_of x.0.0, (phrase_of x.0.1.0, when_of x.0.1.1)), x.1.now))
+        IsWritten never ts.now result }
+{
+    let (value, rest) = expr(alloc, LEVELS, ts)?;
+    let (value, (fed, rest)) = keeping(value, fed(alloc, Symbol::At, rest))?;
+    Ok(((value, fed), rest))
+}
+
 /// What is written to a memory or a file, where and when, and the end of the item.
-fn written(alloc: Global, ts: &[Lexed]) -> Result<((NetExpr, Fed), &[Lexed]), Stop>
+fn written(alloc: Global, ts: &[Lexed]) -> Result<(Write, &[Lexed]), Stop>
     ensures { Gives (λ x. ((phrase_of x.0.0, (phrase_of x.0.1.0, when_of x.0.1.1)), x.1.now))
         IsWrite never ts.now result }
 {
-    let (value, rest) = expr_behind(alloc, Symbol::Write, LEVELS, ts)?;
-    let (value, (fed, rest)) = keeping(value, fed(alloc, Symbol::At, rest))?;
-    Ok(((value, fed), rest))
+    let rest = expect(Symbol::Write, ts)?;
+    stored(alloc, rest)
+}
+
+/// What is written to a bank, where and when, and the end of the item. Where nothing is, three
+/// constants of value 0 stand for it.
+fn maybe_written(
+    alloc: Global,
+    width: u64,
+    addr_width: u64,
+    ts: &[Lexed],
+) -> Result<(Write, &[Lexed]), Stop>
+    ensures { Gives (λ x. ((phrase_of x.0.0, (phrase_of x.0.1.0, when_of x.0.1.1)), x.1.now))
+        (ByWord (WriteBehind (no_write width addr_width))) never ts.now result }
+{
+    let Some((t, rest)) = front(ts) else {
+        return Err(Stop::At(0));
+    };
+    if is_symbol(&t.word, Symbol::Semicolon) {
+        return Ok((no_write(width, addr_width), rest));
+    }
+    if is_symbol(&t.word, Symbol::Write) {
+        return stored(alloc, rest);
+    }
+    Err(Stop::At(ts.len()))
 }
 
 /// A memory or a register file, behind its word.
@@ -103,6 +151,27 @@ fn memory(alloc: Global, space: Space, ts: &[Lexed]) -> Result<(Unit, &[Lexed]),
     let ((value, (addr, when)), rest) = written(alloc, rest)?;
     let unit = Unit::Memory {
         space,
+        name,
+        width,
+        size,
+        addr_width,
+        value,
+        addr,
+        when,
+    };
+    Ok((unit, rest))
+}
+
+/// A bank, behind its word.
+fn bank(alloc: Global, ts: &[Lexed]) -> Result<(Unit, &[Lexed]), Stop>
+    ensures { Gives (λ x. (entry_of x.0, x.1.now)) IsBank never ts.now result }
+{
+    let ((name, width), rest) = sized_name(alloc, ts)?;
+    let (size, rest) = number_behind(Symbol::Size, rest)?;
+    let (addr_width, rest) = number_behind(Symbol::Addr, rest)?;
+    let ((value, (addr, when)), rest) = maybe_written(alloc, width, addr_width, rest)?;
+    let unit = Unit::Memory {
+        space: Space::File,
         name,
         width,
         size,
@@ -184,6 +253,7 @@ fn item_behind(alloc: Global, word: ItemWord, ts: &[Lexed]) -> Result<(Unit, &[L
         ItemWord::Mode => register(alloc, RegisterKind::Mode, ts),
         ItemWord::Memory => memory(alloc, Space::Memory, ts),
         ItemWord::File => memory(alloc, Space::File, ts),
+        ItemWord::Bank => bank(alloc, ts),
         ItemWord::Net => net(alloc, ts),
         ItemWord::Bus => bus(alloc, ts),
         ItemWord::Module => module(alloc, ts),

@@ -15,19 +15,19 @@ use Rattle.rec_bits.specs.Faults.{fault_at}
 abbrev chain : Option ℕ → Option ℕ → Option ℕ → Option ℕ → Option NetFault → Option NetFault
 chain d u m v l = or_else (fault_at Duplicate d) (or_else (fault_at Unknown u) (or_else (fault_at Width m) (or_else (fault_at Driver v) l)))
 
-module _ (text : List Entry) (known : None ≡ least (duplicates text)) where
-  pub unknown_first : (at : ℕ) → Some at ≡ least (unknowns text) → Some (Unknown at) ≡ first_fault text
-  unknown_first at h = λ j. chain (known j) (h j) (least (misfits text)) (least (undrivens text)) (limit_fault text)
+module _ (edition : ℕ) (text : List Entry) (known : None ≡ least (duplicates text)) where
+  pub unknown_first : (at : ℕ) → Some at ≡ least (unknowns text) → Some (Unknown at) ≡ first_fault edition text
+  unknown_first at h = λ j. chain (known j) (h j) (least (misfits text)) (least (undrivens text)) (limit_fault edition text)
 
   module _ (named : None ≡ least (unknowns text)) where
-    pub misfit_first : (at : ℕ) → Some at ≡ least (misfits text) → Some (Width at) ≡ first_fault text
-    misfit_first at h = λ j. chain (known j) (named j) (h j) (least (undrivens text)) (limit_fault text)
+    pub misfit_first : (at : ℕ) → Some at ≡ least (misfits text) → Some (Width at) ≡ first_fault edition text
+    misfit_first at h = λ j. chain (known j) (named j) (h j) (least (undrivens text)) (limit_fault edition text)
 
     module _ (fits : None ≡ least (misfits text)) where
-      pub undriven_first : (at : ℕ) → Some at ≡ least (undrivens text) → Some (Driver at) ≡ first_fault text
-      undriven_first at h = λ j. chain (known j) (named j) (fits j) (h j) (limit_fault text)
+      pub undriven_first : (at : ℕ) → Some at ≡ least (undrivens text) → Some (Driver at) ≡ first_fault edition text
+      undriven_first at h = λ j. chain (known j) (named j) (fits j) (h j) (limit_fault edition text)
 
-      pub limit_first : None ≡ least (undrivens text) → (fault : Option NetFault) → fault ≡ limit_fault text → fault ≡ first_fault text
+      pub limit_first : None ≡ least (undrivens text) → (fault : Option NetFault) → fault ≡ limit_fault edition text → fault ≡ first_fault edition text
       limit_first driven fault h = λ j. chain (known j) (named j) (fits j) (driven j) (h j)
 
 -- what holds of an answer, by what is known of it

@@ -25,24 +25,25 @@ pub fn first_fault(
     names: &Names,
 ) -> Result<Option<NetFault>, NoMemory>
     requires { names.now ≡ units.now.items }
-    ensures { IfOk result (λ fault. fault ≡ first_fault (map entry_of units.now.items)) }
+    ensures { IfOk result (λ fault. fault ≡ first_fault units.now.edition (map entry_of units.now.items)) }
 {
     if let Some(at) = first_duplicate(alloc, units)? {
         return Ok(Some(NetFault::Duplicate(at)));
     }
     let text = Text::new(alloc, units, names)?;
-    fault_behind_names(alloc, &text, units.items.as_slice())
+    fault_behind_names(alloc, &text, units.edition, units.items.as_slice())
 }
 
 // The first of the rules N2, N3, N4 and N11 that a text breaks, where no name stands there twice.
 fn fault_behind_names(
     alloc: Global,
     text: &Text,
+    edition: u8,
     items: &[Unit],
 ) -> Result<Option<NetFault>, NoMemory>
     requires text { text.now ≡ items.now }
     requires names { None ≡ least (duplicates (map entry_of items.now)) }
-    ensures { IfOk result (λ fault. fault ≡ first_fault (map entry_of items.now)) }
+    ensures { IfOk result (λ fault. fault ≡ first_fault edition (map entry_of items.now)) }
 {
     if let Some(at) = first_unknown(text, items) {
         return Ok(Some(NetFault::Unknown(at)));
@@ -53,5 +54,5 @@ fn fault_behind_names(
     if let Some(at) = first_undriven(alloc, text, items)? {
         return Ok(Some(NetFault::Driver(at)));
     }
-    first_limit(alloc, text, items)
+    first_limit(alloc, text, edition, items)
 }

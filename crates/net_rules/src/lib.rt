@@ -19,7 +19,7 @@
 //! - `numbers`, `cases`: numbers that are all different; N4 in cases.
 //! - `drivers`: N4 in items: inputs and outputs without an expression, or with two.
 //! - `count`: how many nets the items give.
-//! - `limits`: N11, by these counts.
+//! - `limits`: N11, by these counts and the limits of the text's edition.
 //! - `specs/Inner/`: `Scans`, `Scopes`, `Modules`, `Widths`, `Cases` and `Counts`, which go with
 //!   the scans. Public contracts cite no file here, since the rules stand in `net_model/specs`.
 //! - `proofs/`: `Faults` for the order of the rules, `Scans` for one item further, and for the rest

@@ -1,17 +1,20 @@
 //! N11: too much of something.
 
 ghost use Rattle.std.specs.Prelude.{◌≡◌, IfOk, map};
-ghost use Rattle.net_model.specs.LimitRules.{cells_of, count_register, count_registers, greatest, limit_fault, over, words_of};
+ghost use Rattle.net_model.specs.LimitRules.{cells_of, count_register, count_registers, data_size, file_size, greatest, limit_fault, most_nets, over, words_of};
 ghost use Rattle.rec_bits.specs.Counts.{capped};
 ghost use Rattle.net_model.specs.Written.{entry_of};
 
 use crate::count::count_items;
 use crate::text::Text;
-use net_model::{NetFault, NetKind, Space, Unit};
+use net_model::{NetFault, NetKind, Space, Unit, is_banked};
 use rec_bits::NoMemory;
 use std::alloc::Global;
 
 const NETS: u64 = 4096;
+
+// Where there is a bank, so few that the netlist with one memory in place of two has no more.
+const NETS_BESIDE_BANK: u64 = 1000;
 
 const REGISTERS: u64 = 13;
 
@@ -93,26 +96,61 @@ fn greatest_code(units: &[Unit]) -> u64
     size
 }
 
-/// The first limit that is passed.
+// How many nets there may be in an edition.
+fn most_nets(edition: u8) -> u64
+    ensures { result ≡ most_nets edition }
+{
+    if is_banked(edition) {
+        NETS_BESIDE_BANK
+    } else {
+        NETS
+    }
+}
+
+// The greatest size of a register file: a bank is none.
+fn file_size(edition: u8, units: &[Unit]) -> u64
+    ensures { result ≡ file_size edition (map entry_of units.now) }
+{
+    if is_banked(edition) {
+        0
+    } else {
+        greatest_cells(Space::File, units)
+    }
+}
+
+// The greatest size of a memory or a bank.
+fn data_size(edition: u8, units: &[Unit]) -> u64
+    ensures { result ≡ data_size edition (map entry_of units.now) }
+{
+    let size = greatest_cells(Space::Memory, units);
+    if is_banked(edition) {
+        greatest_cells(Space::File, units).max(size)
+    } else {
+        size
+    }
+}
+
+/// The first limit that is passed by the items of a text of an edition.
 pub(crate) fn first_limit(
     alloc: Global,
     text: &Text,
+    edition: u8,
     units: &[Unit],
 ) -> Result<Option<NetFault>, NoMemory>
     requires { text.now ≡ units.now }
-    ensures { IfOk result (λ fault. fault ≡ limit_fault (map entry_of units.now)) }
+    ensures { IfOk result (λ fault. fault ≡ limit_fault edition (map entry_of units.now)) }
 {
     let nets = count_items(alloc, text, units)?;
-    if let Some(fault) = over(NetKind::Nets, NETS, nets) {
+    if let Some(fault) = over(NetKind::Nets, most_nets(edition), nets) {
         return Ok(Some(fault));
     }
     if let Some(fault) = over(NetKind::Registers, REGISTERS, count_registers(units)) {
         return Ok(Some(fault));
     }
-    if let Some(fault) = over(NetKind::File, FILE, greatest_cells(Space::File, units)) {
+    if let Some(fault) = over(NetKind::File, FILE, file_size(edition, units)) {
         return Ok(Some(fault));
     }
-    if let Some(fault) = over(NetKind::Cells, CELLS, greatest_cells(Space::Memory, units)) {
+    if let Some(fault) = over(NetKind::Cells, CELLS, data_size(edition, units)) {
         return Ok(Some(fault));
     }
     Ok(over(NetKind::Words, WORDS, greatest_code(units)))

@@ -5,7 +5,8 @@ use Rattle.net_model.specs.declared.hardware.Netlist.{Netlist}
 use Rattle.net_model.specs.Widths.{WordFits}
 use Rattle.net_model.specs.declared.states.State.{State}
 use Rattle.net_model.specs.ModeRules.{Moded}
-use Rattle.net_model.specs.Elaborated.{netlist_of}
+use Rattle.net_front.specs.Fronts.{taken_of}
+use Rattle.net_front.proofs.FrontLaws.{taken_keeps}
 use Rattle.code_model.specs.declared.image.Image.{Image}
 use Rattle.code_model.specs.Places.{words_of}
 use Rattle.code_model.specs.ImageFits.{CodeFits, limits_of}
@@ -21,7 +22,7 @@ use Rattle.net_run.specs.declared.machine.RunFault.TheVariants.{NetText, Net, Im
 pub read_words_fit : (net image : List ℕ) (checked : Moded) → IsNetRead net checked → (said : Image) → IsImageText (limits_of checked.netlist) image said → AllByRecursion (WordFits checked.netlist) (words_of said)
 read_words_fit net image checked read said is =
     subst (λ (n : Netlist). AllByRecursion (WordFits n) (words_of said)) (sym read.netlist)
-    (words_fit (netlist_of read.entries) read.file.keeps.modes said.words (subst (λ (n : Netlist). AllByRecursion (CodeFits (limits_of n).bits) said.words) read.netlist is.fits.words))
+    (words_fit (taken_of read.entries) (taken_keeps read.entries read.file.file.keeps) said.words (subst (λ (n : Netlist). AllByRecursion (CodeFits (limits_of n).bits) said.words) read.netlist is.fits.words))
 
 module _ (net image memory : List ℕ) (clocks : ℕ) (checked : Moded) (read : IsNetRead net checked) where
   module _ (said : Image) (image_is : IsImageText (limits_of checked.netlist) image said) where
@@ -34,7 +35,7 @@ module _ (net image memory : List ℕ) (clocks : ℕ) (checked : Moded) (read : 
 
       pub shows_of_end : (out : List ℕ) → IsEndText checked.netlist (words_of said) start clocks out → ShowsState net image memory clocks out
       shows_of_end out h =
-          let moved : IsEndText (netlist_of read.entries) (words_of said) start clocks out = subst (λ (n : Netlist). IsEndText n (words_of said) start clocks out) read.netlist h in
+          let moved : IsEndText (taken_of read.entries) (words_of said) start clocks out = subst (λ (n : Netlist). IsEndText n (words_of said) start clocks out) read.netlist h in
           record { loaded = record { entries = read.entries; image = said; start = start }; taken = taken; last = moved.0; reached = moved.1; text = moved.2 }
 
       pub fault_of_end : (fault : RunFault) → IsEndFault checked.netlist (words_of said) start clocks fault → IsRunFault net image memory clocks fault
@@ -43,6 +44,6 @@ module _ (net image memory : List ℕ) (clocks : ℕ) (checked : Moded) (read : 
       fault_of_end (ImageText at) h = absurd h
       fault_of_end (MemText at) h = absurd h
       fault_of_end (Clash cycle bus at) h =
-          let moved : IsEndFault (netlist_of read.entries) (words_of said) start clocks (Clash cycle bus at) = subst (λ (n : Netlist). IsEndFault n (words_of said) start clocks (Clash cycle bus at)) read.netlist h in
+          let moved : IsEndFault (taken_of read.entries) (words_of said) start clocks (Clash cycle bus at) = subst (λ (n : Netlist). IsEndFault n (words_of said) start clocks (Clash cycle bus at)) read.netlist h in
           record { loaded = record { entries = read.entries; image = said; start = start }; taken = taken; clashed = moved.0; name = moved.1 }
       fault_of_end Memory h = tt

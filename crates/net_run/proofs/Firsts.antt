@@ -7,7 +7,6 @@ use Rattle.rec_bits.specs.declared.fault.ParseFault.{ParseFault}
 use Rattle.rec_bits.specs.declared.fault.ParseFault.TheVariants.{Text as NoText, Memory as ParseMemory}
 use Rattle.net_model.specs.declared.hardware.Code.{Code}
 use Rattle.net_model.specs.declared.hardware.Netlist.{Netlist}
-use Rattle.net_model.specs.declared.hardware.Storage.{Storage}
 use Rattle.net_model.specs.declared.states.State.{State}
 use Rattle.net_model.specs.Fixed.{in_mode, mode_in}
 use Rattle.net_model.specs.MemoryText.{IsMemoryFault, IsMemoryRefusal, IsMemoryText}

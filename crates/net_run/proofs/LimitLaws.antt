@@ -8,11 +8,11 @@ use Rattle.net_model.specs.CheckedRules.{CodeKeeps, KeepsRules}
 use Rattle.net_model.specs.ModeRules.{base_at, KeepsModes}
 use Rattle.net_model.proofs.Bases.{base_of}
 use Rattle.net_model.proofs.ModeFaults.{first_keeps}
-use Rattle.net_model.specs.Elaborated.{netlist_of}
 use Rattle.net_model.specs.Nets.{code_bits}
 use Rattle.net_model.specs.Widths.{WordFits}
 use Rattle.net_model.specs.Written.{Text}
-use Rattle.net_front.specs.Fronts.{IsNetFile}
+use Rattle.net_front.specs.Fronts.{IsNetFile, taken_of}
+use Rattle.net_front.proofs.FrontLaws.{taken_keeps}
 use Rattle.code_model.specs.declared.image.Word.{Word}
 use Rattle.code_model.specs.ImageFits.{CodeFits, limits_in, limits_of}
 use Rattle.image_text.proofs.Whole.{Narrow}
@@ -33,8 +33,8 @@ narrow_moded netlist keeps =
     let first = first_keeps netlist keeps in
     subst (λ (list : List Code). Narrow (limits_in list)) (first_codes netlist) (narrow_rules (base_at netlist 0) first.order first.rules)
 
-pub narrow_of : (net : List ℕ) (entries : Text) → IsNetFile net entries → Narrow (limits_of (netlist_of entries))
-narrow_of net entries file = narrow_moded (netlist_of entries) file.keeps.modes
+pub narrow_of : (net : List ℕ) (entries : Text) → IsNetFile net entries → Narrow (limits_of (taken_of entries))
+narrow_of net entries file = narrow_moded (taken_of entries) (taken_keeps entries file.keeps)
 
 -- a word that fits the limits fits the netlist
 word_fits : (netlist : Netlist) (codes : List Code) → netlist.codes ≡ codes → length codes ≡ 1 → (word : ℕ) → word < 2 ^ (limits_in codes).bits → WordFits netlist word

@@ -4,11 +4,11 @@ use Rattle.net_model.specs.declared.hardware.Netlist.{Netlist}
 use Rattle.net_model.specs.declared.states.State.{State}
 use Rattle.net_model.specs.ModeRules.{AreModesOf, Moded}
 use Rattle.net_model.specs.Clock.{Run, run, Reached, Clashed}
-use Rattle.net_model.specs.Elaborated.{netlist_of}
 use Rattle.net_model.specs.NetFaults.{name_at}
 use Rattle.net_model.specs.Written.{Text}
 use Rattle.net_parser.specs.Texts.{IsNoNetText}
-use Rattle.net_front.specs.Fronts.{IsNetFile, BreaksRule}
+use Rattle.net_front.specs.Fronts.{taken_of}
+use Rattle.net_front.specs.Taken.{BreaksTaken, IsTakenFile}
 use Rattle.code_model.specs.declared.image.Image.{Image}
 use Rattle.code_model.specs.Places.{words_of}
 use Rattle.code_model.specs.ImageFits.{limits_of}
@@ -17,6 +17,10 @@ use Rattle.net_model.specs.MemoryText.{IsMemoryText, IsMemoryFault}
 use Rattle.state_text.specs.Shown.{state_text}
 use Rattle.net_run.specs.declared.machine.RunFault.{RunFault}
 use Rattle.net_run.specs.declared.machine.RunFault.TheVariants.{NetText, Net, ImageText, MemText, Clash, Memory}
+
+-- the newest edition of netlist texts that are run: those of the next have a bank
+abbrev pub run_edition : ℕ
+run_edition = 3
 
 -- ---- texts
 
@@ -28,22 +32,22 @@ pub record Loaded : Type 0 where
 
 -- three texts say these
 pub record IsLoaded (net image memory : List ℕ) (loaded : Loaded) : Type 0 where
-  pub net_file : IsNetFile net loaded.entries
-  pub image_text : IsImageText (limits_of (netlist_of loaded.entries)) image loaded.image
-  pub memory_text : IsMemoryText (netlist_of loaded.entries) None memory loaded.start
+  pub net_file : IsTakenFile run_edition net loaded.entries
+  pub image_text : IsImageText (limits_of (taken_of loaded.entries)) image loaded.image
+  pub memory_text : IsMemoryText (taken_of loaded.entries) None memory loaded.start
 
 -- the first bytes are a netlist's, and the second an image's for it
 pub record IsImageFile (net image : List ℕ) : Type 0 where
   pub entries : Text
   pub said : Image
-  pub net_file : IsNetFile net entries
-  pub image_text : IsImageText (limits_of (netlist_of entries)) image said
+  pub net_file : IsTakenFile run_edition net entries
+  pub image_text : IsImageText (limits_of (taken_of entries)) image said
 
--- this netlist, which was checked in its modes, is that of the bytes
+-- this netlist, which was checked in its modes, is taken for the bytes
 pub record IsNetRead (net : List ℕ) (moded : Moded) : Type 0 where
   pub entries : Text
-  pub file : IsNetFile net entries
-  pub netlist : moded.netlist ≡ netlist_of entries
+  pub file : IsTakenFile run_edition net entries
+  pub netlist : moded.netlist ≡ taken_of entries
   pub modes : AreModesOf moded.netlist moded.bases
 
 -- the words of the image that the bytes are
@@ -56,7 +60,7 @@ pub record AreImageWords (netlist : Netlist) (image words : List ℕ) : Type 0 w
 
 -- so many clocks of the netlist on the image's words, from the state
 abbrev pub clocked : Loaded → ℕ → Run
-clocked loaded clocks = run (netlist_of loaded.entries) (words_of loaded.image) loaded.start clocks
+clocked loaded clocks = run (taken_of loaded.entries) (words_of loaded.image) loaded.start clocks
 
 -- these bytes are the text of the state that the clocks reach
 pub record ShowsState (net image memory : List ℕ) (clocks : ℕ) (out : List ℕ) : Type 0 where
@@ -64,7 +68,7 @@ pub record ShowsState (net image memory : List ℕ) (clocks : ℕ) (out : List �
   pub taken : IsLoaded net image memory loaded
   pub last : State
   pub reached : clocked loaded clocks ≡ Reached last
-  pub text : out ≡ state_text (netlist_of loaded.entries) clocks last
+  pub text : out ≡ state_text (taken_of loaded.entries) clocks last
 
 -- ---- refusals
 
@@ -79,24 +83,24 @@ pub record Clashes (net image memory : List ℕ) (clocks : ℕ) (clash : Clashed
   pub loaded : Loaded
   pub taken : IsLoaded net image memory loaded
   pub clashed : clocked loaded clocks ≡ Clashed clash.cycle clash.bus
-  pub name : clash.at ≡ name_at (netlist_of loaded.entries) clash.bus
+  pub name : clash.at ≡ name_at (taken_of loaded.entries) clash.bus
 
 -- the first bytes are a netlist's, and the second no image's for it, which shows at this offset
 pub record IsNoImageFile (net image : List ℕ) (at : ℕ) : Type 0 where
   pub entries : Text
-  pub net_file : IsNetFile net entries
-  pub none : IsLineFault (limits_of (netlist_of entries)) image at
+  pub net_file : IsTakenFile run_edition net entries
+  pub none : IsLineFault (limits_of (taken_of entries)) image at
 
 -- the first bytes are a netlist's, and the second no memory text for it, which shows at this offset
 pub record IsNoMemoryFile (net memory : List ℕ) (at : ℕ) : Type 0 where
   pub entries : Text
-  pub net_file : IsNetFile net entries
-  pub none : IsMemoryFault (netlist_of entries) None memory at
+  pub net_file : IsTakenFile run_edition net entries
+  pub none : IsMemoryFault (taken_of entries) None memory at
 
 -- when each refusal comes; nothing is said where memory ran out
 abbrev pub IsRunFault : List ℕ → List ℕ → List ℕ → ℕ → RunFault → Type 0
 IsRunFault net image memory clocks (NetText at) = IsNoNetText net at
-IsRunFault net image memory clocks (Net fault) = BreaksRule net fault
+IsRunFault net image memory clocks (Net fault) = BreaksTaken run_edition net fault
 IsRunFault net image memory clocks (ImageText at) = IsNoImageFile net image at
 IsRunFault net image memory clocks (MemText at) = IsImageFile net image × IsNoMemoryFile net memory at
 IsRunFault net image memory clocks (Clash cycle bus at) =

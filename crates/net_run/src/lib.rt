@@ -3,9 +3,10 @@
 //!
 //! Promise: `run` gives the text of the state that so many clocks reach (`shows`: `ShowsState`), or
 //! the first refusal that applies, in the order netlist, image, memory, clash, with the first cycle
-//! that clashes and its first such bus (`refused`: `IsRunFault`). A netlist with modes has a
-//! simulator for each, all made before the first clock. Once the first clock has passed want of
-//! memory is no answer any more: no function behind it takes an allocator.
+//! that clashes and its first such bus (`refused`: `IsRunFault`). A netlist with a bank is refused
+//! (`run_edition`); one with modes has a simulator for each, all made before the first clock. Once
+//! the first clock has passed want of memory is no answer any more: no function behind it takes an
+//! allocator.
 //!
 //! Files:
 //!

@@ -21,12 +21,17 @@ use rec_bits::{Items, NoMemory, ParseFault};
 use state_text::{text_room, write_state};
 use std::alloc::Global;
 
+// The newest edition of the netlist texts that are run: those of a later one have a bank, and no
+// clock.
+const NEWEST: u8 = 3;
+
 /// Why no state was reached.
 #[derive(Clone, Copy, Debug, PartialEq, Eq)]
 pub enum RunFault {
     /// The first bytes are no netlist text; the offset at which that shows.
     NetText(u64),
-    /// They are one, and this is the first rule that it breaks.
+    /// They are one, and this is the first rule that it breaks. One with a bank is not run: it is
+    /// refused by N6 where it breaks no rule that is tried before.
     Net(NetFault),
     /// The second bytes are no image text that fits the netlist; the offset of the line at fault.
     ImageText(u64),
@@ -68,7 +73,7 @@ fn netlist(alloc: Global, net: &[u8]) -> Result<Modes, RunFault>
     ensures found { IfOk result (IsNetRead net.now) }
     ensures refused { IfErr result (IsNetFault net.now) }
 {
-    let (_, modes) = read_net(alloc, net)?;
+    let (_, modes) = read_net(alloc, net, NEWEST)?;
     Ok(modes)
 }
 

@@ -5,7 +5,7 @@ use Rattle.net_model.specs.declared.fault.NetFault.{NetFault}
 use Rattle.net_model.specs.Clock.{Reached, run}
 use Rattle.net_model.specs.declared.hardware.Netlist.{Netlist}
 use Rattle.net_model.specs.declared.states.State.{State}
-use Rattle.net_model.specs.Elaborated.{netlist_of}
+use Rattle.net_front.specs.Fronts.{taken_of}
 use Rattle.net_model.specs.Patterns.{Pattern}
 use Rattle.net_model.specs.Written.{Text}
 use Rattle.net_parser.specs.Texts.{IsNoNetText}
@@ -116,11 +116,11 @@ module _ (net : List ℕ) where
   -- what holds of their netlist, and what else does, holds of the same one
   pub together : (P Q : Netlist → Type 0) (G : Type 0) → ((netlist : Netlist) → P netlist → Q netlist → G) → NetHolds net P → NetHolds net Q → G
   together P Q G f a b =
-      f (netlist_of a.entries) a.holds (subst (λ (e : Text). Q (netlist_of e)) (b.file.file.says.only a.entries a.file.file.says.text) b.holds)
+      f (taken_of a.entries) a.holds (subst (λ (e : Text). Q (taken_of e)) (b.file.file.says.only a.entries a.file.file.says.text) b.holds)
 
   -- and so does what follows
   pub weaker : (P Q : Netlist → Type 0) → ((netlist : Netlist) → P netlist → Q netlist) → NetHolds net P → NetHolds net Q
-  weaker P Q f h = record { entries = h.entries; file = h.file; taken = h.taken; holds = f (netlist_of h.entries) h.holds }
+  weaker P Q f h = record { entries = h.entries; file = h.file; taken = h.taken; holds = f (taken_of h.entries) h.holds }
 
   pub no_net_text : (P : Netlist → Type 0) (at : ℕ) → NetHolds net P → IsNoNetText net at → ⊥
   no_net_text P at h none = no_text_fault net h.entries at h.file.file.says none

@@ -1,7 +1,7 @@
 -- What `test` answers for the bytes of a netlist.
 use Rattle.std.specs.Prelude.{ℕ, ◌≤◌, List}
 use Rattle.net_model.specs.declared.hardware.Netlist.{Netlist}
-use Rattle.net_model.specs.Elaborated.{netlist_of}
+use Rattle.net_front.specs.Fronts.{taken_of}
 use Rattle.net_model.specs.Written.{Text}
 use Rattle.net_parser.specs.Texts.{IsNoNetText}
 use Rattle.net_extract.specs.Extracts.{IsRoutedFile}
@@ -21,7 +21,7 @@ pub record NetHolds (net : List ℕ) (P : Netlist → Type 0) : Type 0 where
   pub entries : Text
   pub file : IsRoutedFile net entries
   pub taken : entries.edition ≤ tested_edition
-  pub holds : P (netlist_of entries)
+  pub holds : P (taken_of entries)
 
 -- the text is that of a right self-test of the netlist, to which no refusal applies
 abbrev pub IsTested : List ℕ → List ℕ → Type 0

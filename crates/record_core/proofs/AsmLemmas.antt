@@ -1,5 +1,5 @@
 -- What `asm` and `dis` answer.
-use Rattle.std.proofs.Common.{◌≡◌, ◌⊎◌, ℕ, List, [], ◌∷◌, inl, inr, refl, subst}
+use Rattle.std.proofs.Common.{◌≡◌, ◌⊎◌, ℕ, List, [], ◌∷◌, inl, inr, refl, subst, arith}
 use Rattle.std.specs.List.{AllZip}
 use Rattle.net_model.specs.declared.hardware.Netlist.{Netlist}
 use Rattle.net_extract.specs.Taken.{BreaksAnyTaken}
@@ -98,7 +98,7 @@ module _ (line : Status → List ℕ) (net image : List ℕ) where
   image_file out is = record {
     entries = is.is.entries;
     said = is.said;
-    net_file = is.is.file.file;
+    net_file = record { file = is.is.file.file; taken = (let taken = is.is.taken in omega (arith, taken)) };
     image_text = subst (λ (n : Netlist). IsImageText (limits_of n) image is.said) is.is.netlist is.read;
   }
 

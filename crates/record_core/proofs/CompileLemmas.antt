@@ -1,8 +1,8 @@
 -- What commands answer that make code of two texts.
 use Rattle.std.proofs.Common.{◌≡◌, ◌⊎◌, ℕ, List, inl, inr, refl}
 use Rattle.net_model.specs.declared.fault.NetFault.{NetFault}
-use Rattle.net_extract.specs.Extracts.{BreaksAnyRule}
-use Rattle.net_extract.proofs.RoutedLaws.{no_broken_any, no_text_fault_where_broken}
+use Rattle.net_extract.specs.Taken.{BreaksAnyTaken}
+use Rattle.net_extract.proofs.RoutedTaken.{no_broken_any_taken, no_text_fault_where_taken}
 use Rattle.right_code.specs.Covered.{HasBareTree}
 use Rattle.right_code.specs.Tasks.{Property}
 use Rattle.net_code.specs.Refusals.{HasJumps, IsBeyondReach, IsCoverable, IsReached, IsImageTooLong as HasLongImage}
@@ -11,7 +11,7 @@ use Rattle.net_compile.specs.declared.fault.CompileFault.{CompileFault}
 use Rattle.net_compile.specs.declared.fault.CompileFault.TheVariants.{NetText as CompileNetText, Net as CompileNet, SrcText as CompileSrcText, Src as CompileSrc, DataFull as NoRoom, NoStep as Stepless, NoJump as Jumpless, NoCover as Uncovered, NoReach as Beyond, ImageFull as Overlong, Memory as CompileMemory}
 use Rattle.net_compile.specs.Code.{IsDataFull, IsWithin, FailsWith, HasRoom}
 use Rattle.net_compile.specs.Compiled.{HasNet, IsCompiled, IsCompileFault}
-use Rattle.net_compile.specs.Tasks.{TaskHolds}
+use Rattle.net_compile.specs.Tasks.{TaskHolds, compiled_edition}
 use Rattle.record_core.proofs.FormLemmas.{answers_no_net_text, answers_broken, answers_no_src_text, answers_broken_src, answers_full, answers_stepless, answers_jumpless, behind_jumps, later_of_forms, past_jumps}
 use Rattle.record_core.proofs.StageLemmas.{By-none, Then-behind, Then-past}
 use Rattle.record_core.specs.Answers.{CodeAnswers, CodeEnds, CompileAnswers}
@@ -32,7 +32,7 @@ module _ (line : Status → List ℕ) (net src : List ℕ) (Later : Status → L
   -- ---- what is answered behind them
 
   abbrev ends : Status → List ℕ → Type 0
-  ends = CodeEnds line net src Later
+  ends = CodeEnds line (TaskHolds net src) Later
 
   abbrev reach_answers : Status → List ℕ → Type 0
   reach_answers = Then line beyond ends
@@ -49,15 +49,15 @@ module _ (line : Status → List ℕ) (net src : List ℕ) (Later : Status → L
   not_beyond h = By-none (λ (p : ℕ × ℕ). NoReach p.0 p.1) (λ (p : ℕ × ℕ). TaskHolds net src (IsBeyondReach p.0 p.1)) (λ p is. no_beyond net src p.0 p.1 h is)
 
   -- the netlist of a task breaks no rule
-  keeps : (P : Property) → TaskHolds net src P → (fault : NetFault) → BreaksAnyRule net fault → ⊥
-  keeps P h fault breaks = let has : HasNet net = has_net net src P h in no_broken_any net has.entries fault has.file breaks
+  keeps : (P : Property) → TaskHolds net src P → (fault : NetFault) → BreaksAnyTaken compiled_edition net fault → ⊥
+  keeps P h fault breaks = let has : HasNet net = has_net net src P h in no_broken_any_taken compiled_edition net has.entries fault has.file.file has.file.taken breaks
 
   -- ---- what each refusal that doesn't come leaves to the later stages
 
   module _ (roomy : TaskHolds net src HasRoom) where
     past_covers : TaskHolds net src IsCoverable → (status : Status) (text : List ℕ) → reach_answers status text → CodeAnswers line net src Later status text
     past_covers h status text later =
-        past_jumps line net src (BreaksAnyRule net) cover_answers (keeps HasRoom roomy) roomy (weaker net src IsCoverable HasJumps (λ task x. x.jumps) h) status text
+        past_jumps line net src (BreaksAnyTaken compiled_edition net) cover_answers (keeps HasRoom roomy) roomy (weaker net src IsCoverable HasJumps (λ task x. x.jumps) h) status text
         (Then-past line uncovered reach_answers (not_uncovered h) status text later)
 
     past_reach : TaskHolds net src IsReached → (status : Status) (text : List ℕ) → ends status text → CodeAnswers line net src Later status text
@@ -72,7 +72,7 @@ module _ (line : Status → List ℕ) (net src : List ℕ) (Later : Status → L
 
   answers_uncovered : (tree : ℕ) → TaskHolds net src (FailsWith (Uncovered tree)) → CodeAnswers line net src Later (NoCover tree) (line (NoCover tree))
   answers_uncovered tree h =
-      past_jumps line net src (BreaksAnyRule net) cover_answers (keeps (FailsWith (Uncovered tree)) h) (weaker net src (FailsWith (Uncovered tree)) HasRoom (λ task x. x.0) h)
+      past_jumps line net src (BreaksAnyTaken compiled_edition net) cover_answers (keeps (FailsWith (Uncovered tree)) h) (weaker net src (FailsWith (Uncovered tree)) HasRoom (λ task x. x.0) h)
       (weaker net src (FailsWith (Uncovered tree)) HasJumps (λ task x. x.1.0) h)
       (NoCover tree) (line (NoCover tree))
       (inl ((tree, weaker net src (FailsWith (Uncovered tree)) (HasBareTree tree) (λ task x. x.1.1) h, refl), refl))
@@ -94,13 +94,13 @@ module _ (line : Status → List ℕ) (net src : List ℕ) (Later : Status → L
   -- a fault of the compiler is what is answered
   pub answers_fault : (fault : CompileFault) → IsCompileFault net src fault →
       (compile_status fault ≡ Memory) ⊎ CodeAnswers line net src Later (compile_status fault) (line (compile_status fault))
-  answers_fault (CompileNetText at) is = inr (answers_no_net_text line net src (BreaksAnyRule net) cover_answers at is)
-  answers_fault (CompileNet fault) is = inr (answers_broken line net src (BreaksAnyRule net) cover_answers fault (λ at faulty. no_text_fault_where_broken net fault at is faulty) is)
-  answers_fault (CompileSrcText at) is = inr (answers_no_src_text line net src (BreaksAnyRule net) cover_answers (λ fault breaks. no_broken_any net is.0.entries fault is.0.file breaks) at is)
-  answers_fault (CompileSrc fault) is = inr (answers_broken_src line net src (BreaksAnyRule net) cover_answers (λ other breaks. no_broken_any net is.entries other is.net_file breaks) fault is)
-  answers_fault (NoRoom need have) is = inr (answers_full line net src (BreaksAnyRule net) cover_answers (keeps (IsDataFull need have) is) need have is)
-  answers_fault Stepless is = inr (answers_stepless line net src (BreaksAnyRule net) cover_answers (keeps (FailsWith Stepless) is) is)
-  answers_fault Jumpless is = inr (answers_jumpless line net src (BreaksAnyRule net) cover_answers (keeps (FailsWith Jumpless) is) is)
+  answers_fault (CompileNetText at) is = inr (answers_no_net_text line net src (BreaksAnyTaken compiled_edition net) cover_answers at is)
+  answers_fault (CompileNet fault) is = inr (answers_broken line net src (BreaksAnyTaken compiled_edition net) cover_answers fault (λ at faulty. no_text_fault_where_taken compiled_edition net fault at is faulty) is)
+  answers_fault (CompileSrcText at) is = inr (answers_no_src_text line net src (BreaksAnyTaken compiled_edition net) cover_answers (λ fault breaks. no_broken_any_taken compiled_edition net is.0.entries fault is.0.file.file is.0.file.taken breaks) at is)
+  answers_fault (CompileSrc fault) is = inr (answers_broken_src line net src (BreaksAnyTaken compiled_edition net) cover_answers (λ other breaks. no_broken_any_taken compiled_edition net is.entries other is.net_file.file is.net_file.taken breaks) fault is)
+  answers_fault (NoRoom need have) is = inr (answers_full line net src (BreaksAnyTaken compiled_edition net) cover_answers (keeps (IsDataFull need have) is) need have is)
+  answers_fault Stepless is = inr (answers_stepless line net src (BreaksAnyTaken compiled_edition net) cover_answers (keeps (FailsWith Stepless) is) is)
+  answers_fault Jumpless is = inr (answers_jumpless line net src (BreaksAnyTaken compiled_edition net) cover_answers (keeps (FailsWith Jumpless) is) is)
   answers_fault (Uncovered tree) is = inr (answers_uncovered tree is)
   answers_fault (Beyond bound reach) is = inr (answers_beyond bound reach is)
   answers_fault (Overlong len size bound) is = inr (answers_long len size bound is)
@@ -125,14 +125,14 @@ module _ (line : Status → List ℕ) (net src : List ℕ) (Later : Status → L
     pub later_within : (status : Status) (text : List ℕ) → CodeAnswers line net src Later status text → Later status text
     later_within status text answers =
         let roomy : TaskHolds net src HasRoom = weaker net src IsWithin HasRoom (λ task x. x.room) h in
-        let a : cover_answers status text = behind_jumps line net src (BreaksAnyRule net) cover_answers (keeps HasRoom roomy) roomy jumps status text answers in
+        let a : cover_answers status text = behind_jumps line net src (BreaksAnyTaken compiled_edition net) cover_answers (keeps HasRoom roomy) roomy jumps status text answers in
         let b : reach_answers status text = Then-behind line uncovered reach_answers (not_uncovered covered) status text a in
         ends_later status text (Then-behind line beyond ends (not_beyond reached) status text b)
 
   -- ---- what is written on `Done` is what the later stages write
 
   pub later_of : (text : List ℕ) → CodeAnswers line net src Later Done text → Later Done text
-  later_of text answers = by (later_of_forms line net src (BreaksAnyRule net) cover_answers text answers)
+  later_of text answers = by (later_of_forms line net src (BreaksAnyTaken compiled_edition net) cover_answers text answers)
     where
       by : cover_answers Done text → Later Done text
       by (inl ((tree, reason, e), same)) = absurd cc

@@ -80,7 +80,7 @@ module _ (line : Status → List ℕ) (net src : List ℕ) (Breaks : NetFault �
 
   module _ (kept : (fault : NetFault) → Breaks fault → ⊥) where
     past_net : HasNet net → (status : Status) (text : List ℕ) → source_answers status text → FormAnswers line net src Breaks Later status text
-    past_net h = past_rules line net Breaks source_answers h.entries h.file.file.says kept
+    past_net h = past_rules line net Breaks source_answers h.entries h.file.file.file.says kept
 
     past_program : (P : Property) → TaskHolds net src P → (status : Status) (text : List ℕ) → room_answers status text → FormAnswers line net src Breaks Later status text
     past_program P h status text later = past_net (has_net net src P h) status text
@@ -99,7 +99,7 @@ module _ (line : Status → List ℕ) (net src : List ℕ) (Breaks : NetFault �
     -- and nothing else does
     pub behind_jumps : TaskHolds net src HasRoom → TaskHolds net src HasJumps → (status : Status) (text : List ℕ) → FormAnswers line net src Breaks Later status text → Later status text
     behind_jumps roomy h status text answers =
-        let a : source_answers status text = behind_rules line net Breaks source_answers (has_net net src HasRoom roomy).entries (has_net net src HasRoom roomy).file.file.says kept status text answers in
+        let a : source_answers status text = behind_rules line net Breaks source_answers (has_net net src HasRoom roomy).entries (has_net net src HasRoom roomy).file.file.file.says kept status text answers in
         let b : rule_answers status text = Then-behind line no_text rule_answers (not_text HasRoom roomy) status text a in
         let c : room_answers status text = Then-behind line broken room_answers (not_broken HasRoom roomy) status text b in
         let d : step_answers status text = Then-behind line full step_answers (not_full roomy) status text c in

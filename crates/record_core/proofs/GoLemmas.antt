@@ -31,7 +31,7 @@ use Rattle.record_core.specs.Inner.Putting.{IsMemoryStatus}
 use Rattle.record_core.specs.Inner.Statuses.{compile_status, memory_status}
 use Rattle.record_core.specs.Watching.{IsWatched, LacksMemory}
 use Rattle.record_core.specs.declared.status.Status.{Status}
-use Rattle.record_core.specs.declared.status.Status.TheVariants.{Done, Usage, ReadFault, TooLong, WriteFault, NetText, Net, SrcText, Src, NoStep, NoJump, NoCover, DataFull, NoReach, ImageFull, Memory, ImageText, MemText, Clash, AsmText, AsmWord, TestLimit}
+use Rattle.record_core.specs.declared.status.Status.TheVariants.{Done, Usage, ReadFault, TooLong, WriteFault, NetText, Net, SrcText, Src, NoStep, NoJump, NoCover, DataFull, NoReach, ImageFull, Memory, ImageText, MemText, Clash, AsmText, AsmWord, TestLimit, PartText}
 
 -- ---- the state to start from
 
@@ -133,3 +133,4 @@ module _ (line : Status → List ℕ) (net src memory : List ℕ) (clocks : ℕ)
     memory_fault (AsmText at) is = absurd is
     memory_fault (AsmWord number) is = absurd is
     memory_fault (TestLimit count bound) is = absurd is
+    memory_fault (PartText at) is = absurd is

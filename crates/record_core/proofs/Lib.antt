@@ -1,5 +1,6 @@
 mod AnswerLemmas
 mod AsmLemmas
+mod BothLemmas
 mod CompileLemmas
 mod ExplainLemmas
 mod ExtractLemmas

@@ -1,13 +1,14 @@
 -- What `run` answers for three texts.
 use Rattle.std.proofs.Common.{◌≡◌, ◌⊎◌, ℕ, List, Some, None, inl, inr, refl}
 use Rattle.std.specs.declared.option.Option.{Option}
-use Rattle.net_front.proofs.FrontLaws.{no_text_fault, no_broken_rule}
-use Rattle.net_front.specs.Fronts.{IsNetFile, BreaksRule}
+use Rattle.net_front.proofs.FrontLaws.{no_text_fault}
+use Rattle.net_front.proofs.TakenLaws.{no_broken_for, no_text_fault_for, not_later}
+use Rattle.net_front.specs.Taken.{BreaksTaken, IsLater, IsTakenFile, added_role}
 use Rattle.net_model.specs.Written.{Text}
 use Rattle.net_model.specs.declared.fault.NetFault.{NetFault}
 use Rattle.net_parser.specs.Texts.{IsNoNetText}
 use Rattle.net_run.proofs.RunLaws.{no_image_fault, no_memory_fault}
-use Rattle.net_run.specs.Runs.{Loaded, IsLoaded, IsImageFile, IsNoImageFile, IsNoMemoryFile, ClashedAt, Clashes, ShowsState, IsRunFault}
+use Rattle.net_run.specs.Runs.{Loaded, IsLoaded, IsImageFile, IsNoImageFile, IsNoMemoryFile, ClashedAt, Clashes, ShowsState, IsRunFault, run_edition}
 use Rattle.net_run.specs.declared.machine.RunFault.{RunFault}
 use Rattle.net_run.specs.declared.machine.RunFault.TheVariants.{NetText as RunNetText, Net as RunNet, ImageText as NoImage, MemText as NoMemoryText, Clash as Clashed, Memory as RunMemory}
 use Rattle.record_core.proofs.StageLemmas.{By-none}
@@ -25,10 +26,10 @@ module _ (line : Option ℕ → Status → List ℕ) (net image memory : List �
   abbrev image_answers : Status → List ℕ → Type 0
   image_answers = Then (line None) (By ImageText (IsNoImageFile net image)) memory_answers
 
-  past_net : (entries : Text) → IsNetFile net entries → (status : Status) (text : List ℕ) → image_answers status text → RunAnswers line net image memory clocks status text
+  past_net : (entries : Text) → IsTakenFile run_edition net entries → (status : Status) (text : List ℕ) → image_answers status text → RunAnswers line net image memory clocks status text
   past_net entries file status text later = inr (
-    By-none NetText (IsNoNetText net) (λ at faulty. no_text_fault net entries at file.says faulty),
-    inr (By-none Net (BreaksRule net) (λ fault breaks. no_broken_rule net entries fault file breaks), later),
+    By-none NetText (IsNoNetText net) (λ at faulty. no_text_fault net entries at file.file.says faulty),
+    inr (By-none Net (BreaksTaken run_edition net) (λ fault breaks. no_broken_for (IsLater run_edition) added_role net entries fault file.file (not_later run_edition entries.edition file.taken) breaks), later),
   )
 
   past_image : IsImageFile net image → (status : Status) (text : List ℕ) → memory_answers status text → RunAnswers line net image memory clocks status text
@@ -48,9 +49,9 @@ module _ (line : Option ℕ → Status → List ℕ) (net image memory : List �
   answers_no_net_text : (at : ℕ) → IsNoNetText net at → RunAnswers line net image memory clocks (NetText at) (line None (NetText at))
   answers_no_net_text at none = inl ((at, none, refl), refl)
 
-  answers_broken : (fault : NetFault) → BreaksRule net fault → RunAnswers line net image memory clocks (Net fault) (line None (Net fault))
+  answers_broken : (fault : NetFault) → BreaksTaken run_edition net fault → RunAnswers line net image memory clocks (Net fault) (line None (Net fault))
   answers_broken fault breaks =
-      inr (By-none NetText (IsNoNetText net) (λ at faulty. no_text_fault net breaks.entries at breaks.says faulty), inl ((fault, breaks, refl), refl))
+      inr (By-none NetText (IsNoNetText net) (λ at faulty. no_text_fault_for (IsLater run_edition) added_role net fault at breaks faulty), inl ((fault, breaks, refl), refl))
 
   answers_no_image : (at : ℕ) → IsNoImageFile net image at → RunAnswers line net image memory clocks (ImageText at) (line None (ImageText at))
   answers_no_image at none = past_net none.entries none.net_file (ImageText at) (line None (ImageText at)) (inl ((at, none, refl), refl))

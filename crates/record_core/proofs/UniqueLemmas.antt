@@ -4,19 +4,30 @@ use Rattle.std.proofs.lemmas.Slice.Eq.{bytes_eq-Decides}
 use Rattle.std.specs.Str.{bytes_eq}
 use Rattle.std.specs.declared.option.Option.{Option}
 use Rattle.net_parser.proofs.TextFaults.{one_net_fault}
-use Rattle.net_front.proofs.FrontLaws.{one_broken_rule}
+use Rattle.net_front.proofs.TakenLaws.{one_broken_for}
+use Rattle.net_front.specs.Taken.{HasNoBank, IsLater, added_role, unbanked_role}
 use Rattle.src_parser.proofs.TextFaults.{one_src_fault}
-use Rattle.net_extract.specs.Extracts.{IsExtracted}
+use Rattle.net_extract.specs.Extracts.{IsExtracted, extracted_edition}
 use Rattle.net_model.specs.declared.fault.NetFault.{NetFault}
-use Rattle.net_extract.proofs.RoutedTaken.{one_broken_any_taken}
+use Rattle.net_extract.proofs.RoutedTaken.{one_broken_any_taken, one_broken_of_any}
+use Rattle.net_extract.specs.Taken.{BreaksAnyBanked}
 use Rattle.job_gen.specs.NetText.{net_text as job_netlist}
 use Rattle.job_gen.specs.SrcText.{src_text as job_program}
-use Rattle.net_compile.specs.Compiled.{IsCompiled}
-use Rattle.net_compile.specs.Tasks.{TaskHolds}
+use Rattle.net_compile.specs.Code.{IsDataFull, IsWithin}
+use Rattle.net_compile.specs.Compiled.{BreaksSrc, IsCompiled}
+use Rattle.net_compile.specs.Tasks.{TaskHolds, compiled_edition}
+use Rattle.net_code.specs.Refusals.{IsBeyondReach, IsImageTooLong as HasLongImage}
+use Rattle.right_code.specs.Covered.{HasBareTree}
+use Rattle.right_code.specs.Tasks.{Property}
+use Rattle.src_model.specs.declared.fault.SrcFault.{SrcFault}
+use Rattle.dual_code.specs.Code.{IsDualFull, IsDualWithin}
+use Rattle.dual_code.specs.Compiled.{BreaksDualSrc, IsDualCompiled}
+use Rattle.dual_code.specs.Tasks.{DualHolds, ViewHolds}
+use Rattle.dual_code.proofs.DualLemmas.{one_no_part, one_beyond as one_dual_beyond, one_broken as one_dual_broken, one_full as one_dual_full, one_limit as one_dual_limit, one_uncovered as one_dual_uncovered}
 use Rattle.net_make.specs.Summaries.{IsSummary}
 use Rattle.net_compile.proofs.TaskLemmas.{one_beyond, one_broken, one_full, one_limit, one_uncovered}
 use Rattle.net_run.proofs.RunLaws.{one_image_fault, one_memory_fault, one_clash, no_clash_shown}
-use Rattle.net_run.specs.Runs.{ClashedAt}
+use Rattle.net_run.specs.Runs.{ClashedAt, run_edition}
 use Rattle.net_asm.proofs.AsmLaws.{one_text_fault, one_wordless}
 use Rattle.net_asm.specs.Assembled.{IsAssembled}
 use Rattle.net_asm.specs.Disassembled.{IsDisassembled}
@@ -28,20 +39,20 @@ use Rattle.rec_io.specs.Files.{Files, file_of}
 use Rattle.rec_io.specs.Shelf.{ShelfState}
 use Rattle.rec_io.specs.Sink.{SinkState}
 use Rattle.record_core.proofs.CompileLemmas.{done_within}
+use Rattle.record_core.proofs.BothLemmas.{dual_within}
 use Rattle.record_core.proofs.GoLemmas.{one_lack}
 use Rattle.record_core.proofs.NetLemmas.{NetStages-alike}
-use Rattle.net_extract.proofs.RoutedLaws.{one_broken_any}
 use Rattle.net_asm.specs.Machines.{assembled_edition}
 use Rattle.record_core.proofs.StageLemmas.{AllAlike, AtMostOne, By-unique, Then-alike, Just-unique}
-use Rattle.record_core.specs.Answers.{AnswersAgree, Answers, AsmAnswers, DisAnswers, FilesAnswer, CanCompile, AreOfImages, AreOfTests, CodeAnswers, CodeEnds, ExtractAnswers, FormAnswers, WatchAnswers, netlist_in, RunEnds, RunAnswers, TestAnswers, TestEnds, TextAnswers, CommandAnswers, file_at, file_limit, place_from, AreFiles, IsFileReadFault, IsFileTooLong, IsFile, IsAnswer, IsExact, IsAccepted}
+use Rattle.record_core.specs.Answers.{AnswersAgree, Answers, AsmAnswers, DisAnswers, FilesAnswer, CanCompile, CanDual, AreOfImages, AreOfTests, CodeAnswers, CodeEnds, CoverAnswers, DualAnswers, ExtractAnswers, FormAnswers, IsAskedOf, RoomAnswers, SourceAnswers, WatchAnswers, netlist_in, RunEnds, RunAnswers, TestAnswers, TestEnds, TextAnswers, CommandAnswers, file_at, file_limit, place_from, AreFiles, IsFileReadFault, IsFileTooLong, IsFile, IsAnswer, IsExact, IsAccepted}
 use Rattle.record_core.specs.Lines.{due_line}
 use Rattle.record_core.specs.Stages.{Then}
 use Rattle.record_core.specs.Watching.{IsWatched}
 use Rattle.record_core.specs.Words.{command_of, names_of}
 use Rattle.record_core.specs.declared.words.Command.{Command}
-use Rattle.record_core.specs.declared.words.Command.TheVariants.{Compile, Extract, Run, Go, Make, Asm, Dis, Test, Explain}
+use Rattle.record_core.specs.declared.words.Command.TheVariants.{Compile, Extract, Run, Go, Make, Asm, Dis, Test, Explain, Dual}
 use Rattle.record_core.specs.declared.status.Status.{Status}
-use Rattle.record_core.specs.declared.status.Status.TheVariants.{Done, Usage, ReadFault, TooLong, NetText, Net, SrcText, Src, NoStep, NoJump, NoCover, DataFull, NoReach, ImageFull, ImageText, MemText, Clash, AsmText, AsmWord, TestLimit, Memory}
+use Rattle.record_core.specs.declared.status.Status.TheVariants.{Done, Usage, ReadFault, TooLong, NetText, Net, SrcText, Src, NoStep, NoJump, NoCover, DataFull, NoReach, ImageFull, ImageText, MemText, Clash, AsmText, AsmWord, TestLimit, PartText, Memory}
 
 one_read : (names : List (List ℕ)) (before now : ShelfState) (x y : ℕ) → IsFileReadFault names before now x → IsFileReadFault names before now y → x ≡ y
 one_read names before now x y p q = let a = p.place in let b = q.place in cc
@@ -64,6 +75,7 @@ equal (Some Asm) s t e = e
 equal (Some Dis) s t e = e
 equal (Some Test) s t e = inl e
 equal (Some Explain) s t e = e
+equal (Some Dual) s t e = inl e
 
 -- ---- stages
 
@@ -73,15 +85,26 @@ module _ (Alike : Status → Status → Type 0) (same : (s t : Status) → s ≡
       AllAlike Alike Rest → AllAlike Alike (Then line Refuses Rest)
   stage Refuses Rest one = Then-alike Alike line Refuses Rest (λ s t p q. same s t (one s t p q))
 
+  SourceAnswers-alike : (net src : List ℕ) (Breaks : NetFault → Type 0) → ((fault other : NetFault) → Breaks fault → Breaks other → fault ≡ other) →
+      (BreaksSource : SrcFault → Type 0) → ((fault other : SrcFault) → BreaksSource fault → BreaksSource other → fault ≡ other) →
+      (Later : Status → List ℕ → Type 0) → AllAlike Alike Later → AllAlike Alike (SourceAnswers line net src Breaks BreaksSource Later)
+  SourceAnswers-alike net src Breaks one BreaksSource first Later later =
+      NetStages-alike line net Breaks _ one Alike same (
+      stage _ _ (By-unique SrcText _ (one_src_fault src)) (
+      stage _ _ (By-unique Src _ first) later))
+
+  RoomAnswers-alike : (Full : ℕ × ℕ → Type 0) → ((p q : ℕ × ℕ) → Full p → Full q → p ≡ q) → (Holds : Property → Type 0) →
+      (Later : Status → List ℕ → Type 0) → AllAlike Alike Later → AllAlike Alike (RoomAnswers line Full Holds Later)
+  RoomAnswers-alike Full one Holds Later later =
+      stage _ _ (By-unique (λ (p : ℕ × ℕ). DataFull p.0 p.1) _ one) (
+      stage _ _ (Just-unique NoStep _) (
+      stage _ _ (Just-unique NoJump _) later))
+
   FormAnswers-alike : (net src : List ℕ) (Breaks : NetFault → Type 0) → ((fault other : NetFault) → Breaks fault → Breaks other → fault ≡ other) →
       (Later : Status → List ℕ → Type 0) → AllAlike Alike Later → AllAlike Alike (FormAnswers line net src Breaks Later)
   FormAnswers-alike net src Breaks one Later later =
-      NetStages-alike line net Breaks _ one Alike same (
-      stage _ _ (By-unique SrcText _ (one_src_fault src)) (
-      stage _ _ (By-unique Src _ (one_broken net src)) (
-      stage _ _ (By-unique (λ (p : ℕ × ℕ). DataFull p.0 p.1) _ (one_full net src)) (
-      stage _ _ (Just-unique NoStep _) (
-      stage _ _ (Just-unique NoJump _) later)))))
+      SourceAnswers-alike net src Breaks one (BreaksSrc net src) (one_broken net src) _
+      (RoomAnswers-alike (λ (p : ℕ × ℕ). TaskHolds net src (IsDataFull p.0 p.1)) (one_full net src) (TaskHolds net src) Later later)
 
 -- ---- commands that make code
 
@@ -95,19 +118,35 @@ record IsOfImage (Later : Status → List ℕ → Type 0) : Type 0 where
   one : AtMostOne Later
   beside : (s : Status) (text : List ℕ) → Later s text → (len size bound : ℕ) → AreOfImages s (ImageFull len size bound) × AreOfImages (ImageFull len size bound) s
 
-module _ (line : Status → List ℕ) (net src : List ℕ) (Later : Status → List ℕ → Type 0) (of : IsOfImage Later) where
-  CodeEnds-agree : AllAlike CodeAgree (CodeEnds line net src Later)
+-- what is said of tasks says it of one alone
+record AreOfOne (Holds : Property → Type 0) : Type 0 where
+  bare : (number other : ℕ) → Holds (HasBareTree number) → Holds (HasBareTree other) → number ≡ other
+  beyond : (p q : ℕ × ℕ) → Holds (IsBeyondReach p.0 p.1) → Holds (IsBeyondReach q.0 q.1) → p ≡ q
+  long : (len size bound other room most : ℕ) → Holds (HasLongImage len size bound) → Holds (HasLongImage other room most) → (size ≡ room) × (bound ≡ most)
+
+of_two : (net src : List ℕ) → AreOfOne (TaskHolds net src)
+of_two net src = record { bare = one_uncovered net src; beyond = one_beyond net src; long = one_limit net src }
+
+of_three : (net src part : List ℕ) → AreOfOne (ViewHolds net src part)
+of_three net src part = record { bare = one_dual_uncovered net src part; beyond = one_dual_beyond net src part; long = one_dual_limit net src part }
+
+module _ (line : Status → List ℕ) (Holds : Property → Type 0) (one : AreOfOne Holds) (Later : Status → List ℕ → Type 0) (of : IsOfImage Later) where
+  CodeEnds-agree : AllAlike CodeAgree (CodeEnds line Holds Later)
   CodeEnds-agree s t a b (inl (len, size, bound, p, is, x)) (inl (other, room, most, q, also, y)) =
-      rw (is, also) (inr (one_limit net src len size bound other room most p q))
+      rw (is, also) (inr (one.long len size bound other room most p q))
   CodeEnds-agree s t a b (inl (len, size, bound, p, is, x)) (inr q) = rw is (inr (of.beside t b q len size bound).1)
   CodeEnds-agree s t a b (inr p) (inl (len, size, bound, q, also, y)) = rw also (inr (of.beside s a p len size bound).0)
   CodeEnds-agree s t a b (inr p) (inr q) = inl (of.one s t a b p q)
 
-  CodeAnswers-agree : AllAlike CodeAgree (CodeAnswers line net src Later)
-  CodeAnswers-agree =
-      FormAnswers-alike CodeAgree (λ s t e. inl e) line net src _ (one_broken_any net) _ (
-      stage CodeAgree (λ s t e. inl e) line _ _ (By-unique NoCover _ (one_uncovered net src)) (
-      stage CodeAgree (λ s t e. inl e) line _ _ (By-unique (λ (p : ℕ × ℕ). NoReach p.0 p.1) _ (one_beyond net src)) CodeEnds-agree))
+  CoverAnswers-agree : AllAlike CodeAgree (CoverAnswers line Holds Later)
+  CoverAnswers-agree =
+      stage CodeAgree (λ s t e. inl e) line _ _ (By-unique NoCover _ one.bare) (
+      stage CodeAgree (λ s t e. inl e) line _ _ (By-unique (λ (p : ℕ × ℕ). NoReach p.0 p.1) _ one.beyond) CodeEnds-agree)
+
+CodeAnswers-agree : (line : Status → List ℕ) (net src : List ℕ) (Later : Status → List ℕ → Type 0) → IsOfImage Later → AllAlike CodeAgree (CodeAnswers line net src Later)
+CodeAnswers-agree line net src Later of =
+    FormAnswers-alike CodeAgree (λ s t e. inl e) line net src _ (one_broken_any_taken compiled_edition net) _
+    (CoverAnswers-agree line (TaskHolds net src) (of_two net src) Later of)
 
 -- what is written is beside an image that is too long
 done_beside : (Written : List ℕ → Type 0) → IsOfImage (λ status text. (status ≡ Done) × Written text)
@@ -130,10 +169,19 @@ module _ (line : Status → List ℕ) (net src memory : List ℕ) (clocks : ℕ)
       beside s text (image, inl ((at, lacks, is), same)) len size bound = rw is (tt, tt)
       beside s text (image, inr (none, (is, shown))) len size bound = rw is (tt, tt)
 
+-- ---- `dual`
+
+DualAnswers-agree : (line : Status → List ℕ) (net src part : List ℕ) → AllAlike CodeAgree (DualAnswers line net src part)
+DualAnswers-agree line net src part =
+    SourceAnswers-alike CodeAgree (λ s t e. inl e) line net src (BreaksAnyBanked net) (one_broken_of_any HasNoBank unbanked_role net) (BreaksDualSrc net src) (one_dual_broken net src part) _ (
+    stage CodeAgree (λ s t e. inl e) line _ _ (By-unique PartText _ (one_no_part net src part))
+    (RoomAnswers-alike CodeAgree (λ s t e. inl e) line (λ (p : ℕ × ℕ). DualHolds net src part (IsDualFull p.0 p.1)) (one_dual_full net src part) (ViewHolds net src part) _
+    (CoverAnswers-agree line (ViewHolds net src part) (of_three net src part) _ (done_beside (IsDualCompiled net src part)))))
+
 -- ---- `extract`
 
 ExtractAnswers-unique : (line : Status → List ℕ) (net : List ℕ) → AtMostOne (ExtractAnswers line net)
-ExtractAnswers-unique line net = NetStages-alike line net _ _ (one_broken_any net) (λ s t. s ≡ t) (λ s t e. e) (done_only (IsExtracted net))
+ExtractAnswers-unique line net = NetStages-alike line net _ _ (one_broken_any_taken extracted_edition net) (λ s t. s ≡ t) (λ s t e. e) (done_only (IsExtracted net))
 
 -- ---- `run`
 
@@ -148,7 +196,7 @@ RunEnds-unique line net image memory clocks s t a b (inr (is, p)) (inr (also, q)
 RunAnswers-unique : (line : Option ℕ → Status → List ℕ) (net image memory : List ℕ) (clocks : ℕ) → AtMostOne (RunAnswers line net image memory clocks)
 RunAnswers-unique line net image memory clocks =
     Then-alike (λ s t. s ≡ t) (line None) _ _ (By-unique NetText _ (one_net_fault net)) (
-    Then-alike (λ s t. s ≡ t) (line None) _ _ (By-unique Net _ (one_broken_rule net)) (
+    Then-alike (λ s t. s ≡ t) (line None) _ _ (By-unique Net _ (one_broken_for (IsLater run_edition) added_role net)) (
     Then-alike (λ s t. s ≡ t) (line None) _ _ (By-unique ImageText _ (one_image_fault net image)) (
     Then-alike (λ s t. s ≡ t) (line None) _ _ (By-unique MemText _ (one_memory_fault net memory)) (RunEnds-unique line net image memory clocks))))
 
@@ -205,6 +253,7 @@ TextAnswers-agree line Dis files = DisAnswers-unique (line None) (file_at files 
 TextAnswers-agree line Test files = TestAnswers-agree (line None) (file_at files 0)
 TextAnswers-agree line Explain files =
     FormAnswers-alike (λ s t. s ≡ t) (λ s t e. e) (line None) (file_at files 0) (file_at files 1) _ (one_broken_any_taken explained_edition (file_at files 0)) _ (done_only (IsExplained (file_at files 0) (file_at files 1)))
+TextAnswers-agree line Dual files = DualAnswers-agree (line None) (file_at files 0) (file_at files 1) (file_at files 2)
 
 -- the bytes of a file that is told
 one_file : (files : Option Files) (name a b : List ℕ) → IsSome files → IsFile files name a → IsFile files name b → a ≡ b
@@ -287,26 +336,30 @@ no_long_file None told names contents before now is are at long = absurd (search
 no_long_file (Some all) told names contents before now is are at long =
     not_long all 0 names contents now.last at.0 are long.place (rw (long.bound, is) at long.longer)
 
-accepted_by : (words : List (List ℕ)) (before now : ShelfState) → CanCompile words before.files → (Rose before.faults now.faults → ⊥) → (command : Option Command) →
-    command ≡ Some Compile → (status : Status) (text : List ℕ) → FilesAnswer words command before now status text → status ≡ Done
-accepted_by words before now can calm None is status text answers = absurd cc
-accepted_by words before now can calm (Some Extract) is status text answers = absurd cc
-accepted_by words before now can calm (Some (Run clocks)) is status text answers = absurd cc
-accepted_by words before now can calm (Some (Go clocks)) is status text answers = absurd cc
-accepted_by words before now can calm (Some (Make number)) is status text answers = absurd cc
-accepted_by words before now can calm (Some Asm) is status text answers = absurd cc
-accepted_by words before now can calm (Some Dis) is status text answers = absurd cc
-accepted_by words before now can calm (Some Test) is status text answers = absurd cc
-accepted_by words before now can calm (Some Explain) is status text answers = absurd cc
-accepted_by words before now can calm (Some Compile) is status text (inl ((file, fault, e), t)) = absurd (calm fault.rose)
-accepted_by words before now can calm (Some Compile) is status text (inr (a, inl ((at, long, e), t))) =
-    absurd (no_long_file before.files can.known (names_of Compile words) can.files before now refl can.are at long)
-accepted_by words before now can calm (Some Compile) is status text (inr (a, inr (b, (files, are, answers)))) =
-    let same : files ≡ can.files = same_files before.files (names_of Compile words) files can.files can.known are can.are in
-    done_within (due_line words (file_at can.files 0) None) (file_at can.files 0) (file_at can.files 1) can.within status text
-    (subst (λ (fs : List (List ℕ)). TextAnswers (due_line words (file_at fs 0)) Compile fs status text) same answers)
+-- where the files say what the later stages take, they answer
+accepted_by : (words : List (List ℕ)) (before now : ShelfState) (command : Command) (Of : List (List ℕ) → Type 0) → IsAskedOf command Of words before.files → (Rose before.faults now.faults → ⊥) →
+    ((line : Option ℕ → Status → List ℕ) (files : List (List ℕ)) → Of files → (status : Status) (text : List ℕ) → TextAnswers line command files status text → status ≡ Done) →
+    (status : Status) (text : List ℕ) → Answers words before now status text → status ≡ Done
+accepted_by words before now command Of can calm done status text answers = by (subst (λ (asked : Option Command). FilesAnswer words asked before now status text) can.asked answers)
+  where
+    by : FilesAnswer words (Some command) before now status text → status ≡ Done
+    by (inl ((file, fault, e), t)) = absurd (calm fault.rose)
+    by (inr (a, inl ((at, long, e), t))) = absurd (no_long_file before.files can.known (names_of command words) can.files before now refl can.are at long)
+    by (inr (a, inr (b, (files, are, given)))) =
+        let same : files ≡ can.files = same_files before.files (names_of command words) files can.files can.known are can.are in
+        done (due_line words (netlist_in command can.files)) can.files can.of status text
+        (subst (λ (fs : List (List ℕ)). TextAnswers (due_line words (netlist_in command fs)) command fs status text) same given)
 
 pub compiled_of : (words : List (List ℕ)) (before now : ShelfState) (old new : SinkState) (result : Status) → IsAnswer words before now old new result →
     CanCompile words before.files → (Rose before.faults now.faults → ⊥) → (Rose old.faults new.faults → ⊥) → (result ≡ Done) ⊎ (result ≡ Memory)
 compiled_of words before now old new result gives can read calm =
-    complete_of words before now old new result gives (accepted_by words before now can read (command_of words) can.command) calm
+    complete_of words before now old new result gives
+    (accepted_by words before now Compile (λ (files : List (List ℕ)). TaskHolds (file_at files 0) (file_at files 1) IsWithin) can read
+    (λ line files within. done_within (line None) (file_at files 0) (file_at files 1) within)) calm
+
+pub both_of : (words : List (List ℕ)) (before now : ShelfState) (old new : SinkState) (result : Status) → IsAnswer words before now old new result →
+    CanDual words before.files → (Rose before.faults now.faults → ⊥) → (Rose old.faults new.faults → ⊥) → (result ≡ Done) ⊎ (result ≡ Memory)
+both_of words before now old new result gives can read calm =
+    complete_of words before now old new result gives
+    (accepted_by words before now Dual (λ (files : List (List ℕ)). DualHolds (file_at files 0) (file_at files 1) (file_at files 2) IsDualWithin) can read
+    (λ line files within. dual_within (line None) (file_at files 0) (file_at files 1) (file_at files 2) within)) calm

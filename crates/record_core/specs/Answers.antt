@@ -4,15 +4,20 @@ use Rattle.std.specs.declared.option.Option.{Option}
 use Rattle.std.specs.Str.{bytes_eq}
 use Rattle.net_model.specs.declared.fault.NetFault.{NetFault}
 use Rattle.net_parser.specs.Texts.{IsNoNetText}
-use Rattle.net_front.specs.Fronts.{BreaksRule}
-use Rattle.net_extract.specs.Extracts.{BreaksAnyRule, IsExtracted}
-use Rattle.net_extract.specs.Taken.{BreaksAnyTaken}
+use Rattle.net_front.specs.Taken.{BreaksTaken}
+use Rattle.net_extract.specs.Extracts.{IsExtracted, extracted_edition}
+use Rattle.net_extract.specs.Taken.{BreaksAnyBanked, BreaksAnyTaken}
+use Rattle.src_model.specs.declared.fault.SrcFault.{SrcFault}
 use Rattle.src_parser.specs.Texts.{IsNoSrcText}
 use Rattle.right_code.specs.Covered.{HasBareTree}
+use Rattle.right_code.specs.Tasks.{Property}
 use Rattle.net_code.specs.Refusals.{IsBeyondReach, IsJumpless, IsStepless, IsImageTooLong as HasLongImage}
 use Rattle.net_compile.specs.Code.{HasRightCode, IsDataFull, IsWithin}
 use Rattle.net_compile.specs.Compiled.{IsCompiled, BreaksSrc}
-use Rattle.net_compile.specs.Tasks.{TaskHolds}
+use Rattle.net_compile.specs.Tasks.{TaskHolds, compiled_edition}
+use Rattle.dual_code.specs.Code.{IsDualFull, IsDualWithin}
+use Rattle.dual_code.specs.Compiled.{BreaksDualSrc, IsDualCompiled, IsNoPart}
+use Rattle.dual_code.specs.Tasks.{DualHolds, ViewHolds}
 use Rattle.job_gen.specs.NetText.{net_text as job_netlist}
 use Rattle.job_gen.specs.SrcText.{src_text as job_program}
 use Rattle.net_make.specs.Summaries.{IsSummary}
@@ -22,7 +27,7 @@ use Rattle.net_asm.specs.Machines.{assembled_edition}
 use Rattle.net_explain.specs.Explained.{explained_edition, IsExplained}
 use Rattle.net_test.specs.Refusals.{IsBeyondLimit, IsTestDataFull, IsTestTooLong}
 use Rattle.net_test.specs.Texts.{IsTested, NetHolds, tested_edition}
-use Rattle.net_run.specs.Runs.{IsNoImageFile, IsNoMemoryFile, ClashedAt, Clashes, ShowsState}
+use Rattle.net_run.specs.Runs.{IsNoImageFile, IsNoMemoryFile, ClashedAt, Clashes, ShowsState, run_edition}
 use Rattle.rec_io.specs.Causes.{Rose}
 use Rattle.rec_io.specs.Files.{Files, file_of}
 use Rattle.rec_io.specs.Shelf.{ShelfState, LastFailed, NoFetchFailed}
@@ -34,9 +39,9 @@ use Rattle.record_core.specs.Stages.{By, Just, Then}
 use Rattle.record_core.specs.Watching.{IsWatched, LacksMemory}
 use Rattle.record_core.specs.Words.{command_of, names_of}
 use Rattle.record_core.specs.declared.words.Command.{Command}
-use Rattle.record_core.specs.declared.words.Command.TheVariants.{Compile, Extract, Run, Go, Make, Asm, Dis, Test, Explain}
+use Rattle.record_core.specs.declared.words.Command.TheVariants.{Compile, Extract, Run, Go, Make, Asm, Dis, Test, Explain, Dual}
 use Rattle.record_core.specs.declared.status.Status.{Status}
-use Rattle.record_core.specs.declared.status.Status.TheVariants.{Done, Usage, ReadFault, TooLong, WriteFault, NetText, Net, SrcText, Src, NoStep, NoJump, NoCover, DataFull, NoReach, ImageFull, Memory, ImageText, MemText, Clash, AsmText, AsmWord, TestLimit}
+use Rattle.record_core.specs.declared.status.Status.TheVariants.{Done, Usage, ReadFault, TooLong, WriteFault, NetText, Net, SrcText, Src, NoStep, NoJump, NoCover, DataFull, NoReach, ImageFull, Memory, ImageText, MemText, Clash, AsmText, AsmWord, TestLimit, PartText}
 
 -- the most bytes of a file
 abbrev pub file_limit : ℕ
@@ -78,14 +83,42 @@ pub record IsFileTooLong (names : List (List ℕ)) (before now : ShelfState) (at
   pub earlier : HasFirst before.files names at.0
   pub longer : IfSome before.files (λ all. IsSomeAnd (file_of all now.last) (λ bytes. at.1 < length bytes))
 
+-- ---- the stages of commands that make code. `Holds P` says that what was read is a task of which P
+-- holds
+
 -- how the making of the code ends: there is an image made for the task that is too long, or there
 -- is one that is right code and that the netlist holds, and the later stages answer. Images made
 -- for one task may differ in length, so both may apply
-abbrev pub CodeEnds : (Status → List ℕ) → List ℕ → List ℕ → (Status → List ℕ → Type 0) → Status → List ℕ → Type 0
-CodeEnds line net src Later status text =
-    ((len : ℕ) × (size : ℕ) × (bound : ℕ) × TaskHolds net src (HasLongImage len size bound)
+abbrev pub CodeEnds : (Status → List ℕ) → (Property → Type 0) → (Status → List ℕ → Type 0) → Status → List ℕ → Type 0
+CodeEnds line Holds Later status text =
+    ((len : ℕ) × (size : ℕ) × (bound : ℕ) × Holds (HasLongImage len size bound)
     × (status ≡ ImageFull len size bound) × (text ≡ line (ImageFull len size bound)))
     ⊎ Later status text
+
+-- covers of all trees, and jumps that reach all words
+abbrev pub CoverAnswers : (Status → List ℕ) → (Property → Type 0) → (Status → List ℕ → Type 0) → Status → List ℕ → Type 0
+CoverAnswers line Holds Later =
+    Then line (By NoCover (λ (tree : ℕ). Holds (HasBareTree tree))) (
+    Then line (By (λ (p : ℕ × ℕ). NoReach p.0 p.1) (λ (p : ℕ × ℕ). Holds (IsBeyondReach p.0 p.1))) (
+    CodeEnds line Holds Later))
+
+-- room for the variables, and forms that step and jump; `Full` says of a number of cells that it is
+-- needed, and of another that there are only so many
+abbrev pub RoomAnswers : (Status → List ℕ) → (ℕ × ℕ → Type 0) → (Property → Type 0) →
+    (Status → List ℕ → Type 0) → Status → List ℕ → Type 0
+RoomAnswers line Full Holds Later =
+    Then line (By (λ (p : ℕ × ℕ). DataFull p.0 p.1) Full) (
+    Then line (Just NoStep (Holds (λ task. IsStepless task.netlist))) (
+    Then line (Just NoJump (Holds (λ task. IsJumpless task.netlist))) Later))
+
+-- a netlist, and a program for its words
+abbrev pub SourceAnswers : (Status → List ℕ) → (net src : List ℕ) → (NetFault → Type 0) → (SrcFault → Type 0) →
+    (Status → List ℕ → Type 0) → Status → List ℕ → Type 0
+SourceAnswers line net src Breaks BreaksSource Later =
+    Then line (By NetText (IsNoNetText net)) (
+    Then line (By Net Breaks) (
+    Then line (By SrcText (IsNoSrcText src)) (
+    Then line (By Src BreaksSource) Later)))
 
 -- what a command answers that covers the program of the second text by forms of the netlist of the
 -- first, by the first rule that the netlist's text breaks, and what the later stages answer where
@@ -93,26 +126,26 @@ CodeEnds line net src Later status text =
 abbrev pub FormAnswers : (Status → List ℕ) → List ℕ → List ℕ → (NetFault → Type 0) →
     (Status → List ℕ → Type 0) → Status → List ℕ → Type 0
 FormAnswers line net src Breaks Later =
-    Then line (By NetText (IsNoNetText net)) (
-    Then line (By Net Breaks) (
-    Then line (By SrcText (IsNoSrcText src)) (
-    Then line (By Src (BreaksSrc net src)) (
-    Then line (By (λ (p : ℕ × ℕ). DataFull p.0 p.1) (λ (p : ℕ × ℕ). TaskHolds net src (IsDataFull p.0 p.1))) (
-    Then line (Just NoStep (TaskHolds net src (λ task. IsStepless task.netlist))) (
-    Then line (Just NoJump (TaskHolds net src (λ task. IsJumpless task.netlist))) Later))))))
+    SourceAnswers line net src Breaks (BreaksSrc net src) (
+    RoomAnswers line (λ (p : ℕ × ℕ). TaskHolds net src (IsDataFull p.0 p.1)) (TaskHolds net src) Later)
 
 -- what a command answers that makes code of these two texts, and what the later stages answer once
 -- there is an image
 abbrev pub CodeAnswers : (Status → List ℕ) → List ℕ → List ℕ → (Status → List ℕ → Type 0) → Status → List ℕ → Type 0
 CodeAnswers line net src Later =
-    FormAnswers line net src (BreaksAnyRule net) (
-    Then line (By NoCover (λ (tree : ℕ). TaskHolds net src (HasBareTree tree))) (
-    Then line (By (λ (p : ℕ × ℕ). NoReach p.0 p.1) (λ (p : ℕ × ℕ). TaskHolds net src (IsBeyondReach p.0 p.1))) (
-    CodeEnds line net src Later)))
+    FormAnswers line net src (BreaksAnyTaken compiled_edition net) (CoverAnswers line (TaskHolds net src) Later)
 
 -- what `compile` answers for these two texts
 abbrev pub CompileAnswers : (Status → List ℕ) → List ℕ → List ℕ → Status → List ℕ → Type 0
 CompileAnswers line net src = CodeAnswers line net src (λ status text. (status ≡ Done) × IsCompiled net src text)
+
+-- what `dual` answers for these three texts, of which the first has a bank
+abbrev pub DualAnswers : (Status → List ℕ) → (net src part : List ℕ) → Status → List ℕ → Type 0
+DualAnswers line net src part =
+    SourceAnswers line net src (BreaksAnyBanked net) (BreaksDualSrc net src) (
+    Then line (By PartText (IsNoPart net src part)) (
+    RoomAnswers line (λ (p : ℕ × ℕ). DualHolds net src part (IsDualFull p.0 p.1)) (ViewHolds net src part) (
+    CoverAnswers line (ViewHolds net src part) (λ status text. (status ≡ Done) × IsDualCompiled net src part text))))
 
 -- what `explain` answers for these two texts, of which the first has no modes; a cover that is
 -- missing is no refusal
@@ -125,7 +158,7 @@ ExplainAnswers line net src =
 abbrev pub ExtractAnswers : (Status → List ℕ) → List ℕ → Status → List ℕ → Type 0
 ExtractAnswers line net =
     Then line (By NetText (IsNoNetText net)) (
-    Then line (By Net (BreaksAnyRule net)) (
+    Then line (By Net (BreaksAnyTaken extracted_edition net)) (
     λ status text. (status ≡ Done) × IsExtracted net text))
 
 -- how the clocks of `run` end: a bus clashes, and its name is told, or the state is reached
@@ -139,7 +172,7 @@ RunEnds line net image memory clocks status text =
 abbrev pub RunAnswers : (Option ℕ → Status → List ℕ) → List ℕ → List ℕ → List ℕ → ℕ → Status → List ℕ → Type 0
 RunAnswers line net image memory clocks =
     Then (line None) (By NetText (IsNoNetText net)) (
-    Then (line None) (By Net (BreaksRule net)) (
+    Then (line None) (By Net (BreaksTaken run_edition net)) (
     Then (line None) (By ImageText (IsNoImageFile net image)) (
     Then (line None) (By MemText (IsNoMemoryFile net memory)) (
     RunEnds line net image memory clocks))))
@@ -215,6 +248,7 @@ TextAnswers line Asm files = AsmAnswers (line None) (file_at files 0) (file_at f
 TextAnswers line Dis files = DisAnswers (line None) (file_at files 0) (file_at files 1)
 TextAnswers line Test files = TestAnswers (line None) (file_at files 0)
 TextAnswers line Explain files = ExplainAnswers (line None) (file_at files 0) (file_at files 1)
+TextAnswers line Dual files = DualAnswers (line None) (file_at files 0) (file_at files 1) (file_at files 2)
 
 -- the netlist's text of a command: the first file, and of `make` that of its number
 abbrev pub netlist_in : Command → List (List ℕ) → List ℕ
@@ -309,6 +343,7 @@ AnswersAgree (Some Compile) status other = (status ≡ other) ⊎ AreOfImages st
 AnswersAgree (Some (Go clocks)) status other = (status ≡ other) ⊎ AreOfImages status other
 AnswersAgree (Some (Make number)) status other = (status ≡ other) ⊎ AreOfImages status other
 AnswersAgree (Some Test) status other = (status ≡ other) ⊎ AreOfTests status other
+AnswersAgree (Some Dual) status other = (status ≡ other) ⊎ AreOfImages status other
 AnswersAgree _ status other = status ≡ other
 
 -- where an answer applies, nothing else is returned but one that agrees with it, want of memory or
@@ -321,14 +356,24 @@ IsExact words before now result = (status : Status) (text : List ℕ) → Answer
 abbrev pub IsAccepted : List (List ℕ) → ShelfState → ShelfState → Type 0
 IsAccepted words before now = (status : Status) (text : List ℕ) → Answers words before now status text → status ≡ Done
 
--- the words ask to compile, the files are told, and they say a task of which nothing is refused,
--- whatever image is made for it
-pub record CanCompile (words : List (List ℕ)) (given : Option Files) : Type 0 where
-  pub command : command_of words ≡ Some Compile
+-- the words ask for this command, the files are told, and this holds of them
+pub record IsAskedOf (command : Command) (Of : List (List ℕ) → Type 0) (words : List (List ℕ)) (given : Option Files) : Type 0 where
+  pub asked : command_of words ≡ Some command
   pub known : IsSome given
   pub files : List (List ℕ)
-  pub are : AreFiles given (names_of Compile words) files
-  pub within : TaskHolds (file_at files 0) (file_at files 1) IsWithin
+  pub are : AreFiles given (names_of command words) files
+  pub of : Of files
+
+-- the words ask to compile, and the files say a task of which nothing is refused, whatever image is
+-- made for it
+abbrev pub CanCompile : List (List ℕ) → Option Files → Type 0
+CanCompile = IsAskedOf Compile (λ (files : List (List ℕ)). TaskHolds (file_at files 0) (file_at files 1) IsWithin)
+
+-- the same for two memories
+abbrev pub CanDual : List (List ℕ) → Option Files → Type 0
+CanDual =
+    IsAskedOf Dual
+    (λ (files : List (List ℕ)). DualHolds (file_at files 0) (file_at files 1) (file_at files 2) IsDualWithin)
 
 -- what is written on `Done`. Of `compile`: an image that is right code for the program on the
 -- netlist. Of `extract`: what the instruction words of the netlist do, each with its least word. Of
@@ -337,7 +382,8 @@ pub record CanCompile (words : List (List ℕ)) (given : Option Files) : Type 0 
 -- Of `asm`: the image of the least words of the lines. Of `dis`: a line for each word of the image,
 -- of which it is one of the words, and what is assembled of the text clocks as the image does. Of
 -- `test`: the report of a right self-test of the netlist. Of `explain`: what covers the program's
--- jobs, and what in them no form makes
+-- jobs, and what in them no form makes. Of `dual`: an image that is right code for the program on the
+-- netlist of two memories, with the variables of the part in the bank
 abbrev pub IsText : Command → List (List ℕ) → List ℕ → Type 0
 IsText Compile files = IsCompiled (file_at files 0) (file_at files 1)
 IsText Extract files = IsExtracted (file_at files 0)
@@ -348,6 +394,7 @@ IsText Asm files = IsAssembled (file_at files 0) (file_at files 1)
 IsText Dis files = IsShownText (file_at files 0) (file_at files 1)
 IsText Test files = IsTested (file_at files 0)
 IsText Explain files = IsExplained (file_at files 0) (file_at files 1)
+IsText Dual files = IsDualCompiled (file_at files 0) (file_at files 1) (file_at files 2)
 
 -- the bytes that were taken are the text of the command for the files of these names
 pub record HasText (command : Command) (names : List (List ℕ)) (known : Files) (old new : List ℕ) : Type 0 where

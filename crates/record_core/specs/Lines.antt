@@ -7,7 +7,7 @@ use Rattle.net_explain.specs.Lines.{end_line}
 use Rattle.record_core.specs.NetLines.{net_line, name_place, name_from}
 use Rattle.record_core.specs.SrcLines.{src_line}
 use Rattle.record_core.specs.declared.status.Status.{Status}
-use Rattle.record_core.specs.declared.status.Status.TheVariants.{Done, Usage, ReadFault, TooLong, WriteFault, NetText, Net, SrcText, Src, NoStep, NoJump, NoCover, DataFull, NoReach, ImageFull, Memory, ImageText, MemText, Clash, AsmText, AsmWord, TestLimit}
+use Rattle.record_core.specs.declared.status.Status.TheVariants.{Done, Usage, ReadFault, TooLong, WriteFault, NetText, Net, SrcText, Src, NoStep, NoJump, NoCover, DataFull, NoReach, ImageFull, Memory, ImageText, MemText, Clash, AsmText, AsmWord, TestLimit, PartText}
 
 -- the word that names this file
 abbrev pub name_of_file : List (List ℕ) → ℕ → List ℕ
@@ -42,6 +42,7 @@ status_line words name (AsmText at) = concat (codes "error asm text " ∷ decima
 status_line words name (AsmWord line) = concat (codes "error asm word " ∷ decimal line ∷ codes "\n" ∷ [])
 status_line words name (TestLimit count bound) =
     concat (codes "error test limit " ∷ decimal count ∷ codes " " ∷ decimal bound ∷ codes "\n" ∷ [])
+status_line words name (PartText at) = concat (codes "error part text " ∷ decimal at ∷ codes "\n" ∷ [])
 
 -- where the name stands that a line tells: the item's of a broken rule, or that of the bus which
 -- clashes

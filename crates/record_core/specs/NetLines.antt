@@ -8,7 +8,7 @@ use Rattle.net_model.specs.declared.fault.NetFault.TheVariants.{Duplicate, Unkno
 use Rattle.net_model.specs.declared.fault.NetKind.{NetKind}
 use Rattle.net_model.specs.declared.fault.NetKind.TheVariants.{Nets, Registers, Cells, Words, File as FileCells}
 use Rattle.net_model.specs.declared.fault.Role.{Role}
-use Rattle.net_model.specs.declared.fault.Role.TheVariants.{Code, Memory, Pc, Size, Addr, File, Mode}
+use Rattle.net_model.specs.declared.fault.Role.TheVariants.{Code, Memory, Pc, Size, Addr, File, Mode, Bank}
 
 abbrev pub role_text : Role → List ℕ
 role_text Code = codes "code"
@@ -18,6 +18,7 @@ role_text Size = codes "size"
 role_text Addr = codes "addr"
 role_text File = codes "file"
 role_text Mode = codes "mode"
+role_text Bank = codes "bank"
 
 abbrev pub net_kind_text : NetKind → List ℕ
 net_kind_text Nets = codes "nets"

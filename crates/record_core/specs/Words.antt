@@ -6,7 +6,7 @@ use Rattle.std.specs.Option.{option_map_or}
 use Rattle.std.specs.Str.{bytes_eq}
 use Rattle.text_lines.specs.Fields.{number_of}
 use Rattle.record_core.specs.declared.words.Command.{Command}
-use Rattle.record_core.specs.declared.words.Command.TheVariants.{Compile, Extract, Run, Go, Make, Asm, Dis, Test, Explain}
+use Rattle.record_core.specs.declared.words.Command.TheVariants.{Compile, Extract, Run, Go, Make, Asm, Dis, Test, Explain, Dual}
 
 -- the words as texts
 abbrev pub texts_of : List (String Global) → List (List ℕ)
@@ -51,6 +51,7 @@ command_of (word ∷ other ∷ []) =
     else (if bytes_eq word (codes "test") then Some Test
     else (if bytes_eq word (codes "make") then option_map Make (job_number other) else None))
 command_of (word ∷ net ∷ other ∷ []) = pair_command word
+command_of (word ∷ net ∷ other ∷ part ∷ []) = if bytes_eq word (codes "dual") then Some Dual else None
 command_of (word ∷ net ∷ other ∷ memory ∷ clocks ∷ []) =
     if bytes_eq word (codes "run") then option_map Run (clocks_of clocks)
     else (if bytes_eq word (codes "go") then option_map Go (clocks_of clocks) else None)
@@ -72,6 +73,7 @@ file_count Asm = 2
 file_count Dis = 2
 file_count Test = 1
 file_count Explain = 2
+file_count Dual = 3
 
 -- how many files the words ask for
 abbrev pub files_asked : List (List ℕ) → ℕ

@@ -9,6 +9,7 @@ ghost use Rattle.record_core.specs.declared.status.Status.{Status};
 
 use crate::asm::{assembled_text, shown_text};
 use crate::compile::compile_text;
+use crate::dual::dual_text;
 use crate::explain::explained_text;
 use crate::extract::extract_text;
 use crate::go::go;
@@ -106,6 +107,10 @@ pub fn put_command<S: Sink>(
         }
         Command::Explain => {
             let text = explained_text(alloc, file(files, 0), file(files, 1))?;
+            Ok(put(out, &text))
+        }
+        Command::Dual => {
+            let text = dual_text(alloc, file(files, 0), file(files, 1), file(files, 2))?;
             Ok(put(out, &text))
         }
     }

@@ -32,6 +32,7 @@ fn role_name(role: Role) -> &'static str
         Role::Addr => "addr",
         Role::File => "file",
         Role::Mode => "mode",
+        Role::Bank => "bank",
     }
 }
 
@@ -232,5 +233,6 @@ pub fn fault_line(
         Status::TestLimit { count, bound } => {
             format!(in alloc; "error test limit {count} {bound}\n")
         }
+        Status::PartText(at) => format!(in alloc; "error part text {at}\n"),
     }
 }

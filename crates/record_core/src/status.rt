@@ -2,6 +2,7 @@
 ghost use Rattle.std.specs.Prelude.{◌≡◌};
 ghost use Rattle.record_core.specs.declared.status.Status.{Status};
 
+use dual_code::DualFault;
 use net_asm::{AsmFault, DisFault};
 use net_compile::CompileFault;
 use net_front::NetRefusal;
@@ -62,6 +63,9 @@ pub enum Status {
     /// The self-test would take `count` evaluations: its faults times its words times the nets. They
     /// may be `bound`.
     TestLimit { count: u64, bound: u64 },
+    /// The third file tells no part of the program's variables; the offset of the first line that
+    /// isn't a declared name or repeats one.
+    PartText(u64),
 }
 
 impl Status {
@@ -88,6 +92,7 @@ impl Status {
             Status::AsmText(_) => 16,
             Status::AsmWord(_) => 17,
             Status::TestLimit { .. } => 18,
+            Status::PartText(_) => 19,
         }
     }
 }
@@ -135,6 +140,20 @@ impl From<CompileFault> for Status {
             CompileFault::NoReach { bound, reach } => Status::NoReach { bound, reach },
             CompileFault::ImageFull { len, size, bound } => Status::ImageFull { len, size, bound },
             CompileFault::Memory => Status::Memory,
+        }
+    }
+}
+
+impl From<DualFault> for Status {
+    ghost from_gives = { λ fault status. status ≡ dual_status fault };
+
+    ghost use Rattle.std.specs.Prelude.{◌≡◌};
+    ghost use Rattle.record_core.specs.Inner.Statuses.{dual_status};
+
+    fn from(fault: DualFault) -> Status {
+        match fault {
+            DualFault::PartText(at) => Status::PartText(at),
+            DualFault::Compile(fault) => Status::from(fault),
         }
     }
 }

@@ -33,6 +33,9 @@ pub enum Command {
     Test,
     /// `explain NET SRC`: what each job of a program is covered by, or why it isn't.
     Explain,
+    /// `dual NET SRC PART`: the image text of a program for a netlist with a bank, in which the
+    /// variables of a part stand.
+    Dual,
 }
 
 impl Command {
@@ -47,7 +50,7 @@ impl Command {
         match self {
             Command::Compile | Command::Asm | Command::Dis | Command::Explain => 2,
             Command::Extract | Command::Test => 1,
-            Command::Run(_) | Command::Go(_) => 3,
+            Command::Run(_) | Command::Go(_) | Command::Dual => 3,
             Command::Make(_) => 0,
         }
     }
@@ -110,6 +113,19 @@ fn pair_command(word: &str) -> Option<Command>
     }
 }
 
+// The command of four words, if they have the form of one.
+fn triple_command(words: &[String]) -> Option<Command>
+    requires { length words.now ≡ 4 }
+    ensures command { result ≡ command_of (texts_of words.now) }
+    ensures named { IfSome result (λ command. file_count command < 4) }
+    ensures fits { IfSome result CommandFits }
+{
+    if words[0].as_str() == "dual" {
+        return Some(Command::Dual);
+    }
+    None
+}
+
 // The command of five words, if they have the form of one.
 fn long_command(words: &[String]) -> Option<Command>
     requires { length words.now ≡ 5 }
@@ -141,6 +157,9 @@ pub fn command_of(words: &[String]) -> Option<Command>
     }
     if words.len() == 3 {
         return pair_command(words[0].as_str());
+    }
+    if words.len() == 4 {
+        return triple_command(words);
     }
     if words.len() == 5 {
         return long_command(words);

@@ -16,8 +16,8 @@ netlist = record {
   nets = [];
   storages =
       Register (codes "PC") 2 0 None
-      ∷ Memory (record { name = codes "M"; width = 4; size = 2; addr_width = 1; value = 0; addr = 0; when = None })
-      ∷ File (record { name = codes "R"; width = 4; size = 3; addr_width = 2; value = 0; addr = 0; when = None })
+      ∷ Memory (record { name = codes "M"; name_at = 0; width = 4; size = 2; addr_width = 1; value = 0; addr = 0; when = None })
+      ∷ File (record { name = codes "R"; name_at = 0; width = 4; size = 3; addr_width = 2; value = 0; addr = 0; when = None })
       ∷ [];
   codes = record { name = codes "I"; bits = 5; words = 4; counter = 0 } ∷ [];
   edition = 2;

@@ -1,10 +1,10 @@
 -- The memory of a netlist that has one, and the measures of cells.
-use Rattle.std.specs.Prelude.{◌≡◌, List, [], ◌∷◌, Option, Some, None}
+use Rattle.std.specs.Prelude.{◌≡◌, ◌≤◌, ◌+◌, ◌^◌, List, [], ◌∷◌, Option, Some, None}
 use Rattle.net_model.specs.declared.hardware.Storage.{Storage}
 use Rattle.net_model.specs.declared.hardware.Storage.TheVariants.{Register, Memory, File}
 use Rattle.net_model.specs.declared.hardware.Cells.{Cells}
 use Rattle.net_model.specs.Nets.{memory_size, memory_width}
-use Rattle.net_model.specs.CheckedRules.{memory_count, memory_addr_width}
+use Rattle.net_model.specs.CheckedRules.{IsAddressed, memory_count, memory_addr_width}
 use Rattle.net_check.specs.declared.role.Shape.{Shape}
 
 -- the measures of a memory or a file
@@ -18,6 +18,21 @@ lone_from met (Register name width input when ∷ storages) = lone_from met stor
 lone_from met (File cells ∷ storages) = lone_from met storages
 lone_from None (Memory cells ∷ storages) = lone_from (Some (shape_of cells)) storages
 lone_from (Some shape) (Memory cells ∷ storages) = None
+
+-- cells of both are as wide, and named by as many bits
+abbrev pub AreAlike : Shape → Shape → Type 0
+AreAlike bank memory = (bank.width ≡ memory.width) × (bank.addr_width ≡ memory.addr_width)
+
+-- a cell has room for an address of one bit more, and for a sign
+abbrev pub HasRoom : Shape → Type 0
+HasRoom memory = (memory.addr_width ≤ 15) × (memory.addr_width + 2 ≤ memory.width)
+
+-- a bank of these measures may stand beside a memory of those
+pub record IsShapedBeside (bank memory : Shape) : Type 0 where
+  pub alike : AreAlike bank memory
+  pub room : HasRoom memory
+  pub size : IsAddressed bank.size memory.addr_width
+  pub full : memory.size ≡ 2 ^ memory.addr_width
 
 -- the measures of the first memory
 pub record IsShape (storages : List Storage) (shape : Shape) : Type 0 where

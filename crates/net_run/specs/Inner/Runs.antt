@@ -5,7 +5,7 @@ use Rattle.net_model.specs.declared.states.State.{State}
 use Rattle.net_model.specs.Clock.{run, Reached, Clashed}
 use Rattle.net_model.specs.NetFaults.{name_at}
 use Rattle.net_parser.specs.Texts.{IsNoNetText}
-use Rattle.net_front.specs.Fronts.{BreaksRule}
+use Rattle.net_front.specs.Taken.{BreaksTaken}
 use Rattle.net_front.specs.declared.front.NetRefusal.{NetRefusal}
 use Rattle.net_front.specs.declared.front.NetRefusal.TheVariants.{Text as NoNet, Fault as Breaks, Memory as NetMemory}
 use Rattle.rec_bits.specs.declared.fault.ParseFault.{ParseFault}
@@ -14,6 +14,7 @@ use Rattle.code_model.specs.ImageFits.{limits_of}
 use Rattle.code_model.specs.ImageLines.{IsLineFault}
 use Rattle.net_model.specs.MemoryText.{IsMemoryFault}
 use Rattle.state_text.specs.Shown.{state_text}
+use Rattle.net_run.specs.Runs.{run_edition}
 use Rattle.net_run.specs.declared.machine.RunFault.{RunFault}
 use Rattle.net_run.specs.declared.machine.RunFault.TheVariants.{NetText, Net, ImageText, MemText, Clash, Memory}
 
@@ -36,7 +37,7 @@ memory_fault ParseMemory = Memory
 -- why the netlist's bytes were not taken
 abbrev pub IsNetFault : List ℕ → RunFault → Type 0
 IsNetFault net (NetText at) = IsNoNetText net at
-IsNetFault net (Net fault) = BreaksRule net fault
+IsNetFault net (Net fault) = BreaksTaken run_edition net fault
 IsNetFault net Memory = Unit {0}
 IsNetFault net _ = ⊥
 

@@ -4,6 +4,8 @@ use Rattle.net_front.specs.declared.front.NetRefusal.{NetRefusal}
 use Rattle.net_front.specs.declared.front.NetRefusal.TheVariants.{Text as NoNet, Fault as BrokenNet, Memory as NetMemory}
 use Rattle.net_compile.specs.declared.fault.CompileFault.{CompileFault}
 use Rattle.net_compile.specs.declared.fault.CompileFault.TheVariants.{NetText as CompileNetText, Net as CompileNet, SrcText as CompileSrcText, Src as CompileSrc, DataFull as NoRoom, NoStep as Stepless, NoJump as Jumpless, NoCover as Uncovered, NoReach as Beyond, ImageFull as Overlong, Memory as CompileMemory}
+use Rattle.dual_code.specs.declared.fault.DualFault.{DualFault}
+use Rattle.dual_code.specs.declared.fault.DualFault.TheVariants.{PartText as NoPart, Compile as NoCode}
 use Rattle.net_asm.specs.declared.fault.AsmFault.{AsmFault}
 use Rattle.net_asm.specs.declared.fault.AsmFault.TheVariants as assembling
 use Rattle.net_asm.specs.declared.fault.DisFault.{DisFault}
@@ -15,7 +17,7 @@ use Rattle.net_run.specs.declared.machine.RunFault.TheVariants.{NetText as RunNe
 use Rattle.rec_bits.specs.declared.fault.ParseFault.{ParseFault}
 use Rattle.rec_bits.specs.declared.fault.ParseFault.TheVariants.{Text as NoState, Memory as NoStateMemory}
 use Rattle.record_core.specs.declared.status.Status.{Status}
-use Rattle.record_core.specs.declared.status.Status.TheVariants.{NetText, Net, SrcText, Src, NoStep, NoJump, NoCover, DataFull, NoReach, ImageFull, Memory, ImageText, MemText, Clash, AsmText, AsmWord, TestLimit}
+use Rattle.record_core.specs.declared.status.Status.TheVariants.{NetText, Net, SrcText, Src, NoStep, NoJump, NoCover, DataFull, NoReach, ImageFull, Memory, ImageText, MemText, Clash, AsmText, AsmWord, TestLimit, PartText}
 use Rattle.record_core.specs.declared.stop.Stop.{Stop}
 
 -- of the compiler
@@ -31,6 +33,11 @@ compile_status (Uncovered tree) = NoCover tree
 compile_status (Beyond bound reach) = NoReach bound reach
 compile_status (Overlong len size bound) = ImageFull len size bound
 compile_status CompileMemory = Memory
+
+-- of that for two memories
+abbrev pub dual_status : DualFault → Status
+dual_status (NoPart at) = PartText at
+dual_status (NoCode fault) = compile_status fault
 
 -- of the reading of a memory text
 abbrev pub memory_status : ParseFault → Status

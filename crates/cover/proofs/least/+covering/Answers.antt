@@ -13,7 +13,7 @@ use Rattle.cover.specs.Inner.Least.{IsLeast, IsLeastOrder, IsLeastAfter, IsLeast
 use Rattle.cover.specs.Inner.Jobs.{instance_stock, nodes_of, open_operand, open_operands, open_cuts, OperandsAt, CutsAt, AreParts}
 use Rattle.cover.proofs.SizeLemmas.{size_pos}
 use Rattle.cover.proofs.NodeLemmas.{input_get, inputs_remove}
-use Rattle.cover.proofs.InputLemmas.{inputs_at, inputs_without, length_inputs, no_inputs, inputs_split, inputs_later, size-remove, no_stored, stored_split, stored_first, stored_later, tail_is, home_entry, cut_slot, home_least, rank_le, rank_free}
+use Rattle.cover.proofs.InputLemmas.{inputs_at, inputs_without, length_inputs, no_inputs, inputs_split, inputs_later, lone_input, size-remove, no_stored, stored_split, stored_first, stored_later, tail_is, home_entry, cut_slot, home_least, rank_le, rank_free}
 use Rattle.cover.specs.declared.rows.Offer.TheVariants.{Nothing, Chains}
 use Rattle.cover.specs.declared.matches.Matches.{Matches}
 use Rattle.cover.specs.Inner.Rows.{row_ask, IsTried, IsClosed, IsLeastRow, IsOffer}
@@ -166,24 +166,75 @@ cost_below-returns-then-is_as_dear-clause-least t c = inr (
     cuts = c.in_ok-b.b;
     floor = c.in_ok-floor.ensures.floor;
     cut = c.in_ok-b.ensures.least;
-    dear = λ n h. OnTrue_at c.if-is_as_dear.true c.is_as_dear.ensures n (subst (λ o. AtMost o n) (sym c.form_cost.ensures) h);
+    dear = λ n h. OnTrue_at c.if-is_as_dear.true c.is_as_dear.ensures n (subst (λ o. AtMost o n) (sym c.form_cost-lowest.ensures) h);
   },
 )
 
 pub cost_below-returns-clause-least : goal.cost_below-returns-clause-least
-cost_below-returns-clause-least t c = inl (record { operands = c.in_ok-a.a; cuts = c.in_ok-b.b; order = c.in_ok-a.ensures.least; cut = c.in_ok-b.ensures.least; sum = c.form_cost-2.ensures })
+cost_below-returns-clause-least t c = inl (record { operands = c.in_ok-a.a; cuts = c.in_ok-b.b; order = c.in_ok-a.ensures.least; cut = c.in_ok-b.ensures.least; sum = c.form_cost.ensures })
+
+pub cost_below-form_cost-lowest-requires : goal.cost_below-form_cost-lowest-requires
+cost_below-form_cost-lowest-requires t c =
+    parts_held c.args.instance.now (open_operands c.args.operands.now) (open_cuts c.args.cuts.now) c.in_ok-floor.floor c.in_ok-b.b c.requires.right.few c.requires.few c.in_ok-floor.ensures.few c.in_ok-b.ensures.least
 
 pub cost_below-form_cost-requires : goal.cost_below-form_cost-requires
 cost_below-form_cost-requires t c =
-    parts_held c.args.instance.now (open_operands c.args.operands.now) (open_cuts c.args.cuts.now) c.in_ok-floor.floor c.in_ok-b.b c.requires.right.few c.requires.few c.in_ok-floor.ensures.few c.in_ok-b.ensures.least
-
-pub cost_below-form_cost-requires-2 : goal.cost_below-form_cost-requires-2
-cost_below-form_cost-requires-2 t c =
     parts_held c.args.instance.now (open_operands c.args.operands.now) (open_cuts c.args.cuts.now) c.in_ok-a.a c.in_ok-b.b c.requires.right.few c.requires.few
     (order_few (instance_stock c.args.instance.now) c.args.instance.now.low c.args.limits (open_operands c.args.operands.now) c.in_ok-a.a (opened_low c.args.operands.now) c.in_ok-a.ensures.least) c.in_ok-b.ensures.least
 
+pub cost_below-returns-then-operands-lt2-clause-least : goal.cost_below-returns-then-operands-lt2-clause-least
+cost_below-returns-then-operands-lt2-clause-least t c =
+    let few : length c.args.operands.now < 2 = search rules in
+    inl (record { operands = c.in_ok-floor.floor; cuts = c.in_ok-b.b; order = c.in_ok-floor.ensures.lone few; cut = c.in_ok-b.ensures.least; sum = c.form_cost-lowest.ensures })
+
 pub floor_of-returns-then-is_empty-clause-floor : goal.floor_of-returns-then-is_empty-clause-floor
 floor_of-returns-then-is_empty-clause-floor t c = floor_none (instance_stock c.args.instance.now) c.args.limits (open_operands c.args.ops.now)
+
+pub floor_of-returns-then-is_empty-clause-lone : goal.floor_of-returns-then-is_empty-clause-lone
+floor_of-returns-then-is_empty-clause-lone t c = λ few. order_none _ _ _ (let n : length c.args.ops.now ≡ 0 = search rules in no_inputs c.args.ops.now n)
+
+pub floor_of-operand_cost-requires : goal.floor_of-operand_cost-requires
+floor_of-operand_cost-requires t c =
+    let some : 0 < length c.args.ops.now = search rules in
+    let got = slice_get_read _ _ _ _ refl some c.index-ops-0.is in
+    let e = inputs_split c.args.ops.now c.index-ops-0.result got in
+    (omega (arith, ap operands_size e, c.decreases, rank_le c.args.instance.now.file c.args.limits), (input_get _ _ 0 _ c.requires.at got, c.requires.right))
+
+pub floor_of-returns-in_default-clause-floor : goal.floor_of-returns-in_default-clause-floor
+floor_of-returns-in_default-clause-floor t c =
+    let some : 0 < length c.args.ops.now = search rules in
+    let got = slice_get_read _ _ _ _ refl some c.index-ops-0.is in
+    let e = inputs_split c.args.ops.now c.index-ops-0.result got in
+    let first = (subst (λ o. IsLeast (instance_stock c.args.instance.now) c.args.limits (operand_ask (open_operand c.index-ops-0.result)) o) c.in_default.is c.in_ok-m.ensures.least) in
+    let none = floor_more (instance_stock c.args.instance.now) c.args.limits (open_operand c.index-ops-0.result) (open_operands (drop 1 c.args.ops.now)) None (Some 0) first (floor_none (instance_stock c.args.instance.now) c.args.limits (open_operands (drop 1 c.args.ops.now))) in
+    subst (λ xs. IsFloor (instance_stock c.args.instance.now) c.args.limits xs None) (sym e) none
+
+pub floor_of-returns-in_default-clause-lone : goal.floor_of-returns-in_default-clause-lone
+floor_of-returns-in_default-clause-lone t c = λ few.
+    let some : 0 < length c.args.ops.now = search rules in
+    let got = slice_get_read _ _ _ _ refl some c.index-ops-0.is in
+    let first = (subst (λ o. IsLeast (instance_stock c.args.instance.now) c.args.limits (operand_ask (open_operand c.index-ops-0.result)) o) c.in_default.is c.in_ok-m.ensures.least) in
+    subst (λ xs. IsLeastOrder (instance_stock c.args.instance.now) c.args.limits xs None) (sym (lone_input c.args.ops.now c.index-ops-0.result got few))
+    (order_one (instance_stock c.args.instance.now) c.args.limits (open_operand c.index-ops-0.result) None first)
+
+pub floor_of-returns-then-ops-eq1-clause-lone : goal.floor_of-returns-then-ops-eq1-clause-lone
+floor_of-returns-then-ops-eq1-clause-lone t c = λ few.
+    let some : 0 < length c.args.ops.now = search rules in
+    let got = slice_get_read _ _ _ _ refl some c.index-ops-0.is in
+    let first = (subst (λ o. IsLeast (instance_stock c.args.instance.now) c.args.limits (operand_ask (open_operand c.index-ops-0.result)) o) c.in-Some.is c.in_ok-m.ensures.least) in
+    subst (λ xs. IsLeastOrder (instance_stock c.args.instance.now) c.args.limits xs (Some c.in-Some.m)) (sym (lone_input c.args.ops.now c.index-ops-0.result got few))
+    (order_one (instance_stock c.args.instance.now) c.args.limits (open_operand c.index-ops-0.result) (Some c.in-Some.m) first)
+
+pub floor_of-returns-then-ops-eq1-clause-floor : goal.floor_of-returns-then-ops-eq1-clause-floor
+floor_of-returns-then-ops-eq1-clause-floor t c =
+    let one : length c.args.ops.now ≡ 1 = search rules in
+    (floor_of-returns-then-ops-eq1-clause-lone t c (omega (arith, one))).least
+
+pub floor_of-returns-then-ops-eq1-clause-few : goal.floor_of-returns-then-ops-eq1-clause-few
+floor_of-returns-then-ops-eq1-clause-few t c =
+    let one : length c.args.ops.now ≡ 1 = search rules in
+    order_few (instance_stock c.args.instance.now) c.args.instance.now.low c.args.limits (open_operands c.args.ops.now) (Some c.in-Some.m) (opened_low c.args.ops.now)
+    (floor_of-returns-then-ops-eq1-clause-lone t c (omega (arith, one)))
 
 pub floor_of-floor_of-requires : goal.floor_of-floor_of-requires
 floor_of-floor_of-requires t c =
@@ -197,29 +248,30 @@ floor_of-returns-clause-floor t c =
     let some : 0 < length c.args.ops.now = search rules in
     let got = slice_get_read _ _ _ _ refl some c.index-ops-0.is in
     let e = inputs_split c.args.ops.now c.index-ops-0.result got in
-    let parts = floor_more (instance_stock c.args.instance.now) c.args.limits (open_operand c.index-ops-0.result) (open_operands (drop 1 c.args.ops.now)) c.in_ok-m.m c.in_ok-n.n c.in_ok-m.ensures.least (subst (λ l. IsFloor (instance_stock c.args.instance.now) c.args.limits (open_operands l) c.in_ok-n.n) (tail_is c.args.ops.now) c.in_ok-n.ensures.floor) in
-    subst (λ x. IsFloor (instance_stock c.args.instance.now) c.args.limits (open_operands c.args.ops.now) x) (sym c.sum_of.ensures) (subst (λ xs. IsFloor (instance_stock c.args.instance.now) c.args.limits xs (summed c.in_ok-m.m c.in_ok-n.n)) (sym e) parts)
+    let first = (subst (λ o. IsLeast (instance_stock c.args.instance.now) c.args.limits (operand_ask (open_operand c.index-ops-0.result)) o) c.in-Some.is c.in_ok-m.ensures.least) in
+    let parts = floor_more (instance_stock c.args.instance.now) c.args.limits (open_operand c.index-ops-0.result) (open_operands (drop 1 c.args.ops.now)) (Some c.in-Some.m) c.in_ok-n.n first (subst (λ l. IsFloor (instance_stock c.args.instance.now) c.args.limits (open_operands l) c.in_ok-n.n) (tail_is c.args.ops.now) c.in_ok-n.ensures.floor) in
+    subst (λ x. IsFloor (instance_stock c.args.instance.now) c.args.limits (open_operands c.args.ops.now) x) (sym c.sum_of.ensures) (subst (λ xs. IsFloor (instance_stock c.args.instance.now) c.args.limits xs (summed (Some c.in-Some.m) c.in_ok-n.n)) (sym e) parts)
+
+pub floor_of-returns-clause-lone : goal.floor_of-returns-clause-lone
+floor_of-returns-clause-lone t c = λ few.
+    let some : 0 < length c.args.ops.now = search rules in
+    absurd (omega (arith, some, few, c.if-ops-eq1.false))
 
 pub floor_of-sum_of-requires : goal.floor_of-sum_of-requires
 floor_of-sum_of-requires t c =
     let some : 0 < length c.args.ops.now = search rules in
     let got = slice_get_read _ _ _ _ refl some c.index-ops-0.is in
-    let few = floor_few c.args.instance.now c.args.limits c.args.ops.now c.index-ops-0.result c.in_ok-m.m c.in_ok-n.n got c.in_ok-m.ensures.least (subst (λ l. NoMore c.in_ok-n.n (36 * operands_size (open_operands l))) (tail_is c.args.ops.now) c.in_ok-n.ensures.few) in
-    size_held (summed c.in_ok-m.m c.in_ok-n.n) _ _ few c.requires.at.1 c.requires.right.few
+    let first = (subst (λ o. IsLeast (instance_stock c.args.instance.now) c.args.limits (operand_ask (open_operand c.index-ops-0.result)) o) c.in-Some.is c.in_ok-m.ensures.least) in
+    let few = floor_few c.args.instance.now c.args.limits c.args.ops.now c.index-ops-0.result (Some c.in-Some.m) c.in_ok-n.n got first (subst (λ l. NoMore c.in_ok-n.n (36 * operands_size (open_operands l))) (tail_is c.args.ops.now) c.in_ok-n.ensures.few) in
+    size_held (summed (Some c.in-Some.m) c.in_ok-n.n) _ _ few c.requires.at.1 c.requires.right.few
 
 pub floor_of-returns-clause-few : goal.floor_of-returns-clause-few
 floor_of-returns-clause-few t c =
     let some : 0 < length c.args.ops.now = search rules in
     let got = slice_get_read _ _ _ _ refl some c.index-ops-0.is in
-    let few = floor_few c.args.instance.now c.args.limits c.args.ops.now c.index-ops-0.result c.in_ok-m.m c.in_ok-n.n got c.in_ok-m.ensures.least (subst (λ l. NoMore c.in_ok-n.n (36 * operands_size (open_operands l))) (tail_is c.args.ops.now) c.in_ok-n.ensures.few) in
+    let first = (subst (λ o. IsLeast (instance_stock c.args.instance.now) c.args.limits (operand_ask (open_operand c.index-ops-0.result)) o) c.in-Some.is c.in_ok-m.ensures.least) in
+    let few = floor_few c.args.instance.now c.args.limits c.args.ops.now c.index-ops-0.result (Some c.in-Some.m) c.in_ok-n.n got first (subst (λ l. NoMore c.in_ok-n.n (36 * operands_size (open_operands l))) (tail_is c.args.ops.now) c.in_ok-n.ensures.few) in
     subst (λ o. NoMore o (36 * operands_size (open_operands c.args.ops.now))) (sym c.sum_of.ensures) few
-
-pub floor_of-operand_cost-requires : goal.floor_of-operand_cost-requires
-floor_of-operand_cost-requires t c =
-    let some : 0 < length c.args.ops.now = search rules in
-    let got = slice_get_read _ _ _ _ refl some c.index-ops-0.is in
-    let e = inputs_split c.args.ops.now c.index-ops-0.result got in
-    (omega (arith, ap operands_size e, c.decreases, rank_le c.args.instance.now.file c.args.limits), (input_get _ _ 0 _ c.requires.at got, c.requires.right))
 
 pub orders-returns-then-is_empty-clause-least : goal.orders-returns-then-is_empty-clause-least
 orders-returns-then-is_empty-clause-least t c = order_none _ _ _ (let n : length c.args.ops.now ≡ 0 = search rules in no_inputs c.args.ops.now n)

@@ -94,6 +94,25 @@ returns-then-not-has_mode c =
       λ h. cc (c.if-not-has_mode.true, c.has_mode.ensures.1 h),
     )
 
+pub returns-then-not-has_bank : goal.returns-then-not-has_bank
+returns-then-not-has_bank c =
+    let s = (goal.at.returns-then-not-has_bank c).In-Some in
+    let memory : IsShape c.args.netlist.now.storages c.in-Some.memory = shape _ c.requires _ (one_at s) (code_at s) _ (lone_at s) in (
+      one_at s,
+      memory.one,
+      counter_there _ c.requires _ (one_at s) (code_at s) _ (lone_at s) _ c.in-Some-counter_bits.ensures,
+      sizes_of _ c.requires _ (one_at s) (code_at s) _ (lone_at s) _ c.in-Some-counter_bits.ensures (c.are_reached.ensures.0 c.if-not-are_reached.false),
+      omega (arith, memory.width, memory.addr_width, c.if-memory.false),
+      c.has_file.ensures.0 c.if-not-has_file.false,
+      c.has_mode.ensures.0 c.if-not-has_mode.false,
+      λ h. cc (c.if-not-has_bank.true, c.has_bank.ensures.1 h),
+    )
+
+pub has_bank-requires-clause-memory : goal.has_bank-requires-clause-memory
+has_bank-requires-clause-memory c =
+    let s = (goal.at.has_bank-requires-clause-memory c).In-Some in
+    shape _ c.requires _ (one_at s) (code_at s) _ (lone_at s)
+
 pub returns : goal.returns
 returns c =
     let s = (goal.at.returns c).In-Some in
@@ -107,4 +126,5 @@ returns c =
       address = omega (arith, memory.width, memory.addr_width, c.if-memory.false);
       file = c.has_file.ensures.0 c.if-not-has_file.false;
       mode = c.has_mode.ensures.0 c.if-not-has_mode.false;
+      bank = c.has_bank.ensures.0 c.if-not-has_bank.false;
     }

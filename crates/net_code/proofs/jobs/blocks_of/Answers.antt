@@ -1,7 +1,9 @@
 use Rattle.std.proofs.Common.{ℕ, List, ◌≤◌, ◌^◌, ◌∙◌, ap, subst, sym, arith}
+use Rattle.net_model.specs.declared.hardware.Space.TheVariants.{Memory as InMemory}
 use Rattle.net_model.specs.declared.hardware.Storage.{Storage}
 use Rattle.net_model.specs.CheckedRules.{memory_addr_width}
 use Rattle.net_model.specs.Nets.{memory_size, memory_width}
+use Rattle.net_model.proofs.Memories.{few_sizes}
 use Rattle.src_model.specs.Rules.{temp_count}
 use Rattle.src_model.specs.Written.{listing_of}
 use Rattle.code_model.specs.declared.image.Places.{Places}
@@ -9,7 +11,7 @@ use Rattle.code_model.specs.Layout.{need_of}
 use Rattle.src_trees.specs.Held.{HoldsVars, LieWithin}
 use Rattle.src_trees.proofs.Cells.{row_held, row_room}
 use Rattle.right_code.proofs.Chosen.{in_reach}
-use Rattle.net_code.proofs.Memories.{few_of, first_storages}
+use Rattle.net_code.proofs.Memories.{first_storages}
 use Rattle.net_code.proofs.jobs.blocks_of.Goals as goal
 
 pub lower-requires-clause-held : goal.lower-requires-clause-held
@@ -32,6 +34,6 @@ lower-requires-clause-few c =
     let base = c.first.result.now in
     let stored = first_storages c.args.modes.now.netlist base.netlist c.first.ensures.base in
     let room : need_of typed.width listing ≤ memory_size c.args.modes.now.netlist.storages = c.requires.room in
-    let few : memory_size c.args.modes.now.netlist.storages ≤ 65536 = subst (λ (list : List Storage). memory_size list ≤ 65536) stored (few_of base.netlist base.order c.addr_width-width.ensures.rules) in
+    let few : memory_size c.args.modes.now.netlist.storages ≤ 65536 = subst (λ (list : List Storage). memory_size list ≤ 65536) stored (few_sizes base.netlist base.order c.addr_width-width.ensures.rules InMemory) in
     subst (λ (places : Places). LieWithin places.temps (2 ^ 32) places.list) (sym c.requires.places)
     (row_room (temp_count typed.width listing) (2 ^ 32) listing.vars (omega (arith, room, few)))

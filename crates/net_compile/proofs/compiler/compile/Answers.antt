@@ -6,7 +6,7 @@ use Rattle.net_compile.proofs.compiler.compile.Goals as goal
 pub text-requires-clause-rules : goal.text-requires-clause-rules
 text-requires-clause-rules c =
     let modes = c.in_ok-compiled.compiled.modes in
-    modes_keep modes.netlist modes.bases c.in_ok-compiled.ensures.compiled.net_file.netlist.rules
+    modes_keep modes.netlist modes.bases c.in_ok-compiled.ensures.compiled.net_file.routed.netlist.rules
 
 pub text-requires-clause-fits : goal.text-requires-clause-fits
 text-requires-clause-fits c = c.in_ok-compiled.ensures.compiled.image.fits

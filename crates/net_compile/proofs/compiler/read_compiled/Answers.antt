@@ -14,7 +14,7 @@ use Rattle.net_compile.proofs.compiler.read_compiled.Goals as goal
 pub image_for-requires-clause-rules : goal.image_for-requires-clause-rules
 image_for-requires-clause-rules c =
     let modes = c.in_ok-modes.modes in
-    modes_keep modes.netlist modes.bases c.in_ok-modes.ensures.found.netlist.rules
+    modes_keep modes.netlist modes.bases c.in_ok-modes.ensures.found.routed.netlist.rules
 
 pub image_for-requires-clause-isas : goal.image_for-requires-clause-isas
 image_for-requires-clause-isas c = c.in_ok-modes.ensures.isas

@@ -13,4 +13,4 @@ returns-clause-exact c =
 
 pub returns-clause-formed : goal.returns-clause-formed
 returns-clause-formed c =
-    answer_formed c.args.units.now.edition (map entry_of c.args.units.now.items) (map entry_of c.in_ok-text.text) c.requires.keeps (ap (map entry_of) (c.in_ok-text.ensures ∙ c.new.ensures)) _ c.emit_items.ensures
+    answer_formed c.args.units.now.edition (map entry_of c.args.units.now.items) (map entry_of c.in_ok-text.text) c.requires.keeps c.requires.few (ap (map entry_of) (c.in_ok-text.ensures ∙ c.new.ensures)) _ c.emit_items.ensures

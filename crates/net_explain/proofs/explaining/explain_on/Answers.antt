@@ -9,7 +9,7 @@ use Rattle.net_model.specs.Nets.{memory_width}
 use Rattle.net_code.proofs.Memories.{first_storages}
 use Rattle.net_compile.proofs.TaskLemmas.{fault_of_code, fault_of_program, holds_of_read}
 use Rattle.net_explain.specs.Explained.{IsExplainedTask}
-use Rattle.net_explain.proofs.Alone.{taken_file}
+use Rattle.net_explain.proofs.Alone.{taken_file, taken_modes}
 use Rattle.net_explain.proofs.Early.{of_program, of_task}
 use Rattle.net_explain.proofs.explaining.explain_on.Goals as goal
 
@@ -34,7 +34,7 @@ returns-clause-explained c = λ net read.
     let wide = c.in_ok-typed.ensures.width ∙ c.memory_width.ensures.width
     ∙ ap memory_width (first_storages modes.netlist c.first.result.now.netlist c.first.ensures.base) in
     let file = subst (λ (n : ℕ). IsSrcFile src n (listing_of typed.program)) (sym c.in_ok-typed.ensures.width) c.in_ok-typed.ensures.found in
-    IfOk-weaker c.task_text-text.result _ _ (λ text is. (taken_file net modes read, holds_of_read net src modes typed read.routed wide file (IsExplainedTask src text.items) is)) c.task_text-text.ensures.explained
+    IfOk-weaker c.task_text-text.result _ _ (λ text is. (taken_file net modes read, holds_of_read net src modes typed (taken_modes net modes read) wide file (IsExplainedTask src text.items) is)) c.task_text-text.ensures.explained
 
 pub returns-clause-refused : goal.returns-clause-refused
 returns-clause-refused c = λ net read.
@@ -45,7 +45,7 @@ returns-clause-refused c = λ net read.
     ∙ ap memory_width (first_storages modes.netlist c.first.result.now.netlist c.first.ensures.base) in
     let file = subst (λ (n : ℕ). IsSrcFile src n (listing_of typed.program)) (sym c.in_ok-typed.ensures.width) c.in_ok-typed.ensures.found in
     IfErr-weaker c.task_text-text.result _ _
-    (λ fault h. of_task net src (taken_file net modes read) (read_task modes typed) fault (fault_of_code net src modes typed read.routed wide file fault) h) c.task_text-text.ensures.refused
+    (λ fault h. of_task net src (taken_file net modes read) (read_task modes typed) fault (fault_of_code net src modes typed (taken_modes net modes read) wide file fault) h) c.task_text-text.ensures.refused
 
 pub returns-in_err-typed-clause-refused : goal.returns-in_err-typed-clause-refused
 returns-in_err-typed-clause-refused c = λ net read.
@@ -55,7 +55,7 @@ returns-in_err-typed-clause-refused c = λ net read.
     let wide = c.memory_width.ensures.width ∙ ap memory_width (first_storages modes.netlist c.first.result.now.netlist c.first.ensures.base) in
     rw (p.1, p.2)
     (of_program net c.args.src.now (taken_file net modes read) _ _ refused
-    (fault_of_program net c.args.src.now modes _ read.routed wide _ refused))
+    (fault_of_program net c.args.src.now modes _ (taken_modes net modes read) wide _ refused))
 
 pub returns-in_err-typed-clause-explained : goal.returns-in_err-typed-clause-explained
 returns-in_err-typed-clause-explained c = λ net read. IfOk-from_err c.from_residual.result _ c.from_residual.ensures.0

@@ -1,13 +1,14 @@
 use Rattle.std.proofs.Common.{rules}
 use Rattle.net_model.specs.Written.{text_of}
 use Rattle.net_extract.proofs.Extracting.{patterns_of_text}
-use Rattle.net_extract.proofs.RoutedTaken.{of_routes, of_taken, taken_net}
+use Rattle.net_front.specs.Taken.{IsLater, added_role}
+use Rattle.net_extract.proofs.RoutedTaken.{of_checked_routes, of_front, taken_net}
 use Rattle.net_extract.proofs.taken.read_extracted_taken.Goals as goal
 
 pub returns-clause-netlist : goal.returns-clause-netlist
 returns-clause-netlist c =
-    taken_net c.args.newest c.args.bytes.now (text_of c.in_ok-checked.field-0-0) c.in_ok-checked.ensures.found
-    c.in_ok-checked.checked c.in_ok-checked.ensures.netlist c.in_ok-extracted.ensures.kept c.in_ok-checked.ensures.taken c.requires.alone
+    taken_net c.args.newest c.args.bytes.now (text_of c.in_ok-checked.field-0-0) c.in_ok-checked.ensures.found c.in_ok-checked.ensures.taken c.requires.alone
+    c.in_ok-checked.checked c.in_ok-checked.ensures.netlist c.in_ok-extracted.ensures.kept
 
 pub returns-clause-patterns : goal.returns-clause-patterns
 returns-clause-patterns c =
@@ -16,11 +17,11 @@ returns-clause-patterns c =
 
 pub returns-in_err-checked-clause-refused : goal.returns-in_err-checked-clause-refused
 returns-in_err-checked-clause-refused c =
-    let refused = of_taken c.args.newest c.args.bytes.now c.in_err-checked.field-0.0 c.in_err-checked.ensures.refused in
+    let refused = of_front (IsLater c.args.newest) added_role c.args.bytes.now c.in_err-checked.field-0.0 c.in_err-checked.ensures.refused in
     search rules
 
 pub returns-in_err-extracted-clause-refused : goal.returns-in_err-extracted-clause-refused
 returns-in_err-extracted-clause-refused c =
-    let refused = of_routes c.args.newest c.args.bytes.now (text_of c.in_ok-checked.field-0-0) c.in_ok-checked.ensures.found c.in_ok-checked.ensures.taken c.requires.alone
+    let refused = of_checked_routes c.args.newest c.args.bytes.now (text_of c.in_ok-checked.field-0-0) c.in_ok-checked.ensures.found c.in_ok-checked.ensures.taken c.requires.alone
     c.in_ok-checked.checked c.in_ok-checked.ensures.netlist c.in_err-extracted.field-0.0 c.in_err-extracted.ensures.refused in
     search rules

@@ -1,7 +1,11 @@
 use Rattle.std.proofs.Common.{rules}
 use Rattle.net_model.specs.Written.{text_of}
-use Rattle.net_front.proofs.FrontLaws.{rule_refusal}
+use Rattle.net_front.proofs.FrontLaws.{checked_of, rule_refusal}
 use Rattle.net_front.proofs.taken.checked.Goals as goal
+
+pub returns-clause-found : goal.returns-clause-found
+returns-clause-found c =
+    checked_of (text_of c.args.units.now) c.in_ok-netlist.netlist c.in_ok-checked.checked c.requires.alone c.in_ok-netlist.ensures.found c.in_ok-checked.ensures.found
 
 pub returns-in_err-checked-clause-refused : goal.returns-in_err-checked-clause-refused
 returns-in_err-checked-clause-refused c =

@@ -9,7 +9,7 @@ use Rattle.net_make.proofs.making.make.Goals as goal
 pub summarize-requires-clause-rules : goal.summarize-requires-clause-rules
 summarize-requires-clause-rules c =
     let modes = c.in_ok-made.made.modes in
-    modes_keep modes.netlist modes.bases c.in_ok-made.ensures.compiled.net_file.netlist.rules
+    modes_keep modes.netlist modes.bases c.in_ok-made.ensures.compiled.net_file.routed.netlist.rules
 
 pub summarize-requires-clause-image : goal.summarize-requires-clause-image
 summarize-requires-clause-image c = c.in_ok-made.ensures.compiled.image

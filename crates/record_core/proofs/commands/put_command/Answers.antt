@@ -54,6 +54,11 @@ returns-in_err-text-in-Explain-clause-refused g c = λ line.
     let p = err_from_is_err_and c.from_residual-in_err-text-in-Explain.result c.from_residual-in_err-text-in-Explain.ensures.1 in
     rw (p.1, p.2, c.in-Explain.is) (rw (c.file-in-Explain.ensures, c.file-in-Explain-2.ensures) at (c.in_err-text-in-Explain.ensures.refused (line None)))
 
+pub returns-in_err-text-in-Dual-clause-refused : goal.returns-in_err-text-in-Dual-clause-refused
+returns-in_err-text-in-Dual-clause-refused g c = λ line.
+    let p = err_from_is_err_and c.from_residual-in_err-text-in-Dual.result c.from_residual-in_err-text-in-Dual.ensures.1 in
+    rw (p.1, p.2, c.in-Dual.is) (rw (c.file-in-Dual.ensures, c.file-in-Dual-2.ensures, c.file-in-Dual-3.ensures) at (c.in_err-text-in-Dual.ensures.refused (line None)))
+
 pub returns-in_ok-text-in-Compile-clause-done : goal.returns-in_ok-text-in-Compile-clause-done
 returns-in_ok-text-in-Compile-clause-done g c = λ line. record {
   text = c.in_ok-text-in-Compile.text.items;
@@ -117,4 +122,11 @@ returns-in_ok-text-in-Explain-clause-done g c = λ line. record {
   text = c.in_ok-text-in-Explain.text.items;
   answers = rw c.in-Explain.is (rw (c.file-in-Explain.ensures, c.file-in-Explain-2.ensures) at (c.in_ok-text-in-Explain.ensures.ok (line None)));
   puts = rw c.deref-in-Explain.ensures.value at c.put-in-Explain.ensures;
+}
+
+pub returns-in_ok-text-in-Dual-clause-done : goal.returns-in_ok-text-in-Dual-clause-done
+returns-in_ok-text-in-Dual-clause-done g c = λ line. record {
+  text = c.in_ok-text-in-Dual.text.items;
+  answers = rw c.in-Dual.is (rw (c.file-in-Dual.ensures, c.file-in-Dual-2.ensures, c.file-in-Dual-3.ensures) at (c.in_ok-text-in-Dual.ensures.ok (line None)));
+  puts = rw c.deref-in-Dual.ensures.value at c.put-in-Dual.ensures;
 }

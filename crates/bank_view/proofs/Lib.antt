@@ -1,0 +1,15 @@
+pub mod Lists
+pub mod Beside
+pub mod Places
+pub mod Arrays
+pub mod Values
+pub mod Clocks
+pub mod Numbers
+pub mod Starts
+pub mod Kept
+pub mod Clocked
+pub mod Formed
+pub mod Sorted
+pub mod Ranks
+pub mod Flagged
+pub mod Ruled

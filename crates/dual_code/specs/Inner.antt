@@ -1,0 +1,4 @@
+-- What no public contract cites.
+pub mod Faults
+pub mod Viewed
+pub mod Sizes

@@ -1,0 +1,5 @@
+pub mod RightDual
+pub mod Tasks
+pub mod Code
+pub mod Compiled
+pub mod Inner

@@ -1,0 +1,25 @@
+use Rattle.std.proofs.Common.{refl}
+use Rattle.std.proofs.lemmas.Result.{err_from_is_err_and}
+use Rattle.grammar.proofs.Steps.{return_reads}
+use Rattle.grammar.proofs.Passing.{there_return, there_bind, beyond_reads, beyond_fails, short_of, on, stuck, starts_inner}
+use Rattle.grammar.proofs.Tokens.{begun, ends}
+use Rattle.net_parser.specs.Inner.Steps.{expr_word}
+use Rattle.net_model.specs.Written.{when_of, phrase_of}
+use Rattle.net_parser.proofs.ItemParts.{there_fed}
+use Rattle.grammar.proofs.Kept.{kept_reads, kept_fails}
+use Rattle.net_parser.proofs.item.stored.Goals as goal
+
+pub returns-in_err-value : goal.returns-in_err-value
+returns-in_err-value c =
+    let p = err_from_is_err_and c.from_residual.result c.from_residual.ensures.1 in
+    rw (p.1, p.2) (short_of (ends expr_word (λ a. starts_inner (starts_inner begun)) refl) (λ x. there_bind there_fed (λ y. there_return)) c.in_err-value.ensures)
+
+pub returns-in_err-value-2 : goal.returns-in_err-value-2
+returns-in_err-value-2 c =
+    let p = err_from_is_err_and c.from_residual-in_err-value-2.result c.from_residual-in_err-value-2.ensures.1 in
+    rw (p.1, p.2) (beyond_fails (ends expr_word (λ a. starts_inner (starts_inner begun)) refl) c.in_ok-value.ensures (stuck (λ x. there_return) (kept_fails (λ x. ((phrase_of x.0.0, when_of x.0.1), x.1.now)) c.fed.ensures c.in_err-value-2.ensures.stopped)))
+
+pub returns : goal.returns
+returns c =
+    let fed = kept_reads (λ x. ((phrase_of x.0.0, when_of x.0.1), x.1.now)) c.fed.ensures c.in_ok-value-2.ensures.read.1 in
+    rw c.in_ok-value-2.ensures.read.0 (beyond_reads (ends expr_word (λ a. starts_inner (starts_inner begun)) refl) c.in_ok-value.ensures (on fed return_reads))
