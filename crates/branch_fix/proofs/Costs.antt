@@ -1,5 +1,5 @@
 -- The bound of a program's words is one of its blocks' words.
-use Rattle.std.proofs.Common.{ℕ, zero, suc, ◌≡◌, ◌≤◌, ◌+◌, Bool, true, false, if◌then◌else◌, List, [], ◌∷◌, ◌++◌, length, refl, sym, ◌∙◌, ap, arith, slice_index}
+use Rattle.std.proofs.Common.{ℕ, zero, suc, ◌≡◌, ◌≤◌, ◌+◌, Bool, true, false, if◌then◌else◌, List, [], ◌∷◌, ◌++◌, length, refl, sym, ◌∙◌, ap, subst, arith, slice_index}
 use Rattle.src_model.specs.declared.program.Cmp.{Cmp}
 use Rattle.src_model.specs.declared.program.Cmp.TheVariants.{Ne}
 use Rattle.src_model.specs.Written.{Act, assign, choice, while, count, Acts, no_acts, act, Otherwise, without, otherwise, Listing, acts_of}
@@ -9,8 +9,10 @@ use Rattle.form_model.specs.declared.flow.Flow.TheVariants.{Assign, Test, Jump, 
 use Rattle.src_trees.specs.Lowered.{holds_at_one}
 use Rattle.src_trees.specs.Flows.{places_for, places_in, else_entry, asked, flow_of, flow_in, flow_else, program_flow}
 use Rattle.src_trees.specs.Blocks.{continues}
+use Rattle.src_trees.specs.Turned.{Turns, turned_flow}
 use Rattle.branch_fix.specs.Bounds.{control_of, control_in, control_else, program_bound, sum_of, control_words, bound_of}
 use Rattle.branch_fix.specs.Costs.{joined, block_costs, SizesWithin}
+use Rattle.branch_fix.proofs.TurnedFlows.{turned_control, turned_costs}
 
 -- the costs of all trees of a flow
 abbrev flow_cost : List ℕ → List Flow → ℕ
@@ -219,3 +221,16 @@ program_words l costs =
     let p = control_append (flow_in (acts_of l.body) 0 0) (End ∷ []) in
     let t = acts_control (acts_of l.body) 0 0 in
     omega (arith, p, t)
+
+-- ---- flows some tests of which are turned
+
+pub turned_words : (l : Listing) (turned : Turns) (costs : List ℕ) → bound_of (turned_flow turned (program_flow l)) costs ≡ program_bound l costs
+turned_words l turned costs = ap (λ n. sum_of costs + n) (turned_control turned (program_flow l)) ∙ program_words l costs
+
+pub turned_bound : (l : Listing) (turned : Turns) (costs sizes : List ℕ) → length costs ≡ statements_in (acts_of l.body)
+    → SizesWithin sizes (block_costs (turned_flow turned (program_flow l)) costs (turned_flow turned (program_flow l)) 0)
+    → sum_of sizes + control_words (turned_flow turned (program_flow l)) ≤ bound_of (turned_flow turned (program_flow l)) costs
+turned_bound l turned costs sizes e h =
+    let same = turned_control turned (program_flow l) in
+    let own = bound_is l costs sizes e (subst (SizesWithin sizes) (turned_costs turned (program_flow l) costs (program_flow l) 0) h) in
+    omega (arith, same, own)

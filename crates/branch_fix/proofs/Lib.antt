@@ -10,6 +10,7 @@ pub mod Distances
 pub mod Rounds
 pub mod Words
 pub mod Layouts
+pub mod TurnedFlows
 pub mod LaidRight
 pub mod Settings
 pub mod Costs

@@ -20,6 +20,7 @@ ghost use Rattle.src_trees.specs.Flows.{program_flow};
 ghost use Rattle.src_trees.specs.Held.{HasCellRoom, HoldsVars};
 ghost use Rattle.src_trees.specs.Lowered.{MemoryMap, Work};
 ghost use Rattle.src_trees.specs.Meant.{DoProgram};
+ghost use Rattle.src_trees.specs.Turned.{Turns, TurnsTests, told_works, turned_flow};
 ghost use Rattle.branch_fix.specs.declared.part.Fork.{Fork};
 ghost use Rattle.branch_fix.specs.declared.part.Part.{Part};
 ghost use Rattle.branch_fix.specs.declared.part.Part.TheVariants.{Test};
@@ -31,14 +32,25 @@ ghost use Rattle.branch_fix.specs.Costs.{block_costs, SizesWithin};
 ghost use Rattle.branch_fix.specs.Made.{IsMade};
 
 /// An image whose words stand for the parts of a program's flow, by jobs that do what its statements
-/// say, and whose marks are the parts', traces the program, and stands in mode 0 at each mark.
+/// say, and whose marks are the parts', traces the program, and stands in mode 0 at each mark. So
+/// does one of a flow some tests of which are turned, by jobs that do so once they are turned back.
 pub fn law_of_layouts()
-    ensures { (netlist : Netlist) (image : Image)
+    ensures own { (netlist : Netlist) (image : Image)
         (m : MemoryMap) (temps : ℕ) (l : Listing) (jobs : List Work) (rules : List Rule) (parts : List Part) →
         first_fault m.word l ≡ None → memory_width netlist.storages ≡ m.word →
         HoldsVars temps l.vars m → HasCellRoom temps m (memory_size netlist.storages) →
         image.places ≡ m.places → DoProgram m temps l jobs →
         IsMade netlist image temps rules (program_flow l) jobs parts →
+        length (words_of image) ≡ total parts →
+        TracesRight netlist image (strace m.word l) }
+    ensures turned { (netlist : Netlist) (image : Image)
+        (m : MemoryMap) (temps : ℕ) (l : Listing) (turned : Turns) (jobs : List Work) (rules : List Rule)
+        (parts : List Part) →
+        first_fault m.word l ≡ None → memory_width netlist.storages ≡ m.word →
+        HoldsVars temps l.vars m → HasCellRoom temps m (memory_size netlist.storages) →
+        image.places ≡ m.places → TurnsTests turned (program_flow l) →
+        DoProgram m temps l (told_works turned jobs) →
+        IsMade netlist image temps rules (turned_flow turned (program_flow l)) jobs parts →
         length (words_of image) ≡ total parts →
         TracesRight netlist image (strace m.word l) }
 {}
@@ -61,13 +73,20 @@ pub fn law_of_parts()
 {}
 
 /// The bound of a program's flow is the program's own, and blocks that have no more words than they
-/// cost keep to it.
+/// cost keep to it; so it is where some tests are turned.
 pub fn law_of_bounds()
     ensures program { (l : Listing) (costs : List ℕ) → bound_of (program_flow l) costs ≡ program_bound l costs }
     ensures blocks { (l : Listing) (costs sizes : List ℕ) →
         length costs ≡ statements_in (acts_of l.body) →
         SizesWithin sizes (block_costs (program_flow l) costs (program_flow l) 0) →
         sum_of sizes + control_words (program_flow l) ≤ bound_of (program_flow l) costs }
+    ensures turned { (l : Listing) (turned : Turns) (costs : List ℕ) →
+        bound_of (turned_flow turned (program_flow l)) costs ≡ program_bound l costs }
+    ensures turned_blocks { (l : Listing) (turned : Turns) (costs sizes : List ℕ) →
+        length costs ≡ statements_in (acts_of l.body) →
+        SizesWithin sizes (block_costs (turned_flow turned (program_flow l)) costs (turned_flow turned (program_flow l)) 0) →
+        sum_of sizes + control_words (turned_flow turned (program_flow l))
+        ≤ bound_of (turned_flow turned (program_flow l)) costs }
 {}
 
 /// The bits that a jump or branch word has for its target lead to it from every state, where the

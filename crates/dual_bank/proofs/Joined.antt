@@ -231,7 +231,7 @@ module _ (k : ℕ) (cells : List ℕ) where
     below = r.below;
   }
 
-  first_same : (trees : List Term) → AllIndexesLie k cells trees → job_value cells (map (banked_tree k) trees) ≡ job_value cells trees
+  pub first_same : (trees : List Term) → AllIndexesLie k cells trees → job_value cells (map (banked_tree k) trees) ≡ job_value cells trees
   first_same [] h = refl
   first_same (t ∷ trees) h = tree_same t h.0
 

@@ -16,7 +16,7 @@ use Rattle.src_model.specs.Meaning.{cells_in, operand_width}
 use Rattle.src_model.specs.Names.{declared}
 use Rattle.src_model.specs.Rules.{temp_count}
 use Rattle.code_model.specs.declared.image.Place.{Place as VariablePlace}
-use Rattle.src_trees.specs.Held.{HasCellRoom, HoldsVars}
+use Rattle.src_trees.specs.Held.{HasCellRoom, HoldsCells, HoldsVars}
 use Rattle.src_trees.specs.Lowered.{MemoryMap, Work, base_of, computed_address, element_address, element_destination, assigned_destination, assign_work, compared_trees, test_work, start_work, step_work, tree_of}
 use Rattle.src_trees.specs.Meant.{Does, DoProgram, KeepsMeaning}
 use Rattle.src_trees.specs.Seen.{seen_store, tree_value, CanAssign, CanTest}
@@ -25,7 +25,7 @@ use Rattle.src_trees.proofs.Meant.{addressed, meant, tree_width}
 use Rattle.dual_bank.specs.Banked.{AddressLies, AllIndexesLie, DestinationIndexesLie, IndexesLie, WorkIndexesLie, banked_work, banked_works, joined_memory}
 use Rattle.dual_bank.specs.Layouts.{FitsBanks, bank_layout}
 use Rattle.dual_bank.proofs.Held.{AreInOne, IsInOne, bank_held, bank_in_one, cell_in_one, twice, var_in_one}
-use Rattle.dual_bank.proofs.Joined.{all_same, done_same, work_lies}
+use Rattle.dual_bank.proofs.Joined.{all_same, done_same, first_same, work_lies}
 
 -- the trees of a comparison, either way round
 compared_lie : (k : ℕ) (cells : List ℕ) (cmp : Cmp) (w : ℕ) (x y : Term) → IndexesLie k cells x → IndexesLie k cells y → AllIndexesLie k cells (compared_trees cmp w x y)
@@ -137,11 +137,12 @@ module _ (word k : ℕ) (places : List VariablePlace) (temps : ℕ) (vars : List
       destination = tt;
     }
 
-  does : (Can : List ℕ → Type 0) (change : List ℕ → List ℕ) (work : Work) → ((cells : List ℕ) → HasCellRoom temps memory (length cells) → Can (seen_store memory cells) → WorkIndexesLie k cells work) → Does memory temps Can change work
+  does : (Can : List ℕ → Type 0) (change : List ℕ → List ℕ) (work : Work) → ((cells : List ℕ) → HoldsCells temps memory cells → Can (seen_store memory cells) → WorkIndexesLie k cells work) → Does memory temps Can change work
       → Does memory temps Can change (banked_work k work)
   does Can change work indexes own = record {
-    lies = λ cells room h. work_lies k cells temps work (indexes cells room h) (own.lies cells room h);
-    store = λ cells room h. ap (seen_store memory) (done_same k cells work (indexes cells room h)) ∙ own.store cells room h;
+    lies = λ cells c h. work_lies k cells temps work (indexes cells c h) (own.lies cells c h);
+    store = λ cells c h. ap (seen_store memory) (done_same k cells work (indexes cells c h)) ∙ own.store cells c h;
+    fits = λ cells c h. subst (λ v. v < 2 ^ word) (sym (first_same k cells work.trees (indexes cells c h).trees)) (own.fits cells c h);
   }
 
   -- jobs that are made from a program's do what its statements say
@@ -149,13 +150,13 @@ module _ (word k : ℕ) (places : List VariablePlace) (temps : ℕ) (vars : List
   banked_meaning =
       let own = own_meaning memory temps vars held in
       record {
-        assigns = λ place e. does _ _ (assign_work memory place e) (λ cells room h. assign_lies cells room place e h) (own.assigns place e);
+        assigns = λ place e. does _ _ (assign_work memory place e) (λ cells c h. assign_lies cells c.room place e h.0) (own.assigns place e);
         tests = λ test. record {
-          lies = λ cells room h. work_lies k cells temps (test_work memory test) (test_lies cells room test h) ((own.tests test).lies cells room h);
-          value = λ cells room h. all_same k cells _ (test_work memory test).trees (test_lies cells room test h).trees ((own.tests test).value cells room h);
+          lies = λ cells c h. work_lies k cells temps (test_work memory test) (test_lies cells c.room test h) ((own.tests test).lies cells c h);
+          value = λ cells c h. all_same k cells _ (test_work memory test).trees (test_lies cells c.room test h).trees ((own.tests test).value cells c h);
         };
-        starts = λ counter from. does _ _ (start_work memory counter from) (λ cells room h. record { trees = (tt, tt); destination = tt }) (own.starts counter from);
-        steps = λ counter. does _ _ (step_work memory counter) (λ cells room h. record { trees = (((tt, tt), tt), tt); destination = tt }) (own.steps counter);
+        starts = λ counter from. does _ _ (start_work memory counter from) (λ cells c h. record { trees = (tt, tt); destination = tt }) (own.starts counter from);
+        steps = λ counter. does _ _ (step_work memory counter) (λ cells c h. record { trees = (((tt, tt), tt), tt); destination = tt }) (own.steps counter);
       }
 
 pub banked_does : (word k bank : ℕ) (in_bank : List Bool) (l : Listing) → FitsBanks word k bank in_bank l

@@ -14,8 +14,8 @@ use Rattle.src_model.specs.Rules.{first_fault}
 use Rattle.src_model.specs.Written.{listing_of}
 use Rattle.code_model.specs.declared.image.Places.{Places}
 use Rattle.form_model.specs.declared.flow.Blocks.{Blocks}
+use Rattle.src_trees.specs.Flows.{program_flow}
 use Rattle.src_trees.specs.Jobs.{works_of}
-use Rattle.src_trees.specs.Lowered.{Work}
 use Rattle.right_code.specs.Tasks.{IsChecked, Task}
 use Rattle.net_code.specs.Tasks.{coded_task}
 use Rattle.bank_view.specs.Banks.{addr_bits, bank_port, memory_port, others, port_of}
@@ -109,17 +109,19 @@ seen_checked view typed in_bank sizes fits kept modes words = record {
 
 pub seen_is_coded : (view : Netlist) (typed : Typed) (in_bank : List Bool) (places : Places) (blocks : Blocks)
     → places ≡ bank_layout typed.width (view_bits view) in_bank (listing_of typed.program)
+    → blocks.flow ≡ program_flow (listing_of typed.program)
     → works_of blocks.jobs.items ≡ banked_works (view_bits view) (joined_memory typed.width (view_bits view) places.list) (listing_of typed.program)
     → seen_task view typed in_bank ≡ coded_task view typed places.list blocks
-seen_is_coded view typed in_bank places blocks p w =
+seen_is_coded view typed in_bank places blocks p f w =
     ap (λ (x : Places). record {
       netlist = view;
       width = typed.width;
       listing = listing_of typed.program;
       places = x.list;
+      flow = program_flow (listing_of typed.program);
       works = banked_works (view_bits view) (joined_memory typed.width (view_bits view) x.list) (listing_of typed.program);
     }) (sym p)
-    ∙ ap (λ (works : List Work). record { netlist = view; width = typed.width; listing = listing_of typed.program; places = places.list; works = works }) (sym w)
+    ∙ (λ i. record { netlist = view; width = typed.width; listing = listing_of typed.program; places = places.list; flow = sym f i; works = sym w i })
 
 pub dual_is_seen : (n : Netlist) (moded : Moded) → IsSeen n moded → (typed : Typed) (in_bank : List Bool) → dual_task (task_of n typed in_bank) ≡ seen_task moded.netlist typed in_bank
 dual_is_seen n moded seen typed in_bank =

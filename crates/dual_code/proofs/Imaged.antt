@@ -18,11 +18,15 @@ use Rattle.code_model.specs.declared.image.Places.{Places}
 use Rattle.code_model.specs.declared.limits.Limits.{Limits}
 use Rattle.code_model.specs.ImageFits.{IsFitting, PlaceFits, limits_of}
 use Rattle.code_model.specs.ImageLines.{IsImageText}
+use Rattle.code_model.specs.Places.{words_of}
 use Rattle.code_model.specs.Right.{TracesRight}
 use Rattle.binding.specs.declared.fault.BindFault.{BindFault}
 use Rattle.form_model.specs.declared.flow.Blocks.{Blocks}
+use Rattle.form_model.specs.declared.flow.Flow.{Flow}
+use Rattle.src_trees.specs.Flows.{program_flow}
 use Rattle.src_trees.specs.Held.{HoldsVars, LieWithin, StandFor}
 use Rattle.src_trees.specs.Jobs.{works_of}
+use Rattle.branch_fix.specs.Marked.{AreMarked}
 use Rattle.bank_view.specs.Banks.{bank_port}
 use Rattle.bank_view.specs.Views.{view_of}
 use Rattle.bank_view.proofs.Ruled.{view_kept}
@@ -98,15 +102,15 @@ module _ (moded : Moded) (typed : Typed) (in_bank : List Bool) (seen : HasSeen m
         (places_named (temp_count typed.width (listing_of typed.program)) (2 ^ view_bits moded.netlist + view_bank moded.netlist)
         (bank_layout typed.width (view_bits moded.netlist) in_bank (listing_of typed.program)).list typed.program.vars few_cells named held.stand room.within)
 
-    module _ (blocks : Blocks) (jobs : works_of blocks.jobs.items ≡ banked_works (view_bits moded.netlist) (joined_memory typed.width (view_bits moded.netlist) places.list) (listing_of typed.program)) where
+    module _ (blocks : Blocks) (flow : blocks.flow ≡ program_flow (listing_of typed.program)) (jobs : works_of blocks.jobs.items ≡ banked_works (view_bits moded.netlist) (joined_memory typed.width (view_bits moded.netlist) places.list) (listing_of typed.program)) where
       pub coded_checked : first_fault typed.width (listing_of typed.program) ≡ None → IsChecked (coded_task moded.netlist typed places.list blocks)
       coded_checked kept =
-          subst IsChecked (seen_is_coded moded.netlist typed in_bank places blocks placed jobs)
+          subst IsChecked (seen_is_coded moded.netlist typed in_bank places blocks placed flow jobs)
           (seen_checked moded.netlist typed in_bank (sizes_seen moded seen) fits_banks kept modes_kept (sym width))
 
       module _ (n : Netlist) (is : IsSeen n moded) where
         own_task : dual_task (task_of n typed in_bank) ≡ coded_task moded.netlist typed places.list blocks
-        own_task = dual_is_seen n moded is typed in_bank ∙ seen_is_coded moded.netlist typed in_bank places blocks placed jobs
+        own_task = dual_is_seen n moded is typed in_bank ∙ seen_is_coded moded.netlist typed in_bank places blocks placed flow jobs
 
         both_room : HasBothRoom (task_of n typed in_bank)
         both_room = record {
@@ -131,7 +135,7 @@ module _ (moded : Moded) (typed : Typed) (in_bank : List Bool) (seen : HasSeen m
                 made = subst (λ (task : Task). IsMadeFor task image) (sym own_task) right.made;
                 traces = traces_right n is.is.rest.order (seen_keeps n moded is) kept.order kept.rules.ordered image
                     (words_fit (view_of n) image kept.rules.roles.code view_fits) (strace typed.width (listing_of typed.program)) trace
-                    (some_words (listing_of typed.program) _ image.marks right.made.marked);
+                    (some_words (listing_of typed.program) _ image.marks (subst (λ (list : List Flow). AreMarked list (length (words_of image)) image.marks) flow right.made.marked));
               };
               fits = subst (λ (limits : Limits). IsFitting limits image) view_limits fits;
             }

@@ -1,5 +1,5 @@
 -- The jobs over two memories are jobs of a task whose memory is the joined one.
-use Rattle.std.proofs.Common.{ℕ, ◌≡◌, ◌+◌, ◌^◌, ◌∙◌, ap, sym, subst, Bool, List, [], ◌∷◌, map, None}
+use Rattle.std.proofs.Common.{ℕ, ◌≡◌, ◌+◌, ◌^◌, ◌∙◌, ap, refl, sym, subst, Bool, false, List, [], ◌∷◌, map, None}
 use Rattle.std.specs.Option.{option_map}
 use Rattle.std.proofs.lemmas.List.{length-map}
 use Rattle.std.proofs.lemmas.Option.{slice_get-map}
@@ -18,6 +18,7 @@ use Rattle.src_trees.specs.Lowered.{MemoryMap, Work}
 use Rattle.src_trees.specs.Meant.{DoProgram}
 use Rattle.src_trees.proofs.Measured.{program_small}
 use Rattle.src_trees.proofs.Parts.{works_in_length}
+use Rattle.src_trees.proofs.TurnedTests.{told_nowhere, turned_nowhere}
 use Rattle.dual_bank.specs.Banked.{banked_destination, banked_tree, banked_work, banked_works, joined_memory}
 use Rattle.dual_bank.specs.Layouts.{bank_layout, FitsBanks}
 use Rattle.dual_bank.proofs.Held.{bank_held, bank_room}
@@ -62,6 +63,7 @@ banked_task netlist width k in_bank l = record {
   width = width;
   listing = l;
   places = (bank_layout width k in_bank l).list;
+  flow = program_flow l;
   works = banked_works k (joined_memory width k (bank_layout width k in_bank l).list) l;
 }
 
@@ -77,7 +79,12 @@ banked_jobs netlist width k bank in_bank l fits addr size kept =
       room =
           subst (λ (n : ℕ). HasCellRoom temps (record { word = width; addr = memory_addr_width netlist.storages; places = places }) n) (sym size)
           (subst (λ (n : ℕ). HasCellRoom temps (record { word = width; addr = n; places = places }) (2 ^ k + bank)) (sym addr) (bank_room width k bank in_bank l fits));
-      meant = subst (λ (n : ℕ). DoProgram (record { word = width; addr = n; places = places }) temps l (banked_works k m l)) (sym addr) (banked_does width k bank in_bank l fits);
+      turned = λ tree. false;
+      only = λ at tree e. refl;
+      flow = sym (turned_nowhere (program_flow l));
+      meant =
+          subst (DoProgram (record { word = width; addr = memory_addr_width netlist.storages; places = places }) temps l) (sym (told_nowhere (banked_works k m l)))
+          (subst (λ (n : ℕ). DoProgram (record { word = width; addr = n; places = places }) temps l (banked_works k m l)) (sym addr) (banked_does width k bank in_bank l fits));
       count = length-map (program_works m l) (banked_work k) ∙ works_in_length m (acts_of l.body);
       one = all_one k (program_works m l) (works_one m (acts_of l.body));
       tests = tests_kept k (program_works m l) (program_flow l) (program_tests m l);

@@ -7,6 +7,7 @@ use Rattle.src_model.specs.Written.{Listing}
 use Rattle.code_model.specs.declared.image.Image.{Image}
 use Rattle.code_model.specs.Places.{cells_at}
 use Rattle.code_model.specs.Right.{TracesBy}
+use Rattle.src_trees.specs.Flows.{program_flow}
 use Rattle.bank_view.specs.Banks.{addr_bits, bank_port}
 use Rattle.bank_view.specs.Views.{view_of}
 use Rattle.dual_bank.specs.Banked.{banked_works, joined_memory}
@@ -32,6 +33,7 @@ dual_task task =
       width = task.width;
       listing = task.listing;
       places = places;
+      flow = program_flow task.listing;
       works = banked_works k (joined_memory task.width k places) task.listing;
     }
 

@@ -28,7 +28,6 @@ use Rattle.form_set.specs.Listing.{greatest_reach}
 use Rattle.mode_set.specs.Costs.{Planned}
 use Rattle.mode_set.specs.Keeping.{IsModeRegister, Isas, IsUsable}
 use Rattle.word_fit.specs.Fits.{FitsTurning}
-use Rattle.src_trees.specs.Flows.{program_flow}
 use Rattle.src_trees.specs.Lowered.{Work}
 use Rattle.src_trees.proofs.LowerLemmas.{in_few}
 use Rattle.branch_fix.specs.Bounds.{bound_of, control_words, program_bound, sum_of}
@@ -37,13 +36,12 @@ use Rattle.branch_fix.specs.Laid.{IsLaid, outline}
 use Rattle.branch_fix.specs.declared.laid.Item.{Item}
 use Rattle.branch_fix.specs.declared.laid.Item.TheVariants.{Group, Jump}
 use Rattle.branch_fix.specs.declared.laid.Laid.{Laid}
-use Rattle.branch_fix.proofs.Costs.{bound_is, program_words}
-use Rattle.branch_fix.proofs.Shapes.{program_is_flow}
 use Rattle.right_code.specs.Bounded.{HasBound}
 use Rattle.right_code.specs.Covered.{AllPlanned, mode_stock, numbered, plan_costs}
 use Rattle.right_code.specs.Tasks.{IsChecked, Task, task_works}
 use Rattle.right_code.proofs.OneBound.{bound_one}
 use Rattle.right_code.proofs.Right.{jump_words_of, right_image}
+use Rattle.right_code.proofs.TaskFlows.{task_bound, task_is_flow, task_words}
 use Rattle.compaction.specs.declared.packer.PackedBlock.{PackedBlock}
 use Rattle.net_code.specs.declared.fault.CodeFault.{CodeFault}
 use Rattle.net_code.specs.declared.fault.CodeFault.TheVariants.{NoStep, NoJump, NoCover, NoReach, ImageFull, Memory}
@@ -102,7 +100,7 @@ module _ (modes : Modes) (program : PlannedProgram) (task : Task) (isas : Isas t
 
   -- the bound is the task's
   pub bound_there : bound_of program.flow.now (costs_in program) ≡ program_bound task.listing (plan_costs (task_works task) (plans_in program))
-  bound_there = (λ j. bound_of (p.flow j) (costs_are j)) ∙ program_words task.listing (plan_costs (task_works task) (plans_in program))
+  bound_there = (λ j. bound_of (p.flow j) (costs_are j)) ∙ task_words task p.checked.jobs (plan_costs (task_works task) (plans_in program))
 
   -- the register that holds the mode is one of the netlist of mode 0, too
   first_register : IsModeRegister task.netlist.special (base_at task.netlist 0)
@@ -119,22 +117,22 @@ module _ (modes : Modes) (program : PlannedProgram) (task : Task) (isas : Isas t
     pub within : sum_of (sizes blocks) + control_words program.flow.now ≤ bound_of program.flow.now (costs_in program)
     within =
         subst (λ f. sum_of (sizes blocks) + control_words f ≤ bound_of f (costs_in program)) (sym p.flow)
-        (subst (λ cs. sum_of (sizes blocks) + control_words (program_flow task.listing) ≤ bound_of (program_flow task.listing) cs) (sym p.costs)
-        (bound_is task.listing (plan_costs (works_in program) (plans_in program)) (sizes blocks) (costs_many ∙ p.checked.jobs.count)
+        (subst (λ cs. sum_of (sizes blocks) + control_words task.flow ≤ bound_of task.flow cs) (sym p.costs)
+        (task_bound task p.checked.jobs (plan_costs (works_in program) (plans_in program)) (sizes blocks) (costs_many ∙ p.checked.jobs.count)
         (subst (λ f. SizesWithin (sizes blocks) (block_costs f (plan_costs (works_in program) (plans_in program)) f 0)) p.flow
         (code_within task isas (works_in program) (plans_in program) (even modes program task isas p) (covered modes program task isas p) (test_mode modes program task isas p)
         program.flow.now blocks branches (tests modes program task isas p) (plan_of_job modes program task isas p) code))))
 
-    code_there : IsBlockCode task isas (program_flow task.listing) (task_works task) (plans_in program) (length (program_flow task.listing)) blocks branches
+    code_there : IsBlockCode task isas task.flow (task_works task) (plans_in program) (length task.flow) blocks branches
     code_there =
-        subst (λ (works : List Work). IsBlockCode task isas (program_flow task.listing) works (plans_in program) (length (program_flow task.listing)) blocks branches) p.works
+        subst (λ (works : List Work). IsBlockCode task isas task.flow works (plans_in program) (length task.flow) blocks branches) p.works
         (subst (λ (flow : List Flow). IsBlockCode task isas flow (works_in program) (plans_in program) (length flow) blocks branches) p.flow code)
 
     module _ (laid : Laid) (forms : Forms) (most bound : ℕ) (first : slice_get modes.forms.now 0 ≡ Some forms) (is : IsLaid (outline program.flow.now (sizes blocks) branches forms most bound) laid) where
       laid_there : IsLaid (task_outline task (isas 0).rules (sizes blocks) branches most bound) laid
       laid_there =
-          subst (λ (list : List Rule). IsLaid (record { flow = program_flow task.listing; sizes = sizes blocks; branches = branches; rules = list; reach = greatest_reach (isas 0).rules; words = most; bound = bound }) laid) (p.modes.forms 0 forms first)
-          (subst (λ far. IsLaid (record { flow = program_flow task.listing; sizes = sizes blocks; branches = branches; rules = rules_of forms.list.items; reach = far; words = most; bound = bound }) laid) (p.modes.reach 0 forms first)
+          subst (λ (list : List Rule). IsLaid (record { flow = task.flow; sizes = sizes blocks; branches = branches; rules = list; reach = greatest_reach (isas 0).rules; words = most; bound = bound }) laid) (p.modes.forms 0 forms first)
+          (subst (λ far. IsLaid (record { flow = task.flow; sizes = sizes blocks; branches = branches; rules = rules_of forms.list.items; reach = far; words = most; bound = bound }) laid) (p.modes.reach 0 forms first)
           (subst (λ (flow : List Flow). IsLaid (record { flow = flow; sizes = sizes blocks; branches = branches; rules = rules_of forms.list.items; reach = forms.reach; words = most; bound = bound }) laid) p.flow is))
 
       items_there : (k : ℕ) (step : Step) → slice_get laid.items k ≡ Some (Jump step)
@@ -146,7 +144,7 @@ module _ (modes : Modes) (program : PlannedProgram) (task : Task) (isas : Isas t
           let w =
           jump_words_of task p.checked isas (plans_in program) p.plans laid_there.parts
           (record { sizes = sizes blocks; settings = branches; settled = laid_there.settled; reached = omega (arith, most_words, reaches, long) })
-          (branches_made task isas (program_flow task.listing) (task_works task) (plans_in program) blocks branches code_there laid_there.parts laid_there.settled)
+          (branches_made task isas task.flow (task_works task) (plans_in program) blocks branches code_there laid_there.parts laid_there.settled)
           k step (ap (λ xs. slice_get xs k) (sym laid_there.items) ∙ e) in
           (w.0, turn_kept (base_at task.netlist 0) (operation_in (base_at task.netlist 0) (isas 0).patterns step) task.netlist.special first_register w.0 w.1)
 
@@ -254,11 +252,11 @@ few_works task checked =
     omega (arith, statements, works)
 
 -- and its flow few places
-pub few_places : (task : Task) → IsChecked task → length (program_flow task.listing) ≤ 2 ^ 32
+pub few_places : (task : Task) → IsChecked task → length task.flow ≤ 2 ^ 32
 few_places task checked =
     let statements = (rules_hold task.width task.listing checked.program).few_statements in
     let places = in_few (acts_of task.listing.body) in
-    let long = (program_is_flow task.listing).long in
+    let long = (task_is_flow task checked.jobs).long in
     omega (arith, statements, places, long)
 
 -- ---- refusals

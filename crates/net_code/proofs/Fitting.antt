@@ -21,6 +21,7 @@ use Rattle.form_model.specs.declared.flow.Flow.{Flow}
 use Rattle.form_model.specs.declared.flow.Flow.TheVariants.{Assign, Test, Jump, End}
 use Rattle.src_trees.specs.Flows.{asked, else_entry, flow_else, flow_in, flow_of, places_in, program_flow}
 use Rattle.src_trees.specs.Lowered.{holds_at_one}
+use Rattle.src_trees.specs.Turned.{Turns, turned_flow}
 use Rattle.net_model.proofs.WordWidths.{has_bits}
 use Rattle.net_model.specs.Nets.{word_width}
 use Rattle.src_model.proofs.Bounds.{few_temps, rules_hold}
@@ -28,7 +29,7 @@ use Rattle.code_model.specs.declared.image.Image.{Image}
 use Rattle.code_model.specs.Places.{words_of}
 use Rattle.net_code.proofs.Packing.{lists_ascend}
 use Rattle.right_code.specs.Images.{IsMadeFor}
-use Rattle.right_code.specs.Tasks.{IsChecked, Task}
+use Rattle.right_code.specs.Tasks.{HasJobs, IsChecked, Task}
 use Rattle.right_code.proofs.Right.{image_fits}
 use Rattle.branch_fix.specs.Marked.{AreMarked, Ascend, labels}
 
@@ -140,13 +141,27 @@ marks_follow n few words short (l ∷ ls) below (m ∷ marks) last from e up bef
       (may_follow last from m before up.0, h.1),
     )
 
+-- a turned test keeps its number
+turned_labels : (turned : Turns) (flow : List Flow) → labels (turned_flow turned flow) ≡ labels flow
+turned_labels turned [] = refl
+turned_labels turned (Assign tree ∷ rest) = turned_labels turned rest
+turned_labels turned (Test tree one none ∷ rest) = by (turned tree) ∙ ap (λ (ls : List (Option ℕ)). Some tree ∷ ls) (turned_labels turned rest)
+  where
+    by : (b : Bool) → labels ((if b then Test tree none one else Test tree one none) ∷ turned_flow turned rest) ≡ Some tree ∷ labels (turned_flow turned rest)
+    by true = refl
+    by false = refl
+turned_labels turned (Jump to ∷ rest) = turned_labels turned rest
+turned_labels turned (End ∷ rest) = ap (λ (ls : List (Option ℕ)). None ∷ ls) (turned_labels turned rest)
+
 program_labels : (l : Listing) → labels (program_flow l) ≡ labels (flow_in (acts_of l.body) 0 0) ++ None ∷ []
 program_labels l = labels_append (flow_in (acts_of l.body) 0 0) (End ∷ [])
 
--- the marks of a program's code fit an image
-pub marks_fit : (l : Listing) (words : ℕ) (marks : List Mark) → statements_in (acts_of l.body) ≤ 65536 → words ≤ 2 ^ 32 → AreMarked (program_flow l) words marks → AllByRecursion MarkFits marks × AreMarksAfter None marks
-marks_fit l words marks few short h =
-    marks_follow 65536 (omega arith) words short (labels (flow_in (acts_of l.body) 0 0)) (acts_below 65536 (acts_of l.body) 0 0 (omega arith)) marks None 0 (h.each ∙ program_labels l) h.apart tt
+-- the marks of a task's code fit an image
+pub marks_fit : (task : Task) → HasJobs task → (words : ℕ) (marks : List Mark) → statements_in (acts_of task.listing.body) ≤ 65536 → words ≤ 2 ^ 32 → AreMarked task.flow words marks → AllByRecursion MarkFits marks × AreMarksAfter None marks
+marks_fit task jobs words marks few short h =
+    let l = task.listing in
+    let own : labels task.flow ≡ labels (program_flow l) = ap labels jobs.flow ∙ turned_labels jobs.turned (program_flow l) in
+    marks_follow 65536 (omega arith) words short (labels (flow_in (acts_of l.body) 0 0)) (acts_below 65536 (acts_of l.body) 0 0 (omega arith)) marks None 0 (h.each ∙ own ∙ program_labels l) h.apart tt
 
 -- ---- words
 
@@ -172,7 +187,7 @@ image_fitting task checked image made room reached places costs =
     let statements : statements_in (acts_of task.listing.body) ≤ 65536 = (rules_hold task.width task.listing checked.program).few_statements in
     let temps = few_temps task.width task.listing checked.program in
     let as_told = made.layout.temps in
-    let marks = marks_fit task.listing (length (words_of image)) image.marks statements (omega (arith, room, small)) made.marked in
+    let marks = marks_fit task checked.jobs (length (words_of image)) image.marks statements (omega (arith, room, small)) made.marked in
     let long : length (words_of image) ≡ length image.words = length-map image.words (λ (w : Word). w.word) in
     let bits : word_width task.netlist ≡ (limits_of task.netlist).bits = limit_bits task.netlist.codes in
     let some : 0 < word_width task.netlist = subst (λ (list : List Code). 0 < code_bits (slice_get list 0)) codes (has_bits (base_at task.netlist 0) first.order first.rules) in

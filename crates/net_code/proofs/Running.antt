@@ -29,7 +29,6 @@ use Rattle.mode_set.specs.Keeping.{Isas, IsUsable}
 use Rattle.mode_set.specs.ModeWords.{IsModeWord}
 use Rattle.mode_set.specs.Plans.{forms_stock, stock_at}
 use Rattle.src_trees.specs.Blocks.{job_at, jobs_at}
-use Rattle.src_trees.specs.Flows.{program_flow}
 use Rattle.src_trees.specs.Lowered.{Work}
 use Rattle.transfer_set.specs.Ready.{IsReady}
 use Rattle.word_fit.specs.Fits.{fits_over}
@@ -105,10 +104,10 @@ module _ (modes : Modes) (program : PlannedProgram) (task : Task) (isas : Isas t
         (run_words_of task p.checked isas (plans_in program) p.plans v at n own_all (with_mode task.netlist.special no_regs) (λ r live. live))
       where
         own_jobs : List Work
-        own_jobs = jobs_at (program_flow task.listing) (task_works task) at n
+        own_jobs = jobs_at task.flow (task_works task) at n
 
         own_plans : List Planned
-        own_plans = plans_at (program_flow task.listing) (plans_in program) at n
+        own_plans = plans_at task.flow (plans_in program) at n
 
         own_all : AllMode v own_plans
         own_all = subst (λ (flow : List Flow). AllMode v (plans_at flow (plans_in program) at n)) p.flow all

@@ -20,7 +20,6 @@ use Rattle.mode_set.specs.Costs.{CoversIn, IsPlanned, Planned}
 use Rattle.mode_set.specs.Keeping.{CanPut, CanUse, Isa, Isas, IsUsable, held}
 use Rattle.mode_set.specs.ModeWords.{IsModeWord}
 use Rattle.mode_set.specs.Plans.{UsableAt, planned_of, stock_at}
-use Rattle.src_trees.specs.Flows.{program_flow}
 use Rattle.src_trees.specs.Jobs.{works_of}
 use Rattle.src_trees.specs.Lowered.{Work}
 use Rattle.right_code.specs.Covered.{AllPlanned, HasCover, IsFirstBare, mode_stock, plan_costs}
@@ -234,7 +233,7 @@ module _ (modes : Modes) (task : Task) (isas : Isas task.netlist) (checked : IsC
   same_stock v at = told_stock modes task isas told temps cells v (can_within task.netlist (λ u. (isas u).all) v ((can v).0 at))
 
   -- what was made of a checked task's jobs is planned for the task
-  pub task_planning : (program : PlannedProgram) (jobs : List Job) (plans : List Plan) → program.temps ≡ temps → program.flow.now ≡ program_flow task.listing → program.jobs.now ≡ jobs → works_of jobs ≡ task_works task
+  pub task_planning : (program : PlannedProgram) (jobs : List Job) (plans : List Plan) → program.temps ≡ temps → program.flow.now ≡ task.flow → program.jobs.now ≡ jobs → works_of jobs ≡ task_works task
       → program.plans.now ≡ plans → AllPlanned (stock_at modes.forms.now temps) (UsableAt usable) (works_of jobs) (map planned_of plans) → told_costs plans ≡ plan_costs (works_of jobs) (map planned_of plans)
       → IsPlanning modes program task isas
   task_planning program jobs plans own_temps flow jobs_are works plans_are planned costs = record {

@@ -11,7 +11,6 @@ use Rattle.form_model.specs.Rules.{Rule}
 use Rattle.form_set.specs.Listing.{greatest_reach}
 use Rattle.mode_set.specs.Costs.{Planned}
 use Rattle.mode_set.specs.Keeping.{IsModeRegister, Isas}
-use Rattle.src_trees.specs.Flows.{program_flow}
 use Rattle.branch_fix.specs.declared.laid.Laid.{Laid}
 use Rattle.branch_fix.specs.Bounds.{program_bound}
 use Rattle.branch_fix.specs.Laid.{IsLaid, Outline}
@@ -28,11 +27,11 @@ use Rattle.net_code.proofs.Making.{blocks_made, tests_made, words_long, words_li
 -- what is laid out for a task with these blocks
 abbrev pub task_outline : Task → List Rule → List ℕ → List (ℕ × ℕ) → ℕ → ℕ → Outline
 task_outline task rules sizes branches words bound =
-    record { flow = program_flow task.listing; sizes = sizes; branches = branches; rules = rules; reach = greatest_reach rules; words = words; bound = bound }
+    record { flow = task.flow; sizes = sizes; branches = branches; rules = rules; reach = greatest_reach rules; words = words; bound = bound }
 
 module _ (task : Task) (isas : Isas task.netlist) (register : IsModeRegister task.netlist.special (base_at task.netlist 0)) (plans : List Planned) (planned : ArePlans task isas plans) where
   module _ (blocks : List PackedBlock) (branches : List (ℕ × ℕ))
-      (code : IsBlockCode task isas (program_flow task.listing) (task_works task) plans (length (program_flow task.listing)) blocks branches)
+      (code : IsBlockCode task isas task.flow (task_works task) plans (length task.flow) blocks branches)
       (laid : Laid) (most bound : ℕ) (is : IsLaid (task_outline task (isas 0).rules (sizes blocks) branches most bound) laid)
       (bound_is : bound ≡ program_bound task.listing (plan_costs (task_works task) plans))
       (image : Image) (items : AreItemWords (base_at task.netlist 0) (isas 0).patterns (regs_of (mode_bits task.netlist.special)) blocks laid.items image.words) where
@@ -59,13 +58,13 @@ module _ (task : Task) (isas : Isas task.netlist) (register : IsModeRegister tas
             settled = is.settled;
             groups = groups_at blocks;
             words = words_at blocks;
-            blocks = blocks_made task isas (program_flow task.listing) (task_works task) plans blocks branches code is.parts is.settled;
-            tests = tests_made task isas (program_flow task.listing) (task_works task) plans blocks branches code is.parts is.settled;
+            blocks = blocks_made task isas task.flow (task_works task) plans blocks branches code is.parts is.settled;
+            tests = tests_made task isas task.flow (task_works task) plans blocks branches code is.parts is.settled;
             stand = subst (StandItems (base_at task.netlist 0) task.netlist.special (isas 0).patterns (words_at blocks) (words_of image) 0) is.items
                 (words_stand (base_at task.netlist 0) (isas 0).patterns task.netlist.special register blocks laid.items image.words items);
             long = long ∙ is.long;
             marks = marks ∙ is.marks;
-            marked = subst (λ ms. AreMarked (program_flow task.listing) (length (words_of image)) ms) (sym marks) (subst (λ n. AreMarked (program_flow task.listing) n laid.marks) (sym long) is.marked);
+            marked = subst (λ ms. AreMarked task.flow (length (words_of image)) ms) (sym marks) (subst (λ n. AreMarked task.flow n laid.marks) (sym long) is.marked);
             most = omega (arith, long, is.most, bound_is);
             lists = subst (λ xs. ListItems (groups_at blocks) xs image.words) is.items (words_list (base_at task.netlist 0) (isas 0).patterns (regs_of (mode_bits task.netlist.special)) blocks laid.items image.words items);
           },

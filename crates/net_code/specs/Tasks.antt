@@ -1,4 +1,4 @@
--- The task of a program whose variables stand at given places, and whose jobs were made.
+-- The task of a program whose variables stand at given places, and whose flow and jobs were made.
 use Rattle.std.specs.Prelude.{List}
 use Rattle.net_model.specs.declared.hardware.Netlist.{Netlist}
 use Rattle.src_model.specs.declared.typed.Typed.{Typed}
@@ -14,5 +14,6 @@ coded_task netlist typed places blocks = record {
   width = typed.width;
   listing = listing_of typed.program;
   places = places;
+  flow = blocks.flow;
   works = works_of blocks.jobs.items;
 }

@@ -2,9 +2,7 @@
 
 ghost use Rattle.std.specs.Prelude.{◌≡◌, ◌+◌, ◌≤◌, ◌<◌, ◌^◌, [], ◌∷◌, ◌++◌, IfOk, IfErr, OnOk, length, map};
 ghost use Rattle.std.specs.List.{AllByRecursion};
-ghost use Rattle.src_model.specs.Written.{listing_of};
 ghost use Rattle.code_model.specs.ImageFits.{CostFits, IsFitting, PlaceFits, limits_of};
-ghost use Rattle.src_trees.specs.Flows.{program_flow};
 ghost use Rattle.branch_fix.specs.Bounds.{bound_of, control_words, sum_of};
 ghost use Rattle.branch_fix.specs.Laid.{IsLaid, outline};
 ghost use Rattle.compaction.specs.declared.packer.PackedBlock.{PackedBlock as TheBlock};
@@ -274,7 +272,6 @@ fn image_for(
     requires machines { AreMachinesOf machines.now modes.now.netlist }
     requires ready { AreReadyAll machines.now books.old }
     requires checked { IsChecked (coded_task modes.now.netlist typed.now places blocks.now) }
-    requires flow { blocks.now.flow ≡ program_flow (listing_of typed.now.program) }
     requires named { AllByRecursion PlaceFits places }
     ensures right { IfOk result (IsRightImage (coded_task modes.now.netlist typed.now places blocks.now)) }
     ensures fits { IfOk result (IsFitting (limits_of modes.now.netlist)) }
@@ -311,7 +308,6 @@ pub fn image_of(
 ) -> Result<Image, CodeFault>
     requires isas { AreIsas modes.now.bases extracted }
     requires checked { IsChecked (coded_task modes.now.netlist typed.now places blocks.now) }
-    requires flow { blocks.now.flow ≡ program_flow (listing_of typed.now.program) }
     requires named { AllByRecursion PlaceFits places }
     ensures right { IfOk result (IsRightImage (coded_task modes.now.netlist typed.now places blocks.now)) }
     ensures fits { IfOk result (IsFitting (limits_of modes.now.netlist)) }

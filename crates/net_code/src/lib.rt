@@ -1,9 +1,9 @@
 //! From a netlist and a program that were read to the code of the program.
 //!
 //! Promise: `image_of` gives an image that is right code for the task of the netlist, the program,
-//! the places of its variables and its jobs (`right`: `IsRightImage` of `coded_task`), whose
-//! numbers and words fit an image's text (`fits`: `IsFitting`), and then none of the reasons before
-//! a full image applies (`reached`: `IsReached`). No step, no jump, no cover and no reach come
+//! the places of its variables, its flow and its jobs (`right`: `IsRightImage` of `coded_task`),
+//! whose numbers and words fit an image's text (`fits`: `IsFitting`), and then none of the reasons
+//! before a full image applies (`reached`: `IsReached`). No step, no jump, no cover and no reach come
 //! exactly where they are the first that applies; a full image only where an image that is made for
 //! the task is longer than the code, and then so is the bound (`refused`: `IsCodeFault`).
 //! `usable_forms` gives the forms of a netlist without modes, or the first refusal alone

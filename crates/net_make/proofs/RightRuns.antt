@@ -1,10 +1,10 @@
 -- Right code clashes nowhere before its end mark.
-use Rattle.std.proofs.Common.{ℕ, ◌≡◌, ◌≤◌, ◌+◌, ◌-◌, ◌*◌, List, [], ◌∷◌, ◌++◌, map, length, sym, arith}
+use Rattle.std.proofs.Common.{ℕ, ◌≡◌, ◌≤◌, ◌+◌, ◌-◌, ◌*◌, ◌∙◌, List, [], ◌∷◌, ◌++◌, map, length, sym, ap, arith}
 use Rattle.net_model.specs.declared.states.State.{State}
 use Rattle.src_model.specs.Written.{acts_of}
 use Rattle.form_model.specs.declared.flow.Flow.{Flow}
 use Rattle.form_model.specs.declared.flow.Flow.TheVariants.{Assign, Test, Jump, End}
-use Rattle.src_trees.specs.Flows.{flow_in}
+use Rattle.src_trees.specs.Flows.{flow_in, program_flow}
 use Rattle.branch_fix.specs.Marked.{Ascend, labels}
 use Rattle.code_model.specs.declared.image.Image.{Image}
 use Rattle.code_model.specs.declared.image.Mark.{Mark}
@@ -34,13 +34,13 @@ some_word : (flow : List Flow) (words : ℕ) (marks : List Mark) → map (λ (ma
 some_word flow words [] each apart = absurd (some_label flow (sym each))
 some_word flow words (mark ∷ marks) each apart = omega (arith, ascend_le (mark.address + 1) words marks apart.1)
 
-some_words : (task : Task) (image : Image) → IsMadeFor task image → 1 ≤ length (words_of image)
-some_words task image made = some_word (flow_in (acts_of task.listing.body) 0 0) (length (words_of image)) image.marks made.marked.each made.marked.apart
+some_words : (task : Task) (image : Image) → task.flow ≡ program_flow task.listing → IsMadeFor task image → 1 ≤ length (words_of image)
+some_words task image own made = some_word (flow_in (acts_of task.listing.body) 0 0) (length (words_of image)) image.marks (made.marked.each ∙ ap labels own) made.marked.apart
 
 enough : (n words : ℕ) → 1 ≤ words → n * words ≡ n + (n * words - n)
 enough n words some = grind arith
 
-pub right_runs : (task : Task) (image : Image) → IsRightImage task image → (s : State) → IsCalm task.netlist 0 s → (n : ℕ) → RunsOn task.netlist (words_of image) (IsAtEnd task.netlist image) n s
-right_runs task image right s here n =
+pub right_runs : (task : Task) (image : Image) → task.flow ≡ program_flow task.listing → IsRightImage task image → (s : State) → IsCalm task.netlist 0 s → (n : ℕ) → RunsOn task.netlist (words_of image) (IsAtEnd task.netlist image) n s
+right_runs task image own right s here n =
     let h : ShowsSource task.netlist image (strace task.width task.listing) s n = right.traces.shows s here n in
-    shown_runs task.netlist image n (n * length (words_of image) - n) (n * length (words_of image)) s 0 h.entries (enough n (length (words_of image)) (some_words task image right.made)) h.traced
+    shown_runs task.netlist image n (n * length (words_of image) - n) (n * length (words_of image)) s 0 h.entries (enough n (length (words_of image)) (some_words task image own right.made)) h.traced

@@ -20,6 +20,7 @@ use Rattle.src_trees.specs.Lowered.{MemoryMap, Work}
 use Rattle.src_trees.specs.Flows.{places_in, program_flow}
 use Rattle.src_trees.specs.Held.{HasCellRoom, HoldsVars}
 use Rattle.src_trees.specs.Meant.{DoProgram}
+use Rattle.src_trees.specs.Turned.{Turns, TurnsTests, told_works, turned_flow}
 use Rattle.branch_fix.specs.declared.part.Part.{Part}
 use Rattle.branch_fix.specs.declared.part.Part.TheVariants.{Block, Inner, Test, Jump, End}
 use Rattle.branch_fix.specs.Parts.{address, total, room, branch_words, rule_at_one, PartsFit, FitsPart}
@@ -30,7 +31,8 @@ use Rattle.branch_fix.specs.Inner.Flowing.{IsFlow}
 use Rattle.branch_fix.proofs.Addresses.{address_next, address_rises, part_at, fit_length}
 use Rattle.branch_fix.proofs.Laying.{address_total}
 use Rattle.branch_fix.proofs.Shapes.{program_is_flow}
-use Rattle.branch_fix.proofs.LaidRight.{laid_right}
+use Rattle.branch_fix.proofs.LaidRight.{turned_right}
+use Rattle.branch_fix.proofs.TurnedFlows.{turned_is_flow}
 use Rattle.right_code.specs.Inner.Code.{IsMadeCode}
 use Rattle.right_code.specs.Inner.Blocks.{AreSectionsMade, IsBlockMade, IsKit, IsModeBlockMade, IsModeWordMade, IsSectionMade, Kit, Machine}
 use Rattle.right_code.proofs.Walked.{block_does, word_puts}
@@ -174,10 +176,11 @@ module _ (m : Machine) (kit : Kit) (are : IsKit m 0 kit) (image : Image) where
       }
 
   -- and traces the program, with each mark in mode 0
-  pub code_right : (mem : MemoryMap) (l : Listing) (jobs : List Work) (parts : List Part) → first_fault mem.word l ≡ None → memory_width m.netlist.storages ≡ mem.word → HoldsVars m.temps l.vars mem
-      → HasCellRoom m.temps mem (memory_size m.netlist.storages) → image.places ≡ mem.places → DoProgram mem m.temps l jobs
-      → IsMadeCode m kit image (program_flow l) jobs parts
+  pub code_right : (mem : MemoryMap) (l : Listing) (turned : Turns) (jobs : List Work) (parts : List Part) → first_fault mem.word l ≡ None → memory_width m.netlist.storages ≡ mem.word → HoldsVars m.temps l.vars mem
+      → HasCellRoom m.temps mem (memory_size m.netlist.storages) → image.places ≡ mem.places → TurnsTests turned (program_flow l) → DoProgram mem m.temps l (told_works turned jobs)
+      → IsMadeCode m kit image (turned_flow turned (program_flow l)) jobs parts
       → length (words_of image) ≡ total parts → TracesRight m.netlist image (strace mem.word l)
-  code_right mem l jobs parts kept wide held room places does made long =
-      laid_right m.netlist image mem m.temps l jobs kit.stock.rules parts kept wide held room places does
-      (made_is (program_flow l) jobs parts (places_in (acts_of l.body)) (program_is_flow l) made) long
+  code_right mem l turned jobs parts kept wide held room places only does made long =
+      let f : IsFlow (turned_flow turned (program_flow l)) (places_in (acts_of l.body)) = turned_is_flow turned (program_flow l) (places_in (acts_of l.body)) (program_is_flow l) in
+      turned_right m.netlist image mem m.temps l turned jobs kit.stock.rules parts kept wide held room places only does
+      (made_is (turned_flow turned (program_flow l)) jobs parts (places_in (acts_of l.body)) f made) long

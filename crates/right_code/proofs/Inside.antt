@@ -9,6 +9,7 @@ use Rattle.form_model.specs.declared.flow.Flow.TheVariants.{Assign, Test as Test
 use Rattle.form_model.specs.Rules.{Rule, BranchTarget, absolute, relative, branches}
 use Rattle.src_trees.specs.Lowered.{holds_at_one}
 use Rattle.src_trees.specs.Blocks.{continues}
+use Rattle.src_trees.specs.Turned.{Turns, turned_flow}
 use Rattle.src_trees.specs.Flows.{places_for, places_in, places_else, else_entry, asked, flow_of, flow_in, flow_else, program_flow}
 use Rattle.branch_fix.specs.Parts.{rule_at_one, fork_to, branch_or_zero, blocks_before, tests_before, part_for, place_part, parts_from, parts_of, room, starts, FitsPart, PartsFit}
 use Rattle.branch_fix.specs.Rounds.{kind_shows, rule_shows, widened, widened_from, round, rounds}
@@ -72,6 +73,18 @@ mutual
 
 pub program_upto : (l : Listing) → Upto (places_in (acts_of l.body)) (program_flow l)
 program_upto l = upto_on (places_in (acts_of l.body)) (flow_in (acts_of l.body) 0 0) (Ended ∷ []) (in_upto (acts_of l.body) 0 0 (places_in (acts_of l.body)) (omega arith)) tt
+
+-- nor do those of tests that are turned
+pub turned_upto : (turned : Turns) (n : ℕ) (flow : List Flow) → Upto n flow → Upto n (turned_flow turned flow)
+turned_upto turned n [] u = tt
+turned_upto turned n (Assign tree ∷ rest) u = turned_upto turned n rest u
+turned_upto turned n (Tested tree one none ∷ rest) u = by (turned_upto turned n rest u.2) (turned tree)
+  where
+    by : Upto n (turned_flow turned rest) → (b : Bool) → Upto n ((if b then Tested tree none one else Tested tree one none) ∷ turned_flow turned rest)
+    by later true = (u.1, u.0, later)
+    by later false = (u.0, u.1, later)
+turned_upto turned n (Jumped to ∷ rest) u = (u.0, turned_upto turned n rest u.1)
+turned_upto turned n (Ended ∷ rest) u = turned_upto turned n rest u
 
 upto_get : (n : ℕ) (xs : List Flow) (k : ℕ) (g : Flow) → Upto n xs → slice_get xs k ≡ Some g → Upto n (g ∷ [])
 upto_get n [] k g u e = absurd (cc e)

@@ -30,6 +30,7 @@ pub mod Right
 pub mod Spares
 pub mod Standing
 pub mod Swapping
+pub mod TaskFlows
 pub mod Tasks
 pub mod Turning
 pub mod Turns

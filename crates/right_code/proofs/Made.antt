@@ -5,13 +5,12 @@ use Rattle.net_model.specs.declared.hardware.Netlist.{Netlist}
 use Rattle.net_model.specs.declared.hardware.Storage.{Storage}
 use Rattle.net_model.specs.CheckedRules.{code_size}
 use Rattle.net_model.specs.declared.hardware.Space.TheVariants.{File as InFile}
-use Rattle.net_model.specs.Nets.{IsRegister, file_place, memory_size, memory_width, size_in}
+use Rattle.net_model.specs.Nets.{IsRegister, file_place, memory_width, size_in}
 use Rattle.net_model.specs.Patterns.{Pattern}
 use Rattle.src_model.specs.Rules.{first_fault, temp_count}
 use Rattle.src_model.specs.Trace.{strace}
 use Rattle.code_model.specs.declared.image.Image.{Image}
 use Rattle.code_model.specs.Places.{words_of}
-use Rattle.form_model.specs.declared.flow.Flow.{Flow}
 use Rattle.form_model.specs.declared.forms.Step.{Step}
 use Rattle.form_model.specs.Covers.{Choice, Stock}
 use Rattle.form_model.specs.Live.{Regs, no_regs}
@@ -27,9 +26,6 @@ use Rattle.code_model.specs.Right.{TracesRight}
 use Rattle.net_model.proofs.Bases.{base_of}
 use Rattle.mode_set.specs.Keeping.{AreKeeping, IsModeRegister, held}
 use Rattle.src_trees.specs.Blocks.{jobs_at}
-use Rattle.src_trees.specs.Flows.{program_flow}
-use Rattle.src_trees.specs.Held.{HasCellRoom, HoldsVars}
-use Rattle.src_trees.specs.Meant.{DoProgram}
 use Rattle.src_trees.specs.Lowered.{Work}
 use Rattle.src_trees.specs.Measures.{AllSmall}
 use Rattle.branch_fix.specs.Parts.{PartsFit}
@@ -39,7 +35,7 @@ use Rattle.right_code.specs.Jobs.{IsCovered, job_steps, jobs_steps, tree_used}
 use Rattle.mode_set.specs.ModeWords.{FitsModeWord}
 use Rattle.right_code.specs.Cuts.{AreBlockCuts, AreCutWords, AreJobWords, Cut, cuts_of, plans_at, with_mode}
 use Rattle.right_code.specs.Images.{AreTestWords, IsMadeFor}
-use Rattle.right_code.specs.Tasks.{Task, task_memory, task_temps, task_works}
+use Rattle.right_code.specs.Tasks.{HasJobs, Task, task_memory, task_works}
 use Rattle.right_code.specs.Inner.Blocks.{IsKit, IsModeWordMade, Kit, Machine}
 use Rattle.right_code.specs.Inner.Forks.{test_of}
 use Rattle.right_code.specs.Inner.Jobs.{AreCovered}
@@ -107,7 +103,7 @@ module _ (task : Task) (image : Image) (made : IsMadeFor task image) where
   machine = record { netlist = task.netlist; temps = temp_count task.width task.listing }
 
   module _ (keeps : (v : ℕ) → KeepsInOrder (net_in v)) (give : (v : ℕ) → FormsGive (net_in v) (made.isas v).patterns task.width (size_in InFile task.netlist.storages) (made.isas v).rules) (register : IsModeRegister task.netlist.special task.netlist) (most : ℕ)
-      (small : AllSmall task.width (temp_count task.width task.listing) most (task_works task)) (one : AllOne (task_works task)) (tests : AreTests (task_works task) (program_flow task.listing)) where
+      (small : AllSmall task.width (temp_count task.width task.listing) most (task_works task)) (one : AllOne (task_works task)) (tests : AreTests (task_works task) task.flow) where
     pub is_kit : (v : ℕ) → held task.netlist v ≡ v → IsKit machine v (kit_in v)
     is_kit v e = record {
       base = subst (λ x. IsBase task.netlist task.netlist.special x (net_in v)) e (base_of task.netlist task.netlist.special (held task.netlist v));
@@ -178,11 +174,9 @@ module _ (task : Task) (image : Image) (made : IsMadeFor task image) where
     one_work x y e = cc
 
     pub made_laid : length (words_of image) ≤ code_size task.netlist.codes → length (words_of image) ≤ greatest_reach (made.isas 0).rules
-        → IsLaidCode machine (kit_in 0) image (program_flow task.listing) (task_works task) made.parts (greatest_reach (made.isas 0).rules)
+        → IsLaidCode machine (kit_in 0) image task.flow (task_works task) made.parts (greatest_reach (made.isas 0).rules)
     made_laid room reached =
-        let flow : List Flow = program_flow task.listing in
-        let works : List Work = task_works task in
-        let fit : PartsFit (made.isas 0).rules (program_flow task.listing) 0 (program_flow task.listing) made.parts = settled_fit (made.isas 0).rules (program_flow task.listing) made.sizes made.settings made.parts made.settled in
+        let fit : PartsFit (made.isas 0).rules task.flow 0 task.flow made.parts = settled_fit (made.isas 0).rules task.flow made.sizes made.settings made.parts made.settled in
         let long = made.long in
         let codes : code_size (net_in 0).codes ≡ code_size task.netlist.codes = ap code_size (is_kit 0 refl).base.codes in
         record {
@@ -194,13 +188,13 @@ module _ (task : Task) (image : Image) (made : IsMadeFor task image) where
           long = made.long;
           blocks = λ at n block size b e.
               (let p = made.blocks at n block size b e in
-              let c = block_covered task made.isas (λ v. (give v).reads) most small one made.plans made.planned (program_flow task.listing) at n in
-              let r : CutsReady (cuts_of (jobs_at (program_flow task.listing) (task_works task) at n) (plans_at (program_flow task.listing) made.plans at n)) (made.words block) =
-              cuts_ready (cuts_of (jobs_at (program_flow task.listing) (task_works task) at n) (plans_at (program_flow task.listing) made.plans at n)) (made.groups block) (made.words block)
-              (cuts_covered task made.isas (jobs_at (program_flow task.listing) (task_works task) at n) (plans_at (program_flow task.listing) made.plans at n) c) p.0 in
-              record { sections = r.sections; are = cuts_jobs task made.isas (jobs_at (program_flow task.listing) (task_works task) at n) (plans_at (program_flow task.listing) made.plans at n) c ∙ r.jobs; ready = r.ready; long = p.1 });
+              let c = block_covered task made.isas (λ v. (give v).reads) most small one made.plans made.planned task.flow at n in
+              let r : CutsReady (cuts_of (jobs_at task.flow (task_works task) at n) (plans_at task.flow made.plans at n)) (made.words block) =
+              cuts_ready (cuts_of (jobs_at task.flow (task_works task) at n) (plans_at task.flow made.plans at n)) (made.groups block) (made.words block)
+              (cuts_covered task made.isas (jobs_at task.flow (task_works task) at n) (plans_at task.flow made.plans at n) c) p.0 in
+              record { sections = r.sections; are = cuts_jobs task made.isas (jobs_at task.flow (task_works task) at n) (plans_at task.flow made.plans at n) c ∙ r.jobs; ready = r.ready; long = p.1 });
           forks = λ at f e job has_job.
-              (let t : IsTestWork (task_works task) f.tree = test_work_of (task_works task) (made.isas 0).rules (program_flow task.listing) made.parts at f fit tests e in
+              (let t : IsTestWork (task_works task) f.tree = test_work_of (task_works task) (made.isas 0).rules task.flow made.parts at f fit tests e in
               let aim : job.destination ≡ tested = ap (λ (x : Work). x.destination) (one_work job t.work (sym has_job ∙ t.at)) ∙ t.destination in
               let d = test_plan task made.isas (λ v. (give v).reads) most small one made.plans made.planned (task_works task) made.plans f.tree job small made.planned has_job aim in
               let same : test_of job ≡ job = as_test job aim in
@@ -225,8 +219,7 @@ module _ (task : Task) (image : Image) (made : IsMadeFor task image) where
 
     -- from every start state in mode 0
     pub made_traces : length (words_of image) ≤ code_size task.netlist.codes → length (words_of image) ≤ greatest_reach (made.isas 0).rules → AreTurns (net_in 0) (made.isas 0).patterns (made.isas 0).rules (greatest_reach (made.isas 0).rules)
-        → first_fault task.width task.listing ≡ None → memory_width task.netlist.storages ≡ task.width → HoldsVars (task_temps task) task.listing.vars (task_memory task)
-        → HasCellRoom (task_temps task) (task_memory task) (memory_size task.netlist.storages) → DoProgram (task_memory task) (task_temps task) task.listing task.works
-        → TracesRight task.netlist image (strace task.width task.listing)
-    made_traces room reached turns program wide holds cells does =
-        ordered_right machine (kit_in 0) (is_kit 0 refl) image (greatest_reach (made.isas 0).rules) turns (task_memory task) task.listing task.works made.parts program wide holds cells made.layout.places does (made_laid room reached)
+        → first_fault task.width task.listing ≡ None → memory_width task.netlist.storages ≡ task.width → HasJobs task → TracesRight task.netlist image (strace task.width task.listing)
+    made_traces room reached turns program wide jobs =
+        ordered_right machine (kit_in 0) (is_kit 0 refl) image (greatest_reach (made.isas 0).rules) turns (task_memory task) task.listing jobs.turned task.works made.parts program wide jobs.held jobs.room made.layout.places jobs.only jobs.meant
+        (subst (λ flow. IsLaidCode machine (kit_in 0) image flow (task_works task) made.parts (greatest_reach (made.isas 0).rules)) jobs.flow (made_laid room reached))

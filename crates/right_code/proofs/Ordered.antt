@@ -21,6 +21,7 @@ use Rattle.src_trees.specs.Lowered.{MemoryMap, Work}
 use Rattle.src_trees.specs.Flows.{places_in, program_flow}
 use Rattle.src_trees.specs.Held.{HasCellRoom, HoldsVars}
 use Rattle.src_trees.specs.Meant.{DoProgram}
+use Rattle.src_trees.specs.Turned.{Turns, TurnsTests, told_works, turned_flow}
 use Rattle.branch_fix.specs.Parts.{rule_at_one, kind_at_one, room, starts, address}
 use Rattle.branch_fix.specs.Items.{groups, jump_form, jump_step, branch_step, behind, part_items}
 use Rattle.branch_fix.specs.Made.{image_word}
@@ -29,6 +30,7 @@ use Rattle.branch_fix.specs.declared.part.Fork.{Fork}
 use Rattle.branch_fix.specs.declared.part.Part.{Part}
 use Rattle.branch_fix.specs.declared.part.Part.TheVariants.{Block, Test, Jump, End}
 use Rattle.branch_fix.proofs.Shapes.{program_is_flow}
+use Rattle.branch_fix.proofs.TurnedFlows.{turned_is_flow}
 use Rattle.branch_fix.proofs.Words.{groups_length}
 use Rattle.right_code.specs.Jobs.{tree_used}
 use Rattle.word_fit.specs.Runs.{StandAt}
@@ -42,7 +44,7 @@ use Rattle.right_code.specs.Inner.Laid.{AreSectionsReady, AreTurns, IsBlockReady
 use Rattle.right_code.specs.Words.{StandItems}
 use Rattle.mode_set.specs.Words.{FitsTurn}
 use Rattle.right_code.proofs.Coded.{code_right, there}
-use Rattle.right_code.proofs.Inside.{Upto, program_upto}
+use Rattle.right_code.proofs.Inside.{Upto, program_upto, turned_upto}
 use Rattle.right_code.proofs.Standing.{shown_some, stand_split, part_stands, groups_stand}
 use Rattle.branch_fix.proofs.Addresses.{address_is}
 use Rattle.right_code.proofs.Layouts.{IsBranchStep, branch_step_is, fit, goals, near, ways}
@@ -225,11 +227,12 @@ module _ (m : Machine) (kit : Kit) (order : List ℕ) (keeps : KeepsRules kit.ne
 
 -- and traces the program, with each mark in mode 0
 pub ordered_right : (m : Machine) (kit : Kit) (are : IsKit m 0 kit) (image : Image) (reach : ℕ)
-    → AreTurns kit.netlist kit.patterns kit.stock.rules reach → (mem : MemoryMap) (l : Listing) (jobs : List Work) (parts : List Part) → first_fault mem.word l ≡ None → memory_width m.netlist.storages ≡ mem.word
-    → HoldsVars m.temps l.vars mem → HasCellRoom m.temps mem (memory_size m.netlist.storages) → image.places ≡ mem.places → DoProgram mem m.temps l jobs
-    → IsLaidCode m kit image (program_flow l) jobs parts reach
+    → AreTurns kit.netlist kit.patterns kit.stock.rules reach → (mem : MemoryMap) (l : Listing) (turned : Turns) (jobs : List Work) (parts : List Part) → first_fault mem.word l ≡ None → memory_width m.netlist.storages ≡ mem.word
+    → HoldsVars m.temps l.vars mem → HasCellRoom m.temps mem (memory_size m.netlist.storages) → image.places ≡ mem.places → TurnsTests turned (program_flow l) → DoProgram mem m.temps l (told_works turned jobs)
+    → IsLaidCode m kit image (turned_flow turned (program_flow l)) jobs parts reach
     → TracesRight m.netlist image (strace mem.word l)
-ordered_right m kit are image reach turns mem l jobs parts kept wide held room places does laid =
-    code_right m kit are image mem l jobs parts kept wide held room places does
-    (laid_made m kit are.order are.keeps image reach turns (program_flow l) jobs parts (places_in (acts_of l.body)) (program_is_flow l) (program_upto l) laid)
+ordered_right m kit are image reach turns mem l turned jobs parts kept wide held room places only does laid =
+    let end : ℕ = places_in (acts_of l.body) in
+    code_right m kit are image mem l turned jobs parts kept wide held room places only does
+    (laid_made m kit are.order are.keeps image reach turns (turned_flow turned (program_flow l)) jobs parts end (turned_is_flow turned (program_flow l) end (program_is_flow l)) (turned_upto turned end (program_flow l) (program_upto l)) laid)
     laid.long

@@ -28,7 +28,7 @@ use Rattle.mode_set.specs.Costs.{Planned}
 use Rattle.mode_set.specs.Keeping.{IsModeRegister, Isas, held}
 use Rattle.net_model.specs.ModeRules.{KeepsInOrder, base_at, modes_in}
 use Rattle.src_trees.specs.Blocks.{jobs_at}
-use Rattle.src_trees.specs.Flows.{places_in, program_flow}
+use Rattle.src_trees.specs.Flows.{places_in}
 use Rattle.src_trees.specs.Lowered.{Work}
 use Rattle.src_trees.specs.Measures.{AllSmall, IsSmall}
 use Rattle.branch_fix.specs.Inner.Flowing.{IsFlow}
@@ -40,7 +40,6 @@ use Rattle.branch_fix.specs.declared.part.Part.TheVariants.{Test}
 use Rattle.branch_fix.specs.declared.part.Part.{Part}
 use Rattle.branch_fix.proofs.Addresses.{fit_length}
 use Rattle.branch_fix.proofs.Laying.{settled_fit}
-use Rattle.branch_fix.proofs.Shapes.{program_is_flow}
 use Rattle.right_code.specs.Bounded.{HasBound}
 use Rattle.right_code.specs.Covered.{ArePlans, mode_stock}
 use Rattle.right_code.specs.Cuts.{Cut, cuts_of, plan_choices, plans_at, with_mode}
@@ -57,7 +56,6 @@ use Rattle.right_code.proofs.Chosen.{AllMode, CutsCovered, as_test, block_covere
 use Rattle.right_code.proofs.Covered.{covered_of}
 use Rattle.right_code.proofs.Fitting.{code_fits, word_in}
 use Rattle.right_code.proofs.Given.{given_forms, given_turns, given_words}
-use Rattle.right_code.proofs.Inside.{program_upto}
 use Rattle.right_code.proofs.Jumping.{AllTurn, IsAsked, layout_words}
 use Rattle.right_code.proofs.Kept.{forms_keep, part_of}
 use Rattle.right_code.proofs.Known.{known_of}
@@ -66,6 +64,7 @@ use Rattle.right_code.proofs.Layouts.{within_code}
 use Rattle.right_code.proofs.Made.{FormsGive, has_in, is_kit, kit_in, machine, made_laid, made_traces}
 use Rattle.right_code.proofs.OneBound.{made_reached}
 use Rattle.right_code.specs.Works.{AllOne, IsTestWork, node_limit}
+use Rattle.right_code.proofs.TaskFlows.{task_is_flow, task_upto}
 use Rattle.right_code.proofs.Tasks.{test_work_of}
 
 -- a job of small jobs is small
@@ -113,12 +112,12 @@ module _ (task : Task) (checked : IsChecked task) where
   small = checked.jobs.small
 
   -- parts of the program have words
-  some_total : (rules : List Rule) (parts : List Part) → PartsFit rules (program_flow task.listing) 0 (program_flow task.listing) parts → 1 ≤ total parts
+  some_total : (rules : List Rule) (parts : List Part) → PartsFit rules task.flow 0 task.flow parts → 1 ≤ total parts
   some_total rules parts fits =
-      let f : IsFlow (program_flow task.listing) (places_in (acts_of task.listing.body)) = program_is_flow task.listing in
-      let n = fit_length rules (program_flow task.listing) 0 (program_flow task.listing) parts fits in
+      let f : IsFlow task.flow (places_in (acts_of task.listing.body)) = task_is_flow task checked.jobs in
+      let n = fit_length rules task.flow 0 task.flow parts fits in
       let l = f.long in
-      let a : address parts 0 < total parts = within_code rules (program_flow task.listing) (places_in (acts_of task.listing.body)) parts 0 f fits (omega (arith, n, l)) in
+      let a : address parts 0 < total parts = within_code rules task.flow (places_in (acts_of task.listing.body)) parts 0 f fits (omega (arith, n, l)) in
       omega (arith, a)
 
   -- ---- the forms
@@ -166,23 +165,23 @@ module _ (task : Task) (checked : IsChecked task) where
         (forms_keep (own_net task isas v) (isas v).patterns task.netlist.special (isas v).all (isas v).rules (isas v).kept) jobs choices live c f
 
     module _ (plans : List Planned) (planned : ArePlans task isas plans) where
-      pub cut_words_of : (at n k : ℕ) (x : Cut) → slice_get (cuts_of (jobs_at (program_flow task.listing) (task_works task) at n) (plans_at (program_flow task.listing) plans at n)) k ≡ Some x
+      pub cut_words_of : (at n k : ℕ) (x : Cut) → slice_get (cuts_of (jobs_at task.flow (task_works task) at n) (plans_at task.flow plans at n)) k ≡ Some x
           → (live : Regs) → ((r : ℕ) → live r ≡ true → with_mode task.netlist.special no_regs r ≡ true)
           → AllHaveWords (operation_in (own_net task isas x.mode) (isas x.mode).patterns) (fits_over (own_net task isas x.mode) (operation_in (own_net task isas x.mode) (isas x.mode).patterns)) (singles (jobs_steps (mode_stock task isas x.mode) x.jobs x.choices)) live
       cut_words_of at n k x e live less =
           steps_words x.mode x.jobs x.choices live
-          (covers_at (cuts_of (jobs_at (program_flow task.listing) (task_works task) at n) (plans_at (program_flow task.listing) plans at n)) k x
-          (cuts_covered task isas (jobs_at (program_flow task.listing) (task_works task) at n) (plans_at (program_flow task.listing) plans at n)
-          (block_covered task isas (λ v. (give v).reads) node_limit small one plans planned (program_flow task.listing) at n)) e) less
+          (covers_at (cuts_of (jobs_at task.flow (task_works task) at n) (plans_at task.flow plans at n)) k x
+          (cuts_covered task isas (jobs_at task.flow (task_works task) at n) (plans_at task.flow plans at n)
+          (block_covered task isas (λ v. (give v).reads) node_limit small one plans planned task.flow at n)) e) less
 
       -- and each step of neighbouring jobs whose plans are of one mode
-      pub run_words_of : (v at n : ℕ) → AllMode v (plans_at (program_flow task.listing) plans at n) → (live : Regs) → ((r : ℕ) → live r ≡ true → with_mode task.netlist.special no_regs r ≡ true)
+      pub run_words_of : (v at n : ℕ) → AllMode v (plans_at task.flow plans at n) → (live : Regs) → ((r : ℕ) → live r ≡ true → with_mode task.netlist.special no_regs r ≡ true)
           → AllHaveWords (operation_in (own_net task isas v) (isas v).patterns) (fits_over (own_net task isas v) (operation_in (own_net task isas v) (isas v).patterns))
-          (singles (jobs_steps (mode_stock task isas v) (jobs_at (program_flow task.listing) (task_works task) at n) (plan_choices (plans_at (program_flow task.listing) plans at n)))) live
+          (singles (jobs_steps (mode_stock task isas v) (jobs_at task.flow (task_works task) at n) (plan_choices (plans_at task.flow plans at n)))) live
       run_words_of v at n all live less =
-          steps_words v (jobs_at (program_flow task.listing) (task_works task) at n) (plan_choices (plans_at (program_flow task.listing) plans at n)) live
-          (run_covered task isas v (jobs_at (program_flow task.listing) (task_works task) at n) (plans_at (program_flow task.listing) plans at n) all
-          (block_covered task isas (λ v. (give v).reads) node_limit small one plans planned (program_flow task.listing) at n)) less
+          steps_words v (jobs_at task.flow (task_works task) at n) (plan_choices (plans_at task.flow plans at n)) live
+          (run_covered task isas v (jobs_at task.flow (task_works task) at n) (plans_at task.flow plans at n) all
+          (block_covered task isas (λ v. (give v).reads) node_limit small one plans planned task.flow at n)) less
 
       test_covered : (number : ℕ) (job : Work) (own : Planned) → slice_get (task_works task) number ≡ Some job → slice_get plans number ≡ Some own → job.destination ≡ tested → IsCovered (mode_stock task isas 0) (test_of job) own.choice
       test_covered number job own at there e =
@@ -204,31 +203,31 @@ module _ (task : Task) (checked : IsChecked task) where
           (forms_keep (own_net task isas 0) (isas 0).patterns task.netlist.special (isas 0).all (isas 0).rules (isas 0).kept) job own.choice live (test_covered number job own at there e) less)
 
       -- and each jump and branch of a layout
-      some_reach : (parts : List Part) → IsLayout (isas 0).rules (program_flow task.listing) parts (greatest_reach (isas 0).rules) → 1 ≤ greatest_reach (isas 0).rules
+      some_reach : (parts : List Part) → IsLayout (isas 0).rules task.flow parts (greatest_reach (isas 0).rules) → 1 ≤ greatest_reach (isas 0).rules
       some_reach parts layout =
-          let fits : PartsFit (isas 0).rules (program_flow task.listing) 0 (program_flow task.listing) parts = settled_fit (isas 0).rules (program_flow task.listing) layout.sizes layout.settings parts layout.settled in
+          let fits : PartsFit (isas 0).rules task.flow 0 task.flow parts = settled_fit (isas 0).rules task.flow layout.sizes layout.settings parts layout.settled in
           let a = some_total (isas 0).rules parts fits in
           let r = layout.reached in
           omega (arith, a, r)
 
-      pub jump_words_of : (parts : List Part) → IsLayout (isas 0).rules (program_flow task.listing) parts (greatest_reach (isas 0).rules)
+      pub jump_words_of : (parts : List Part) → IsLayout (isas 0).rules task.flow parts (greatest_reach (isas 0).rules)
           → ((at : ℕ) (f : Fork) → slice_get parts at ≡ Some (Test f) → (job : Work) → slice_get (task_works task) f.tree ≡ Some job → (own : Planned) → slice_get plans f.tree ≡ Some own → IsBranchOf (mode_stock task isas 0) job own.choice f)
           → (k : ℕ) (step : Step) → slice_get (items_from (isas 0).rules (jump_form (isas 0).rules (greatest_reach (isas 0).rules)) (starts parts) 0 parts) k ≡ Some (Jump step)
           → (word : ℕ) × FitsTurn (own_net task isas 0) task.netlist.special word (operation_in (own_net task isas 0) (isas 0).patterns step)
       jump_words_of parts layout branch k step e =
-          layout_words (own_net task isas 0) (keeps 0).order (keeps 0).rules task.netlist.special (isas 0).patterns (greatest_reach (isas 0).rules) (mode_stock task isas 0) turning refl (turns (some_reach parts layout)) (program_flow task.listing) parts (places_in (acts_of task.listing.body))
-          (program_is_flow task.listing) (program_upto task.listing) layout asked k step e
+          layout_words (own_net task isas 0) (keeps 0).order (keeps 0).rules task.netlist.special (isas 0).patterns (greatest_reach (isas 0).rules) (mode_stock task isas 0) turning refl (turns (some_reach parts layout)) task.flow parts (places_in (acts_of task.listing.body))
+          (task_is_flow task checked.jobs) (task_upto task checked.jobs) layout asked k step e
         where
           turning : AllTurn (own_net task isas 0) task.netlist.special (isas 0).patterns (isas 0).rules
           turning = given_words (own_net task isas 0) (keeps 0).order (keeps 0).rules (isas 0).patterns (isas 0).are (isas 0).all (isas 0).most (isas 0).forms task.netlist.special (isas 0).rules (isas 0).kept (register_in 0)
 
-          fits : PartsFit (isas 0).rules (program_flow task.listing) 0 (program_flow task.listing) parts
-          fits = settled_fit (isas 0).rules (program_flow task.listing) layout.sizes layout.settings parts layout.settled
+          fits : PartsFit (isas 0).rules task.flow 0 task.flow parts
+          fits = settled_fit (isas 0).rules task.flow layout.sizes layout.settings parts layout.settled
 
           asked : (at : ℕ) (f : Fork) → slice_get parts at ≡ Some (Test f)
-              → IsAsked (own_net task isas 0) (keeps 0).order (keeps 0).rules task.netlist.special (isas 0).patterns (greatest_reach (isas 0).rules) (mode_stock task isas 0) turning refl (turns (some_reach parts layout)) (program_flow task.listing) parts (places_in (acts_of task.listing.body)) (program_is_flow task.listing) (program_upto task.listing) layout f
+              → IsAsked (own_net task isas 0) (keeps 0).order (keeps 0).rules task.netlist.special (isas 0).patterns (greatest_reach (isas 0).rules) (mode_stock task isas 0) turning refl (turns (some_reach parts layout)) task.flow parts (places_in (acts_of task.listing.body)) (task_is_flow task checked.jobs) (task_upto task checked.jobs) layout f
           asked at f e =
-              let t : IsTestWork (task_works task) f.tree = test_work_of (task_works task) (isas 0).rules (program_flow task.listing) parts at f fits checked.jobs.tests e in
+              let t : IsTestWork (task_works task) f.tree = test_work_of (task_works task) (isas 0).rules task.flow parts at f fits checked.jobs.tests e in
               let d = test_plan task isas (λ v. (give v).reads) node_limit small one plans planned (task_works task) plans f.tree t.work small planned t.at t.destination in
               let c : IsCovered (mode_stock task isas 0) (test_of t.work) d.0.choice = test_covered f.tree t.work d.0 t.at d.1 t.destination in
               let b : IsBranchOf (mode_stock task isas 0) t.work d.0.choice f = branch at f e t.work t.at d.0 d.1 in
@@ -241,7 +240,7 @@ module _ (task : Task) (checked : IsChecked task) where
     -- it has words
     some_words : 1 ≤ length (words_of image)
     some_words =
-        let s = some_total (made.isas 0).rules made.parts (settled_fit (made.isas 0).rules (program_flow task.listing) made.sizes made.settings made.parts made.settled) in
+        let s = some_total (made.isas 0).rules made.parts (settled_fit (made.isas 0).rules task.flow made.sizes made.settings made.parts made.settled) in
         let m = made.long in
         omega (arith, s, m)
 
@@ -249,7 +248,7 @@ module _ (task : Task) (checked : IsChecked task) where
     kit = is_kit task image made keeps (give made.isas) register node_limit small checked.jobs.one checked.jobs.tests 0 refl
 
     laid : length (words_of image) ≤ code_size task.netlist.codes → length (words_of image) ≤ greatest_reach (made.isas 0).rules
-        → IsLaidCode (machine task image made) (kit_in task image made 0) image (program_flow task.listing) (task_works task) made.parts (greatest_reach (made.isas 0).rules)
+        → IsLaidCode (machine task image made) (kit_in task image made 0) image task.flow (task_works task) made.parts (greatest_reach (made.isas 0).rules)
     laid room reached =
         made_laid task image made keeps (give made.isas) register node_limit small checked.jobs.one checked.jobs.tests room reached
 
@@ -257,7 +256,7 @@ module _ (task : Task) (checked : IsChecked task) where
     traces room reached =
         let s = some_words in
         made_traces task image made keeps (give made.isas) register node_limit small checked.jobs.one checked.jobs.tests room reached
-        (turns made.isas (omega (arith, s, reached))) checked.program checked.words checked.jobs.held checked.jobs.room checked.jobs.meant
+        (turns made.isas (omega (arith, s, reached))) checked.program checked.words checked.jobs
 
     -- its words have the width of the netlist's words
     pub image_fits : length (words_of image) ≤ code_size task.netlist.codes → length (words_of image) ≤ greatest_reach (made.isas 0).rules → (a : ℕ) → WordFits task.netlist (slice_index (words_of image) a)
@@ -265,7 +264,7 @@ module _ (task : Task) (checked : IsChecked task) where
         let s = some_words in
         let m = made.long in
         word_in (base_at task.netlist 0) task.netlist (slice_index (words_of image) a) (same_codes 0)
-        (code_fits (machine task image made) (kit_in task image made 0) kit image (program_flow task.listing) (task_works task) made.parts (greatest_reach (made.isas 0).rules) checked.jobs.tests (laid room reached) (omega (arith, s, m)) a)
+        (code_fits (machine task image made) (kit_in task image made 0) kit image task.flow (task_works task) made.parts (greatest_reach (made.isas 0).rules) checked.jobs.tests (laid room reached) (omega (arith, s, m)) a)
 
     pub right_image : length (words_of image) ≤ code_size task.netlist.codes → length (words_of image) ≤ greatest_reach (made.isas 0).rules → IsRightImage task image
     right_image room reached = record { made = made; traces = traces room reached }

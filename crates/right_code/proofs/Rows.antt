@@ -1,6 +1,6 @@
 -- The task of a program whose variables stand behind each other has its jobs, and an image that is
 -- laid out for it has its variables behind each other.
-use Rattle.std.proofs.Common.{ℕ, ◌≡◌, ◌≤◌, ◌+◌, List, [], ◌∷◌, None, sym, ◌∙◌, ap, subst, arith}
+use Rattle.std.proofs.Common.{ℕ, ◌≡◌, ◌≤◌, ◌+◌, false, List, [], ◌∷◌, None, refl, sym, ◌∙◌, ap, subst, arith}
 use Rattle.net_model.specs.declared.hardware.Netlist.{Netlist}
 use Rattle.net_model.specs.declared.hardware.Storage.{Storage}
 use Rattle.net_model.specs.CheckedRules.{memory_addr_width}
@@ -19,14 +19,17 @@ use Rattle.code_model.specs.Layout.{need_of, variables_of}
 use Rattle.code_model.specs.Places.{Apart, places_from}
 use Rattle.code_model.specs.Right.{IsLaidOut}
 use Rattle.form_model.specs.Rules.{Destination}
+use Rattle.src_trees.specs.Flows.{program_flow, program_works}
 use Rattle.src_trees.specs.Held.{HoldsVars, LieWithin}
 use Rattle.src_trees.specs.Lowered.{Work}
+use Rattle.src_trees.specs.Meant.{DoProgram}
 use Rattle.src_trees.specs.Measures.{AllSmall, TreesAre}
 use Rattle.src_trees.specs.Seen.{InReach}
 use Rattle.src_trees.proofs.Cells.{row_cell_room, row_held}
 use Rattle.src_trees.proofs.Following.{own_does}
 use Rattle.src_trees.proofs.Measured.{program_small}
 use Rattle.src_trees.proofs.Parts.{works_in_length}
+use Rattle.src_trees.proofs.TurnedTests.{told_nowhere, turned_nowhere}
 use Rattle.right_code.specs.Images.{IsLaidAt}
 use Rattle.right_code.specs.Tasks.{HasJobs, IsChecked, row_memory, row_task}
 use Rattle.right_code.specs.Works.{node_limit}
@@ -56,7 +59,12 @@ module _ (netlist : Netlist) (width : ℕ) (l : Listing) (modes : KeepsModes net
   row_jobs = record {
     held = held;
     room = row_cell_room width (memory_addr_width netlist.storages) (temp_count width l) (memory_size netlist.storages) l.vars room;
-    meant = own_does (row_memory netlist width l) (temp_count width l) l held;
+    turned = λ tree. false;
+    only = λ at tree e. refl;
+    flow = sym (turned_nowhere (program_flow l));
+    meant =
+        subst (DoProgram (row_memory netlist width l) (temp_count width l) l) (sym (told_nowhere (program_works (row_memory netlist width l) l)))
+        (own_does (row_memory netlist width l) (temp_count width l) l held);
     count = works_in_length (row_memory netlist width l) (acts_of l.body);
     one = works_one (row_memory netlist width l) (acts_of l.body);
     tests = program_tests (row_memory netlist width l) l;

@@ -19,7 +19,6 @@ use Rattle.net_model.specs.ModeRules.{base_at}
 use Rattle.right_code.specs.Cuts.{AreBlockCuts, cuts_of, plans_at, with_mode}
 use Rattle.emit_seq.specs.Spares.{wanted}
 use Rattle.src_trees.specs.Blocks.{IsAssignBlock, jobs_at}
-use Rattle.src_trees.specs.Flows.{program_flow}
 use Rattle.src_trees.specs.Held.{HasCellRoom, HoldsVars}
 use Rattle.src_trees.specs.Lowered.{Work}
 use Rattle.branch_fix.specs.Bounds.{program_bound}
@@ -77,20 +76,20 @@ pub record IsMadeFor (task : Task) (image : Image) : Type 0 where
   pub plans : List Planned
   pub planned : ArePlans task isas plans
   pub costs : image.costs ≡ numbered 0 (plan_costs (task_works task) plans)
-  -- what stands at the places of the program's flow: blocks of so many words, tests with their
+  -- what stands at the places of the task's flow: blocks of so many words, tests with their
   -- branch forms and settings, jumps and the end, where in rounds each relative branch became three
   -- words that doesn't show its distance. Tests and jumps have the forms of mode 0 that keep it
   pub sizes : List ℕ
   pub settings : List (ℕ × ℕ)
   pub parts : List Part
-  pub settled : IsFixpoint (isas 0).rules (parts_of (isas 0).rules (program_flow task.listing) sizes settings) parts
+  pub settled : IsFixpoint (isas 0).rules (parts_of (isas 0).rules task.flow sizes settings) parts
   -- the groups and the words of each block and of each test's operands, by the block's number
   pub groups : ℕ → List (List Step)
   pub words : ℕ → List ℕ
-  pub blocks : (at n block size : ℕ) → IsAssignBlock (program_flow task.listing) at n
+  pub blocks : (at n block size : ℕ) → IsAssignBlock task.flow at n
       → slice_get parts at ≡ Some (Block block size)
       → AreBlockCuts task isas
-      (cuts_of (jobs_at (program_flow task.listing) (task_works task) at n) (plans_at (program_flow task.listing) plans at n))
+      (cuts_of (jobs_at task.flow (task_works task) at n) (plans_at task.flow plans at n))
       (groups block) (words block)
       × (size ≡ length (words block))
   pub tests : (at : ℕ) (f : Fork) → slice_get parts at ≡ Some (Test f)
@@ -106,7 +105,7 @@ pub record IsMadeFor (task : Task) (image : Image) : Type 0 where
   -- each test has one mark with its tree's number, at the first word of its code, and the last word
   -- has that of the end
   pub marks : image.marks ≡ marks_from 0 parts
-  pub marked : AreMarked (program_flow task.listing) (length (words_of image)) image.marks
+  pub marked : AreMarked task.flow (length (words_of image)) image.marks
   -- there are no more words than the bound
   pub most : length (words_of image) ≤ program_bound task.listing (plan_costs (task_works task) plans)
   -- each word lists the patterns of its group's steps, or that of its jump or branch, by the numbers

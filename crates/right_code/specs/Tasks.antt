@@ -10,6 +10,7 @@ use Rattle.src_model.specs.Rules.{first_fault, temp_count}
 use Rattle.src_model.specs.Sizes.{statements_in}
 use Rattle.src_model.specs.Written.{Listing, listing_of, acts_of}
 use Rattle.code_model.specs.declared.image.Place.{Place as VariablePlace}
+use Rattle.form_model.specs.declared.flow.Flow.{Flow}
 use Rattle.form_model.specs.Covers.{Stock}
 use Rattle.form_model.specs.Rules.{Rule}
 use Rattle.net_model.specs.ModeRules.{KeepsModes, Moded}
@@ -19,15 +20,17 @@ use Rattle.src_trees.specs.Lowered.{MemoryMap, Work}
 use Rattle.src_trees.specs.Measures.{AllSmall}
 use Rattle.src_trees.specs.Meant.{DoProgram}
 use Rattle.src_trees.specs.Seen.{memory_map}
+use Rattle.src_trees.specs.Turned.{Turns, TurnsTests, told_works, turned_flow}
 use Rattle.right_code.specs.Works.{AllOne, AreTests, node_limit}
 
 -- a netlist, how many bits a word has, a program that keeps the rules for such words, where its
--- variables stand in the netlist's data memory, and its jobs
+-- variables stand in the netlist's data memory, its flow and its jobs
 pub record Task : Type 0 where
   pub netlist : Netlist
   pub width : ℕ
   pub listing : Listing
   pub places : List VariablePlace
+  pub flow : List Flow
   pub works : List Work
 
 -- the data memory with the program's variables
@@ -45,15 +48,20 @@ task_works task = task.works
 abbrev pub task_temps : Task → ℕ
 task_temps task = temp_count task.width task.listing
 
--- the program's variables stand at these places, behind its temporary cells, and these are jobs that
--- do what its statements say: one for each tree, of one tree but for tests, and none too large
+-- the program's variables stand at these places, behind its temporary cells; the flow is the
+-- program's, where some tests may be turned; and these are jobs that do what its statements say, once
+-- those of turned tests are turned back: one for each tree, of one tree but for tests, and none too
+-- large
 pub record HasJobs (task : Task) : Type 0 where
   pub held : HoldsVars (task_temps task) task.listing.vars (task_memory task)
   pub room : HasCellRoom (task_temps task) (task_memory task) (memory_size task.netlist.storages)
-  pub meant : DoProgram (task_memory task) (task_temps task) task.listing task.works
+  pub turned : Turns
+  pub only : TurnsTests turned (program_flow task.listing)
+  pub flow : task.flow ≡ turned_flow turned (program_flow task.listing)
+  pub meant : DoProgram (task_memory task) (task_temps task) task.listing (told_works turned task.works)
   pub count : length task.works ≡ statements_in (acts_of task.listing.body)
   pub one : AllOne task.works
-  pub tests : AreTests task.works (program_flow task.listing)
+  pub tests : AreTests task.works task.flow
   pub small : AllSmall task.width (task_temps task) node_limit task.works
 
 -- the netlist keeps its rules in each mode, and the program its own; its words are those of the data
@@ -80,6 +88,7 @@ row_task netlist width l = record {
   width = width;
   listing = l;
   places = (row_memory netlist width l).places;
+  flow = program_flow l;
   works = program_works (row_memory netlist width l) l;
 }
 

@@ -27,8 +27,9 @@ ghost use Rattle.right_code.specs.Tasks.{IsChecked, Task, row_task, task_works};
 
 /// The task of a netlist and a program that keep their rules is checked, where the program's words
 /// are those of the netlist's data memory, which has the cells that the program needs: the variables
-/// stand behind the temporary cells, and the program's jobs do what it says. An image that is laid
-/// out for it has the variables there, in the order of their declarations.
+/// stand behind the temporary cells, its flow is the program's, and the program's jobs do what it
+/// says. An image that is laid out for it has the variables there, in the order of their
+/// declarations.
 pub fn law_of_tasks()
     ensures checked { (netlist : Netlist) (width : ℕ) (l : Listing) → KeepsModes netlist → first_fault width l ≡ None →
         memory_width netlist.storages ≡ width → need_of width l ≤ memory_size netlist.storages →

@@ -6,9 +6,11 @@
 //! The netlist may have a register file; the code keeps the program's cells in the data memory. It
 //! may have modes: such code starts in mode 0 and comes to each mark in it, and a block is cut at
 //! the words that put the mode.
-//! A task names the places of its variables and its jobs; `law_of_tasks`: it is checked where the
-//! variables stand behind the temporary cells and the jobs are the program's own (`row_task`), and
-//! an image that is laid out for it has the variables there (`IsLaidOut`).
+//! A task names the places of its variables, its flow and its jobs. The flow is the program's, where
+//! some tests may be turned, with their targets exchanged and the opposite trees (`HasJobs`).
+//! `law_of_tasks`: a task is checked where the variables stand behind the temporary cells and the
+//! flow and the jobs are the program's own (`row_task`), and an image that is laid out for it has the
+//! variables there (`IsLaidOut`).
 //! `law_of_block_words`, `law_of_test_words` and `law_of_jump_words`: each step and each jump of
 //! such code has a word. `law_of_chosen`: a chosen cover has a cell for each of its cuts.
 //! `law_of_lists`, `law_of_isas`, `law_of_costs` and `law_of_bare`: what the definitions ask for is
@@ -27,11 +29,12 @@
 //!   (the definition of right code), `Jobs` (the steps of jobs), `Laid`, `Forks`.
 //! - `specs/Inner/`, between the definition of an image and its trace: `Blocks`, `Code`, `Known`,
 //!   `Jobs`, `Laid` and `Forks`.
-//! - `proofs/`: `Right` on top; `Rows` for the task of one memory; `Made`, `Given`, `Chosen`,
-//!   `Ordered`, `Coded` from the image to the trace; `Kept` and `ModeKept` for forms that keep the
-//!   mode; `Plain`, `Listed`, `Turning`, `Turns`, `Swapping` for forms; `Standing`, `Layouts`,
-//!   `Walked`, `Forked`, `Branching`, `Ways` for words; `Worded` and `Jumping` for the laws of words;
-//!   `OneForms`, `OneBound`, `Bare` for what is one. docs/ARCHITECTURE.md goes through them in order.
+//! - `proofs/`: `Right` on top; `Rows` for the task of one memory; `TaskFlows` for a task's flow;
+//!   `Made`, `Given`, `Chosen`, `Ordered`, `Coded` from the image to the trace; `Kept` and `ModeKept`
+//!   for forms that keep the mode; `Plain`, `Listed`, `Turning`, `Turns`, `Swapping` for forms;
+//!   `Standing`, `Layouts`, `Walked`, `Forked`, `Branching`, `Ways` for words; `Worded` and `Jumping`
+//!   for the laws of words; `OneForms`, `OneBound`, `Bare` for what is one. docs/ARCHITECTURE.md goes
+//!   through them in order.
 #![tactic(auto)]
 
 mod laws;

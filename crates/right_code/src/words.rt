@@ -11,7 +11,6 @@ ghost use Rattle.mode_set.specs.Costs.{Planned};
 ghost use Rattle.mode_set.specs.Keeping.{Isas, held};
 ghost use Rattle.net_model.specs.ModeRules.{base_at};
 ghost use Rattle.src_trees.specs.Blocks.{jobs_at};
-ghost use Rattle.src_trees.specs.Flows.{program_flow};
 ghost use Rattle.src_trees.specs.Lowered.{Work};
 ghost use Rattle.word_fit.specs.Fits.{fits_over};
 ghost use Rattle.word_fit.specs.Groups.{AllHaveWords};
@@ -34,8 +33,8 @@ ghost use Rattle.mode_set.specs.Words.{FitsTurn};
 pub fn law_of_block_words()
     ensures { (task : Task) → IsChecked task → (isas : Isas task.netlist) →
         (plans : List Planned) → ArePlans task isas plans → (at n k : ℕ) (cut : Cut) →
-        slice_get (cuts_of (jobs_at (program_flow task.listing) (task_works task) at n)
-        (plans_at (program_flow task.listing) plans at n)) k ≡ Some cut →
+        slice_get (cuts_of (jobs_at task.flow (task_works task) at n)
+        (plans_at task.flow plans at n)) k ≡ Some cut →
         (live : Regs) → ((r : ℕ) → live r ≡ true → with_mode task.netlist.special no_regs r ≡ true) →
         AllHaveWords (operation_in (base_at task.netlist (held task.netlist cut.mode)) (isas cut.mode).patterns)
         (fits_over (base_at task.netlist (held task.netlist cut.mode))
@@ -58,13 +57,13 @@ pub fn law_of_test_words()
         (singles (job_steps (mode_stock task isas 0) job planned.choice)) live }
 {}
 
-/// And each jump and branch of the layout of a program, whose branches have the forms and the
+/// And each jump and branch of the layout of a task's flow, whose branches have the forms and the
 /// settings of the chosen covers: one that keeps the mode.
 pub fn law_of_jump_words()
     ensures { (task : Task) → IsChecked task → (isas : Isas task.netlist) →
         (plans : List Planned) → ArePlans task isas plans →
         (parts : List Part) →
-        IsLayout (isas 0).rules (program_flow task.listing) parts (greatest_reach (isas 0).rules) →
+        IsLayout (isas 0).rules task.flow parts (greatest_reach (isas 0).rules) →
         ((at : ℕ) (f : Fork) → slice_get parts at ≡ Some (Test f) →
         (job : Work) → slice_get (task_works task) f.tree ≡ Some job →
         (planned : Planned) → slice_get plans f.tree ≡ Some planned →

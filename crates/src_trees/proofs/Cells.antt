@@ -1,6 +1,6 @@
 -- The cells of variables: where they stand in a store and in memory, and that those of two
 -- variables are apart.
-use Rattle.std.proofs.Common.{ℕ, zero, suc, ◌≡◌, ◌≤◌, ◌<◌, ◌+◌, ◌-◌, ◌^◌, ◌⊎◌, inl, inr, Bool, true, false, if◌then◌else◌, List, [], ◌∷◌, ◌++◌, length, take, drop, Some, refl, sym, ◌∙◌, ap, subst, arith, slice_index, slice_set}
+use Rattle.std.proofs.Common.{ℕ, zero, suc, ◌≡◌, ◌≤◌, ◌<◌, ◌+◌, ◌-◌, ◌^◌, ◌⊎◌, inl, inr, Bool, true, false, if◌then◌else◌, List, [], ◌∷◌, ◌++◌, length, take, drop, Option, None, Some, refl, sym, ◌∙◌, ap, subst, arith, slice_index, slice_set}
 use Rattle.std.proofs.lemmas.List.{get_or-take, get_or-drop, length-take, length-drop, length-append, set-append_left, set-append_right}
 use Rattle.std.proofs.Math.Seq.{get_or-append_right}
 use Rattle.std.proofs.Math.ListN.{get_or-append}
@@ -12,7 +12,8 @@ use Rattle.code_model.specs.declared.image.Place.{Place as VariablePlace}
 use Rattle.code_model.specs.Places.{cells_at, places_from}
 use Rattle.code_model.specs.Layout.{variables_of}
 use Rattle.code_model.proofs.Stores.{drop-plus, drop-set, take-set}
-use Rattle.src_trees.specs.Lowered.{base_of}
+use Rattle.src_trees.specs.Lowered.{Work, base_of}
+use Rattle.src_trees.specs.Doing.{destination_cell, done, job_value, put_in}
 use Rattle.src_trees.specs.Seen.{memory_map, InReach}
 use Rattle.src_trees.specs.Held.{StandFor, LieWithin, IsAlone, AreAlone, HoldsVars, HasCellRoom}
 
@@ -235,6 +236,23 @@ seen_below P (p ∷ places) cells some h c =
     append_below P (cells_of_place p cells) (cells_at places cells)
     (take_below P p.len (drop p.address cells) (λ i. subst (λ n. n < P) (sym (get_or-drop p.address cells i 0)) (h (p.address + i))))
     (seen_below P places cells some h) c
+
+-- ---- cells that fit
+
+set_below : (P : ℕ) (cells : List ℕ) (i v : ℕ) → v < P → ((k : ℕ) → slice_index cells k < P) → (k : ℕ) → slice_index (slice_set cells i v) k < P
+set_below P [] i v less h k = h k
+set_below P (x ∷ cells) zero v less h zero = less
+set_below P (x ∷ cells) zero v less h (suc k) = h (suc k)
+set_below P (x ∷ cells) (suc i) v less h zero = h zero
+set_below P (x ∷ cells) (suc i) v less h (suc k) = set_below P cells i v less (λ j. h (suc j)) k
+
+put_below : (P : ℕ) (to : Option ℕ) (v : ℕ) (cells : List ℕ) → v < P → ((k : ℕ) → slice_index cells k < P) → (k : ℕ) → slice_index (put_in to v cells) k < P
+put_below P None v cells less h = h
+put_below P (Some address) v cells less h = set_below P cells address v less h
+
+-- a job whose value fits leaves cells that fit
+pub done_words : (P : ℕ) (work : Work) (cells : List ℕ) → ((k : ℕ) → slice_index cells k < P) → job_value cells work.trees < P → (k : ℕ) → slice_index (done work cells) k < P
+done_words P work cells h less = put_below P (destination_cell cells work.destination) (job_value cells work.trees) cells less h
 
 -- ---- variables behind each other
 

@@ -2,6 +2,7 @@
 use Rattle.std.proofs.Common.{ℕ, ◌≡◌, ◌<◌, ◌+◌, ◌^◌, ◌==◌, true, nat_lt, List, length, Option, Some, None, sym, ◌∙◌, ap, subst, arith, slice_index, slice_set}
 use Rattle.std.specs.Prelude.{int_lt}
 use Rattle.std.proofs.lemmas.Bool.{ltb-true}
+use Rattle.std.proofs.lemmas.Nat.{pow_pos}
 use Rattle.rec_bits.proofs.Booleans.{both}
 use Rattle.rec_bits.specs.Operators.{apply2_of, bit_of, signed_of}
 use Rattle.rec_bits.specs.declared.operator.Op2.TheVariants.{Add, Sub}
@@ -13,7 +14,7 @@ use Rattle.src_model.specs.Written.{Phrase, Place, Test, shape_at as shape_as}
 use Rattle.src_model.specs.Names.{declared, is_plain}
 use Rattle.src_model.specs.Indexes.{number_of}
 use Rattle.src_model.specs.Loops.{place_shape}
-use Rattle.src_model.specs.Meaning.{operand_width, shape_value, index_value, cell_of, assigned, compares, holds, cells_in, first_cell}
+use Rattle.src_model.specs.Meaning.{operand_width, shape_value, shape_width, index_value, cell_of, assigned, compares, holds, cells_in, first_cell}
 use Rattle.src_model.specs.Trace.{counter_value, started, stepped}
 use Rattle.src_model.specs.Fitting.{Fitting, FitsSides}
 use Rattle.src_trees.specs.Lowered.{MemoryMap, base_of, tree_of, element_address, element_destination, assigned_destination, assign_work, compared_trees, answer, test_work, start_work, step_work}
@@ -22,7 +23,7 @@ use Rattle.src_trees.specs.Seen.{seen_store, tree_value, ReadsCells}
 use Rattle.src_trees.specs.Held.{HoldsVars, HasCellRoom}
 use Rattle.src_trees.specs.Doing.{destination_cell, put_at, done, AllRead, DestinationLies, Lies, AllAre}
 use Rattle.src_model.proofs.CellLemmas.{plain_var}
-use Rattle.src_trees.proofs.Cells.{seen_put}
+use Rattle.src_trees.proofs.Cells.{seen_below, seen_put}
 use Rattle.src_trees.proofs.Meant.{Placed, tree_width, plain_placed, plain_seen, addressed, meant}
 use Rattle.src_model.proofs.ValueLemmas.{value_fits}
 use Rattle.src_trees.proofs.Values.{lt_not_le, int_lt_not_le, not_not, difference_zero}
@@ -116,6 +117,14 @@ module _ (m : MemoryMap) (temps : ℕ) (vars : List Declared) (held : HoldsVars 
         at = a.at;
         lies = record { reads = (h.reads, tt); destination = a.lies; below = room.below };
       }
+
+  -- its value fits a word
+  pub assign_fits : ((k : ℕ) → slice_index cells k < 2 ^ m.word) → (e : Phrase) → Fitting m.word m.word e.shape → Known vars e.shape → is_inside m.word vars (seen_store m cells) e.shape ≡ true
+      → shape_width m.word m.word e.shape ≡ m.word → tree_value cells (tree_of m m.word e.shape) < 2 ^ m.word
+  assign_fits words e f k i w =
+      let seen : (c : ℕ) → slice_index (seen_store m cells) c < 2 ^ m.word = seen_below (2 ^ m.word) m.places cells (pow_pos m.word) words in
+      subst (λ v. v < 2 ^ m.word) (sym (meant m temps vars held cells room m.word e.shape f k i).value)
+      (subst (λ n. shape_value m.word vars (seen_store m cells) m.word e.shape < 2 ^ n) w (value_fits m.word vars (seen_store m cells) seen m.word e.shape f))
 
   -- ---- the counter of a `for`
 

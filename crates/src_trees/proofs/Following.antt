@@ -2,6 +2,7 @@
 -- change that keeps that.
 use Rattle.std.proofs.Common.{ℕ, ◌≡◌, ◌+◌, List, [], ◌∷◌, ◌++◌, map, Some, refl, ◌∙◌, ap, subst, arith, slice_get}
 use Rattle.std.specs.Option.{option_map}
+use Rattle.std.proofs.lemmas.Nat.{mod_below, pow_pos}
 use Rattle.std.proofs.lemmas.Option.{slice_get-map}
 use Rattle.rec_bits.proofs.Booleans.{and_left, and_right}
 use Rattle.src_model.specs.declared.program.Var.{Var as Declared}
@@ -12,26 +13,29 @@ use Rattle.src_trees.specs.Flows.{program_works}
 use Rattle.src_trees.specs.Held.{HoldsVars}
 use Rattle.src_trees.specs.Meant.{HasJob, count_test, DoAct, DoActs, DoElse, DoProgram, KeepsMeaning}
 use Rattle.src_trees.proofs.Parts.{Stand, stand_all, stand_left, stand_right, works_in_length, works_length}
-use Rattle.src_trees.proofs.Done.{assign_done, start_done, step_done, test_asked}
+use Rattle.src_trees.proofs.Done.{assign_done, assign_fits, start_done, step_done, test_asked}
 
 -- the jobs as `lower` gives them
 pub own_meaning : (m : MemoryMap) (temps : ℕ) (vars : List Declared) → HoldsVars temps vars m → KeepsMeaning m temps vars (λ work. work)
 own_meaning m temps vars held = record {
   assigns = λ place e. record {
-    lies = λ cells room h. (assign_done m temps vars held cells room place e h.left.fits h.right.fits h.left.known h.right.known h.left.inside h.right.inside).lies;
-    store = λ cells room h. (assign_done m temps vars held cells room place e h.left.fits h.right.fits h.left.known h.right.known h.left.inside h.right.inside).is;
+    lies = λ cells c h. (assign_done m temps vars held cells c.room place e h.0.left.fits h.0.right.fits h.0.left.known h.0.right.known h.0.left.inside h.0.right.inside).lies;
+    store = λ cells c h. (assign_done m temps vars held cells c.room place e h.0.left.fits h.0.right.fits h.0.left.known h.0.right.known h.0.left.inside h.0.right.inside).is;
+    fits = λ cells c h. assign_fits m temps vars held cells c.room c.words e h.0.right.fits h.0.right.known h.0.right.inside h.1;
   };
   tests = λ test. record {
-    lies = λ cells room h. (test_asked m temps vars held cells room test h.words h.sides h.left_known h.right_known (and_left _ _ h.inside) (and_right _ _ h.inside)).lies;
-    value = λ cells room h. (test_asked m temps vars held cells room test h.words h.sides h.left_known h.right_known (and_left _ _ h.inside) (and_right _ _ h.inside)).are;
+    lies = λ cells c h. (test_asked m temps vars held cells c.room test h.words h.sides h.left_known h.right_known (and_left _ _ h.inside) (and_right _ _ h.inside)).lies;
+    value = λ cells c h. (test_asked m temps vars held cells c.room test h.words h.sides h.left_known h.right_known (and_left _ _ h.inside) (and_right _ _ h.inside)).are;
   };
   starts = λ counter from. record {
-    lies = λ cells room h. (start_done m temps vars held cells room counter from h).1;
-    store = λ cells room h. (start_done m temps vars held cells room counter from h).0;
+    lies = λ cells c h. (start_done m temps vars held cells c.room counter from h.0).1;
+    store = λ cells c h. (start_done m temps vars held cells c.room counter from h.0).0;
+    fits = λ cells c h. h.1;
   };
   steps = λ counter. record {
-    lies = λ cells room h. (step_done m temps vars held cells room counter h).1;
-    store = λ cells room h. (step_done m temps vars held cells room counter h).0;
+    lies = λ cells c h. (step_done m temps vars held cells c.room counter h).1;
+    store = λ cells c h. (step_done m temps vars held cells c.room counter h).0;
+    fits = λ cells c h. mod_below _ _ (pow_pos m.word);
   };
 }
 

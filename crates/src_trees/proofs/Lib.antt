@@ -6,6 +6,7 @@ pub mod Parts
 pub mod Following
 pub mod Measured
 pub mod Standing
+pub mod TurnedTests
 pub mod Temps
 pub mod LowerLemmas
 pub mod LowerCases

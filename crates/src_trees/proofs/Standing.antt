@@ -37,13 +37,13 @@ use Rattle.src_trees.specs.Flows.{program_flow, places_for, places_in, places_el
 use Rattle.src_model.proofs.SoundLemmas.{program_sound}
 use Rattle.src_trees.proofs.Parts.{stand_all, Stand, stand_left, stand_right, in_length, flow_length, all_done_more, all_lie_more, all_done_length, all_are_at, or_former, or_later, entered_by, begins_entered, begins_other, begins_behind}
 use Rattle.src_trees.specs.Seen.{seen_store, tree_value, CanAssign, CanTest}
-use Rattle.src_trees.specs.Held.{HasCellRoom, HoldsVars, LieWithin}
+use Rattle.src_trees.specs.Held.{HasCellRoom, HoldsCells, HoldsVars, LieWithin}
 use Rattle.src_trees.specs.Meant.{DoesAssign, DoesStart, DoesStep, Tells as TellsTest, count_test, DoAct, DoActs, DoElse, DoProgram}
-use Rattle.src_trees.specs.Doing.{done, all_done, Lies, AllLie, AllAre}
+use Rattle.src_trees.specs.Doing.{done, all_done, job_value, Lies, AllLie, AllAre}
 use Rattle.src_model.specs.Inner.Sound.{Holds, Turns, SoundAssign, SoundTest, SoundCount, Sound, SoundIn, SoundElse}
 use Rattle.src_trees.specs.Blocks.{is_assign, enters, continues, IsAssignBlock, job_list, job_at, jobs_at}
 use Rattle.src_trees.specs.Placed.{Comes, DoesJobs, DoesTest, JumpComes, IsPlaced}
-use Rattle.src_trees.proofs.Cells.{seen_behind, seen_length, seen_below}
+use Rattle.src_trees.proofs.Cells.{done_words, seen_behind, seen_length, seen_below}
 use Rattle.src_model.proofs.RangeLemmas.{inside}
 use Rattle.src_model.proofs.CounterLemmas.{assign_holds, start_turns, turn_holds, step_turns}
 use Rattle.src_trees.proofs.Measured.{both_true}
@@ -77,13 +77,16 @@ entry_within without at = omega arith
 entry_within (otherwise list) at = omega arith
 
 module _ (netlist : Netlist) (image : Image) (mem : MemoryMap) (temps : ℕ) (vars : List Declared) (flow : List Flow) (jobs : List Work) (starts : ℕ → ℕ) (end : ℕ)
-    (room : HasCellRoom temps mem (memory_size netlist.storages)) (places : image.places ≡ mem.places) (placed : IsPlaced netlist image temps flow jobs starts end) where
+    (room : HasCellRoom temps mem (memory_size netlist.storages)) (places : image.places ≡ mem.places) (wide : memory_width netlist.storages ≡ mem.word) (placed : IsPlaced netlist image temps flow jobs starts end) where
   store_is : (s : State) → store_in image s ≡ seen_store mem s.cells
   store_is s = ap (λ ps. cells_at ps s.cells) places
 
   -- cells of the memory have room for the variables
   room_in : (s : State) → IsState netlist s → HasCellRoom temps mem (length s.cells)
   room_in s h = subst (HasCellRoom temps mem) (sym (h.cells InMemory)) room
+
+  held_in : (s : State) → IsState netlist s → HoldsCells temps mem s.cells
+  held_in s h = record { room = room_in s h; words = λ k. subst (λ w. slice_index s.cells k < 2 ^ w) wide (h.fits.cells InMemory k) }
 
   -- up to a place i, the block that begins at b has n assignments; at b the store keeps c, they
   -- change it by g, and then it keeps j
@@ -95,6 +98,7 @@ module _ (netlist : Netlist) (image : Image) (mem : MemoryMap) (temps : ℕ) (va
     lie : (s : State) → IsCalm netlist (starts b) s → Meets mem.word vars c (store_in image s) → AllLie temps s.cells (jobs_at flow jobs b n)
     store : (s : State) → IsCalm netlist (starts b) s → Meets mem.word vars c (store_in image s) → seen_store mem (all_done (jobs_at flow jobs b n) s.cells) ≡ g (store_in image s)
     meets : (s : State) → IsCalm netlist (starts b) s → Meets mem.word vars c (store_in image s) → Meets mem.word vars j (g (store_in image s))
+    words : (s : State) → IsCalm netlist (starts b) s → Meets mem.word vars c (store_in image s) → (k : ℕ) → slice_index (all_done (jobs_at flow jobs b n) s.cells) k < 2 ^ mem.word
 
   -- the states at a place where a block or something else begins
   abbrev Stated : ℕ → Phase → State → Type 0
@@ -120,6 +124,7 @@ module _ (netlist : Netlist) (image : Image) (mem : MemoryMap) (temps : ℕ) (va
     lie = λ s a k. tt;
     store = λ s a k. sym (store_is s);
     meets = λ s a k. k;
+    words = λ s a k. (held_in s a.here.state).words;
   }
 
   opened : (i : ℕ) (j : Phase) (way : Onward) (m : ℕ) → continues flow i ≡ false → StandsIn i j way m → StandsAt i j way m
@@ -151,8 +156,9 @@ module _ (netlist : Netlist) (image : Image) (mem : MemoryMap) (temps : ℕ) (va
 
   -- a job that does what an assignment says
   record Does (work : Work) (j k : Phase) (change : List ℕ → List ℕ) : Type 0 where
-    lies : (cells : List ℕ) → HasCellRoom temps mem (length cells) → Meets mem.word vars j (seen_store mem cells) → Lies temps cells work
-    is : (cells : List ℕ) → HasCellRoom temps mem (length cells) → Meets mem.word vars j (seen_store mem cells) → seen_store mem (done work cells) ≡ change (seen_store mem cells)
+    lies : (cells : List ℕ) → HoldsCells temps mem cells → Meets mem.word vars j (seen_store mem cells) → Lies temps cells work
+    is : (cells : List ℕ) → HoldsCells temps mem cells → Meets mem.word vars j (seen_store mem cells) → seen_store mem (done work cells) ≡ change (seen_store mem cells)
+    fits : (cells : List ℕ) → HoldsCells temps mem cells → Meets mem.word vars j (seen_store mem cells) → job_value cells work.trees < 2 ^ mem.word
     keeps : (store : List ℕ) → Meets mem.word vars j store → Meets mem.word vars k (change store)
 
   one_more : (i b n : ℕ) (c j k : Phase) (g change : List ℕ → List ℕ) (tree : ℕ) (work : Work) → slice_get flow i ≡ Some (Assign tree) → slice_get jobs tree ≡ Some work → Does work j k change
@@ -167,10 +173,12 @@ module _ (netlist : Netlist) (image : Image) (mem : MemoryMap) (temps : ℕ) (va
         first = p.first;
         inner = λ x lt some. by_inner x lt some (order x n lt);
         assigns = λ x lt. by_assigns x item (order x n lt);
-        lie = λ s a m. subst (AllLie temps s.cells) (sym more) (all_lie_more temps (jobs_at flow jobs b n) work s.cells (p.lie s a m) (does.lies _ (long s a) (met s a m)));
+        lie = λ s a m. subst (AllLie temps s.cells) (sym more) (all_lie_more temps (jobs_at flow jobs b n) work s.cells (p.lie s a m) (does.lies _ (long s a m) (met s a m)));
         store = λ s a m.
-            ap (λ ts. seen_store mem (all_done ts s.cells)) more ∙ ap (seen_store mem) (all_done_more (jobs_at flow jobs b n) work s.cells) ∙ does.is _ (long s a) (met s a m) ∙ ap change (p.store s a m);
+            ap (λ ts. seen_store mem (all_done ts s.cells)) more ∙ ap (seen_store mem) (all_done_more (jobs_at flow jobs b n) work s.cells) ∙ does.is _ (long s a m) (met s a m) ∙ ap change (p.store s a m);
         meets = λ s a m. does.keeps _ (p.meets s a m);
+        words = λ s a m. subst (λ cells. (k : ℕ) → slice_index cells k < 2 ^ mem.word) (sym (ap (λ ts. all_done ts s.cells) more ∙ all_done_more (jobs_at flow jobs b n) work s.cells))
+            (done_words (2 ^ mem.word) work _ (p.words s a m) (does.fits _ (long s a m) (met s a m)));
       }
     where
       order : (x n : ℕ) → x < suc n → (x < n) ⊎ (x ≡ n)
@@ -192,8 +200,8 @@ module _ (netlist : Netlist) (image : Image) (mem : MemoryMap) (temps : ℕ) (va
       by_assigns x item (inl less) = p.assigns x less
       by_assigns x item (inr same) = ap (λ y. is_assign (slice_get flow (b + y))) same ∙ ap is_assign item
 
-      long : (s : State) → IsCalm netlist (starts b) s → HasCellRoom temps mem (length (all_done (jobs_at flow jobs b n) s.cells))
-      long s a = subst (HasCellRoom temps mem) (sym (all_done_length (jobs_at flow jobs b n) s.cells)) (room_in s a.here.state)
+      long : (s : State) → IsCalm netlist (starts b) s → Meets mem.word vars c (store_in image s) → HoldsCells temps mem (all_done (jobs_at flow jobs b n) s.cells)
+      long s a m = record { room = subst (HasCellRoom temps mem) (sym (all_done_length (jobs_at flow jobs b n) s.cells)) (room_in s a.here.state); words = p.words s a m }
 
       met : (s : State) → IsCalm netlist (starts b) s → Meets mem.word vars c (store_in image s) → Meets mem.word vars j (seen_store mem (all_done (jobs_at flow jobs b n) s.cells))
       met s a m = subst (Meets mem.word vars j) (sym (p.store s a m)) (p.meets s a m)
@@ -238,8 +246,8 @@ module _ (netlist : Netlist) (image : Image) (mem : MemoryMap) (temps : ℕ) (va
 
   -- a job whose trees tell a test, and what the store keeps behind it
   record Tells (work : Work) (cmp : Cmp) (test : List ℕ → Bool) (j k other : Phase) : Type 0 where
-    lies : (cells : List ℕ) → HasCellRoom temps mem (length cells) → Meets mem.word vars j (seen_store mem cells) → Lies temps cells work
-    are : (cells : List ℕ) → HasCellRoom temps mem (length cells) → Meets mem.word vars j (seen_store mem cells) → AllAre (bit_of (answer cmp (test (seen_store mem cells)))) cells work.trees
+    lies : (cells : List ℕ) → HoldsCells temps mem cells → Meets mem.word vars j (seen_store mem cells) → Lies temps cells work
+    are : (cells : List ℕ) → HoldsCells temps mem cells → Meets mem.word vars j (seen_store mem cells) → AllAre (bit_of (answer cmp (test (seen_store mem cells)))) cells work.trees
     on_true : (store : List ℕ) → Meets mem.word vars j store → test store ≡ true → Meets mem.word vars k store
     on_false : (store : List ℕ) → Meets mem.word vars j store → test store ≡ false → Meets mem.word vars other store
 
@@ -254,8 +262,8 @@ module _ (netlist : Netlist) (image : Image) (mem : MemoryMap) (temps : ℕ) (va
       → Tells work cmp test j k other → Asking i tree yes_to no_to test j k other
   asking i tree yes_to no_to work cmp test j k other at_flow at_jobs tells = by (holds_at_one cmp) refl at_flow
     where
-      long : (s : State) → Stated i j s → HasCellRoom temps mem (length s.cells)
-      long s q = room_in s q.0.here.state
+      long : (s : State) → Stated i j s → HoldsCells temps mem s.cells
+      long s q = held_in s q.0.here.state
 
       met : (s : State) → Stated i j s → Meets mem.word vars j (seen_store mem s.cells)
       met s q = subst (Meets mem.word vars j) (store_is s) q.1
@@ -338,24 +346,29 @@ module _ (netlist : Netlist) (image : Image) (mem : MemoryMap) (temps : ℕ) (va
 
   assign_does : (rounds : List Round) (place : Place) (e : Phrase) (work : Work) → SoundAssign mem.word vars rounds place e → DoesAssign mem temps vars place e work → Does work (body rounds) (body rounds) (assigned mem.word vars place e)
   assign_does rounds place e work f d = record {
-    lies = λ cells long h. d.lies cells long (can_assign rounds place e f (seen_store mem cells) h);
-    is = λ cells long h. d.store cells long (can_assign rounds place e f (seen_store mem cells) h);
+    lies = λ cells long h. d.lies cells long (can_assign rounds place e f (seen_store mem cells) h, f.width);
+    is = λ cells long h. d.store cells long (can_assign rounds place e f (seen_store mem cells) h, f.width);
+    fits = λ cells long h. d.fits cells long (can_assign rounds place e f (seen_store mem cells) h, f.width);
     keeps = λ store h. assign_holds mem.word vars rounds place e store f (can_assign rounds place e f store h).left.inside h;
   }
 
   start_does : (rounds : List Round) (counter : List ℕ) (from to : ℕ) (work : Work) → SoundCount mem.word vars rounds counter from to → DoesStart mem temps vars counter from work
       → Does work (body rounds) (turn rounds counter from to) (started vars counter from)
-  start_does rounds counter from to work f d = record {
-    lies = λ cells long h. d.lies cells long f.plain;
-    is = λ cells long h. d.store cells long f.plain;
-    keeps = λ store h. start_turns mem.word vars rounds counter from to f store h;
-  }
+  start_does rounds counter from to work f d =
+      let below : from < 2 ^ mem.word = omega (arith, f.fits.order, f.fits.below) in
+      record {
+        lies = λ cells long h. d.lies cells long (f.plain, below);
+        is = λ cells long h. d.store cells long (f.plain, below);
+        fits = λ cells long h. d.fits cells long (f.plain, below);
+        keeps = λ store h. start_turns mem.word vars rounds counter from to f store h;
+      }
 
   step_does : (rounds : List Round) (counter : List ℕ) (from to : ℕ) (work : Work) → SoundCount mem.word vars rounds counter from to → DoesStep mem temps vars counter work
       → Does work (body (record { counter = counter; from = from; to = to } ∷ rounds)) (turn rounds counter from to) (stepped mem.word vars counter)
   step_does rounds counter from to work f d = record {
     lies = λ cells long h. d.lies cells long f.plain;
     is = λ cells long h. d.store cells long f.plain;
+    fits = λ cells long h. d.fits cells long f.plain;
     keeps = λ store h. step_turns mem.word vars rounds counter from to f store h;
   }
 
@@ -535,11 +548,11 @@ placed_right netlist image m temps l jobs starts kept wide held room places does
     let at_end : slice_get (program_flow l) (places_in (acts_of l.body)) ≡ Some End =
     (stand_right (program_flow l) 0 (places_in (acts_of l.body)) (flow_in (acts_of l.body) 0 0) (End ∷ []) (let n = in_length (acts_of l.body) 0 0 in omega (arith, n)) (stand_all (program_flow l))).0 in
     let stands = λ (k : ℕ).
-    opened netlist image m temps l.vars (program_flow l) jobs starts end room places placed 0 (body []) (run_in m.word l.vars (acts_of l.body) 0 finish) k refl
-    (acts_stand netlist image m temps l.vars (program_flow l) jobs starts end room places placed [] (acts_of l.body) 0 0 (program_sound m.word l kept) (omega arith) in_flow does finish k
+    opened netlist image m temps l.vars (program_flow l) jobs starts end room places wide placed 0 (body []) (run_in m.word l.vars (acts_of l.body) 0 finish) k refl
+    (acts_stand netlist image m temps l.vars (program_flow l) jobs starts end room places wide placed [] (acts_of l.body) 0 0 (program_sound m.word l kept) (omega arith) in_flow does finish k
     (let e : end ≡ 0 + end = omega arith in
-    subst (λ n. StandsIn netlist image m temps l.vars (program_flow l) jobs starts end room places placed n (body []) finish k) e
-    (closed netlist image m temps l.vars (program_flow l) jobs starts end room places placed end (body []) finish k (omega arith) (begins_other (program_flow l) end End at_end refl)
+    subst (λ n. StandsIn netlist image m temps l.vars (program_flow l) jobs starts end room places wide placed n (body []) finish k) e
+    (closed netlist image m temps l.vars (program_flow l) jobs starts end room places wide placed end (body []) finish k (omega arith) (begins_other (program_flow l) end End at_end refl)
     (end_stands netlist image (IsRestful netlist) (starts end) (starts end - starts end) (λ s. IsCalm netlist (starts end) s × Meets m.word l.vars (body []) (store_in image s)) k
     (λ s q. record { state = q.0.here.state; mode = q.0.mode })
     (λ s q. ap (label_at image.marks) q.0.here.counter ∙ placed.end_label))))) in

@@ -1,6 +1,6 @@
 -- When a memory holds variables: each at a place of its own, in the order of the declarations, and
 -- none where another is.
-use Rattle.std.specs.Prelude.{ℕ, ◌+◌, ◌^◌, ◌≡◌, ◌≤◌, ◌⊎◌, List, [], ◌∷◌}
+use Rattle.std.specs.Prelude.{ℕ, ◌+◌, ◌^◌, ◌≡◌, ◌≤◌, ◌<◌, ◌⊎◌, List, [], ◌∷◌, length, slice_index}
 use Rattle.src_model.specs.declared.program.Var.{Var as Declared}
 use Rattle.src_model.specs.Meaning.{cells_in}
 use Rattle.code_model.specs.declared.image.Place.{Place as VariablePlace}
@@ -40,3 +40,8 @@ pub record HoldsVars (temps : ℕ) (vars : List Declared) (m : MemoryMap) : Type
 pub record HasCellRoom (temps : ℕ) (m : MemoryMap) (cells : ℕ) : Type 0 where
   pub below : temps ≤ cells
   pub within : LieWithin temps cells m.places
+
+-- cells that hold the variables: they have room for them, and each fits a word
+pub record HoldsCells (temps : ℕ) (m : MemoryMap) (cells : List ℕ) : Type 0 where
+  pub room : HasCellRoom temps m (length cells)
+  pub words : (k : ℕ) → slice_index cells k < 2 ^ m.word

@@ -6,6 +6,7 @@ pub mod Doing
 pub mod Meant
 pub mod Blocks
 pub mod Placed
+pub mod Turned
 pub mod Measures
 pub mod Worked
 pub mod Jobs

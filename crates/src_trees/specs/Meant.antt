@@ -1,45 +1,54 @@
 -- When jobs do to the store that the memory holds what the statements of a program do.
-use Rattle.std.specs.Prelude.{ℕ, ◌+◌, ◌≡◌, true, List, length, slice_get, Some}
+use Rattle.std.specs.Prelude.{ℕ, ◌+◌, ◌^◌, ◌<◌, ◌≡◌, true, List, slice_get, Some}
 use Rattle.rec_bits.specs.Operators.{bit_of}
 use Rattle.src_model.specs.declared.program.Cmp.TheVariants.{Ne}
 use Rattle.src_model.specs.declared.program.Var.{Var as Declared}
 use Rattle.src_model.specs.Written.{Phrase, Place, Test, num, plain, Act, assign, choice, while, count, Acts, no_acts, act, Otherwise, without, otherwise, Listing, acts_of}
 use Rattle.src_model.specs.Names.{declared, is_plain}
 use Rattle.src_model.specs.Sizes.{statements, statements_in}
-use Rattle.src_model.specs.Meaning.{assigned, holds}
+use Rattle.src_model.specs.Meaning.{assigned, holds, shape_width}
 use Rattle.src_model.specs.Trace.{started, stepped}
 use Rattle.src_trees.specs.Lowered.{MemoryMap, Work, answer, assign_work, test_work, start_work, step_work}
 use Rattle.src_trees.specs.Seen.{seen_store, CanAssign, CanTest}
-use Rattle.src_trees.specs.Held.{HasCellRoom}
-use Rattle.src_trees.specs.Doing.{done, Lies, AllAre}
+use Rattle.src_trees.specs.Held.{HoldsCells}
+use Rattle.src_trees.specs.Doing.{done, job_value, Lies, AllAre}
 
--- in cells whose store is of this kind, the job changes the store so, and reads and writes no cell
--- below the variables'
+-- in cells whose store is of this kind, the job changes the store so by a value that fits a word,
+-- and reads and writes no cell below the variables'
 pub record Does (m : MemoryMap) (temps : ℕ) (Can : List ℕ → Type 0) (change : List ℕ → List ℕ)
     (work : Work) : Type 0 where
-  pub lies : (cells : List ℕ) → HasCellRoom temps m (length cells) → Can (seen_store m cells) → Lies temps cells work
-  pub store : (cells : List ℕ) → HasCellRoom temps m (length cells) → Can (seen_store m cells) →
+  pub lies : (cells : List ℕ) → HoldsCells temps m cells → Can (seen_store m cells) → Lies temps cells work
+  pub store : (cells : List ℕ) → HoldsCells temps m cells → Can (seen_store m cells) →
       seen_store m (done work cells) ≡ change (seen_store m cells)
+  pub fits : (cells : List ℕ) → HoldsCells temps m cells → Can (seen_store m cells) →
+      job_value cells work.trees < 2 ^ m.word
 
 -- and in such cells each of its trees tells the test, and reads no cell below the variables'
 pub record Tells (m : MemoryMap) (temps : ℕ) (vars : List Declared) (test : Test) (work : Work) : Type 0 where
-  pub lies : (cells : List ℕ) → HasCellRoom temps m (length cells) →
+  pub lies : (cells : List ℕ) → HoldsCells temps m cells →
       CanTest m.word vars (seen_store m cells) test → Lies temps cells work
-  pub value : (cells : List ℕ) → HasCellRoom temps m (length cells) →
+  pub value : (cells : List ℕ) → HoldsCells temps m cells →
       CanTest m.word vars (seen_store m cells) test →
       AllAre (bit_of (answer test.cmp (holds m.word vars test (seen_store m cells)))) cells work.trees
 
--- the job of a statement
+-- the job of an assignment, of an expression of a word's width
+abbrev pub IsAssigned : ℕ → List Declared → Place → Phrase → List ℕ → Type 0
+IsAssigned bits vars place e store = CanAssign bits vars store place e × (shape_width bits bits e.shape ≡ bits)
+
 abbrev pub DoesAssign : MemoryMap → ℕ → List Declared → Place → Phrase → Work → Type 0
 DoesAssign m temps vars place e =
-    Does m temps (λ store. CanAssign m.word vars store place e) (assigned m.word vars place e)
+    Does m temps (IsAssigned m.word vars place e) (assigned m.word vars place e)
 
 -- the jobs of a `for`: the counter is set, compared with the number past the last one, and stepped
 abbrev pub IsCounter : List Declared → List ℕ → List ℕ → Type 0
 IsCounter vars counter store = is_plain (declared vars counter) ≡ true
 
+abbrev pub IsStarted : ℕ → List Declared → List ℕ → ℕ → List ℕ → Type 0
+IsStarted bits vars counter from store = IsCounter vars counter store × (from < 2 ^ bits)
+
 abbrev pub DoesStart : MemoryMap → ℕ → List Declared → List ℕ → ℕ → Work → Type 0
-DoesStart m temps vars counter from = Does m temps (IsCounter vars counter) (started vars counter from)
+DoesStart m temps vars counter from =
+    Does m temps (IsStarted m.word vars counter from) (started vars counter from)
 
 abbrev pub DoesStep : MemoryMap → ℕ → List Declared → List ℕ → Work → Type 0
 DoesStep m temps vars counter = Does m temps (IsCounter vars counter) (stepped m.word vars counter)

@@ -19,6 +19,7 @@ ghost use Rattle.src_trees.specs.Doing.{destination_cell};
 ghost use Rattle.src_trees.specs.Meant.{DoProgram, KeepsMeaning};
 ghost use Rattle.src_trees.specs.Measures.{most_nodes, most_temps, AllSmall};
 ghost use Rattle.src_trees.specs.Placed.{IsPlaced};
+ghost use Rattle.src_trees.specs.Turned.{Turns, TurnsTests, told_works, turned_flow};
 
 /// A memory that has the variables behind each other holds them, and has room for them where it has
 /// so many cells.
@@ -51,8 +52,9 @@ pub fn law_of_assignments()
         ≡ Some (base_of m.places place.name + index_value m.word vars (seen_store m cells) place.index) }
 {}
 
-/// The jobs of statements change the store that the memory holds as the statements do, and the trees
-/// of tests tell them; they read and write the variables' cells alone. So do all jobs of a program,
+/// The jobs of statements change the store that a memory of cells that fit holds as the statements
+/// do, by values that fit, and the trees of tests tell them; they read and write the variables'
+/// cells alone. So do all jobs of a program,
 /// and those that are made from them by a change that keeps that.
 pub fn law_of_jobs()
     ensures own { (m : MemoryMap) (temps : ℕ) (vars : List Declared) → HoldsVars temps vars m →
@@ -83,13 +85,22 @@ pub fn law_of_nodes()
 
 /// An image whose words do what the flow of a program says, each block, test and jump at its
 /// address, by jobs that do what the program's statements say, traces the program, and stands in
-/// mode 0 at each mark.
+/// mode 0 at each mark. So does one of a flow some tests of which are turned, by jobs that do what
+/// the statements say once they are turned back.
 pub fn law_of_flow()
-    ensures { (netlist : Netlist) (image : Image) (m : MemoryMap) (temps : ℕ) (l : Listing)
+    ensures own { (netlist : Netlist) (image : Image) (m : MemoryMap) (temps : ℕ) (l : Listing)
         (jobs : List Work) (starts : ℕ → ℕ) →
         first_fault m.word l ≡ None → memory_width netlist.storages ≡ m.word →
         HoldsVars temps l.vars m → HasCellRoom temps m (memory_size netlist.storages) →
         image.places ≡ m.places → DoProgram m temps l jobs →
         IsPlaced netlist image temps (program_flow l) jobs starts (places_in (acts_of l.body)) →
+        TracesRight netlist image (strace m.word l) }
+    ensures turned { (netlist : Netlist) (image : Image) (m : MemoryMap) (temps : ℕ) (l : Listing)
+        (turned : Turns) (jobs : List Work) (starts : ℕ → ℕ) →
+        first_fault m.word l ≡ None → memory_width netlist.storages ≡ m.word →
+        HoldsVars temps l.vars m → HasCellRoom temps m (memory_size netlist.storages) →
+        image.places ≡ m.places → TurnsTests turned (program_flow l) →
+        DoProgram m temps l (told_works turned jobs) →
+        IsPlaced netlist image temps (turned_flow turned (program_flow l)) jobs starts (places_in (acts_of l.body)) →
         TracesRight netlist image (strace m.word l) }
 {}

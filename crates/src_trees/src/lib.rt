@@ -8,7 +8,8 @@
 //! assignment goes to its place's cell (`law_of_assignments`), jobs do what the program's statements
 //! say (`law_of_jobs`: `DoProgram`), the temporary cells and the nodes that the rules count are the
 //! greatest counts over the trees (`law_of_temps`, `law_of_nodes`), and words that do what the flow
-//! says by such jobs trace the program (`law_of_flow`: `IsPlaced`).
+//! says by such jobs trace the program (`law_of_flow`: `IsPlaced`), also where tests are turned:
+//! their targets exchanged, and their trees the opposite ones (`Turned`).
 //!
 //! Invariant: a `DataMemory` has cells and addresses of 1 to 64 bits. The flow of a statement is
 //! made for the place at which it stands, so its targets are final once it is appended; jobs are
@@ -23,10 +24,10 @@
 //! - `laws`: the laws above.
 //! - `specs/`, cited by public contracts: `Lowered` (trees over a memory map), `Jobs`, `Flows`,
 //!   `Blocks`, `Placed`, `Seen` (the store that memory holds), `Held` (places of their own), `Doing`,
-//!   `Meant` (what jobs do to the store) and `Measures`; `Worked` is computed. `specs/Inner/`:
+//!   `Meant` (what jobs do to the store), `Turned` and `Measures`; `Worked` is computed. `specs/Inner/`:
 //!   `Lowering` and `Near`, which go with the lowering.
 //! - `proofs/`: `Standing` carries the law of flow, by induction over statements with a list of
-//!   pending assignments; `Cells`, `Meant`, `Done`, `Following`, `Values` and `Behind` the laws of
+//!   pending assignments, `TurnedTests` that of turned ones; `Cells`, `Meant`, `Done`, `Following`, `Values` and `Behind` the laws of
 //!   trees and jobs, `Measured`, `Temps` and `Nodes` those of counts; `LowerLemmas` and `LowerCases`
 //!   the lowering.
 #![tactic(auto)]

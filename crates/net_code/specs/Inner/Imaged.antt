@@ -9,7 +9,6 @@ use Rattle.right_code.specs.Tasks.{IsChecked, Task, task_temps, task_works}
 use Rattle.form_model.specs.declared.flow.Blocks.{Blocks}
 use Rattle.form_set.specs.Listing.{greatest_reach}
 use Rattle.mode_set.specs.Keeping.{Isas}
-use Rattle.src_trees.specs.Flows.{program_flow}
 use Rattle.src_trees.specs.Jobs.{works_of}
 use Rattle.net_code.specs.Inner.Planning.{HasModes, IsPlanning}
 use Rattle.net_code.specs.Refusals.{IsBeyondReach, IsImageTooLong, IsJumpless, IsStepless}
@@ -32,7 +31,7 @@ pub record IsCodedIn (modes : Modes) (usable : List Bool) (places : Places) (blo
   pub jumps : ¬ IsJumpless task.netlist
   pub checked : IsChecked task
   pub placed : ArePlaces task places
-  pub flow : blocks.flow ≡ program_flow task.listing
+  pub flow : blocks.flow ≡ task.flow
   pub works : works_of blocks.jobs.items ≡ task_works task
 
 -- they are those of some task

@@ -7,7 +7,6 @@ use Rattle.net_model.specs.declared.hardware.Space.TheVariants.{File as InFile}
 use Rattle.net_model.specs.Nets.{size_in}
 use Rattle.net_model.specs.Patterns.{ArePatterns}
 use Rattle.src_model.specs.Rules.{temp_count}
-use Rattle.src_trees.specs.Flows.{program_flow}
 use Rattle.src_trees.specs.Jobs.{works_of}
 use Rattle.src_trees.specs.Lowered.{Work}
 use Rattle.form_model.specs.declared.forms.Forms.{Forms}
@@ -201,7 +200,7 @@ pub record IsPlanning (told : Modes) (program : PlannedProgram) (task : Task)
   pub checked : IsChecked task
   pub modes : AreModesOf told task isas
   pub temps : program.temps ≡ temp_count task.width task.listing
-  pub flow : program.flow.now ≡ program_flow task.listing
+  pub flow : program.flow.now ≡ task.flow
   pub works : works_in program ≡ task_works task
   pub plans : ArePlans task isas (plans_in program)
   pub costs : costs_in program ≡ plan_costs (works_in program) (plans_in program)

@@ -16,7 +16,7 @@ pub image_of-requires-clause-checked : goal.image_of-requires-clause-checked
 image_of-requires-clause-checked c =
     coded_checked c.args.modes.now c.args.typed.now c.args.in_bank.now.items c.requires.seen c.requires.width c.requires.flags
     c.in_ok-places.ensures.memory c.in_ok-places.ensures.enough c.in_ok-places.places c.in_ok-places.ensures.places
-    c.in_ok-blocks.blocks c.in_ok-blocks.ensures.jobs c.requires.program
+    c.in_ok-blocks.blocks c.in_ok-blocks.ensures.flow c.in_ok-blocks.ensures.jobs c.requires.program
 
 pub image_of-requires-clause-named : goal.image_of-requires-clause-named
 image_of-requires-clause-named c =
@@ -27,7 +27,7 @@ pub returns-clause-image : goal.returns-clause-image
 returns-clause-image c = λ n is.
     image_right c.args.modes.now c.args.typed.now c.args.in_bank.now.items c.requires.seen c.requires.width c.requires.flags
     c.in_ok-places.ensures.memory c.in_ok-places.ensures.enough c.in_ok-places.places c.in_ok-places.ensures.places
-    c.in_ok-blocks.blocks c.in_ok-blocks.ensures.jobs n is
+    c.in_ok-blocks.blocks c.in_ok-blocks.ensures.flow c.in_ok-blocks.ensures.jobs n is
     c.in_ok-image.image c.in_ok-image.ensures.right c.in_ok-image.ensures.reached c.in_ok-image.ensures.fits
 
 pub returns-in_err-places-clause-refused : goal.returns-in_err-places-clause-refused
@@ -41,4 +41,4 @@ returns-in_err-image-clause-refused c =
     rw (p.1, p.2) (λ n is.
     image_refused c.args.modes.now c.args.typed.now c.args.in_bank.now.items c.requires.seen c.requires.width c.requires.flags
     c.in_ok-places.ensures.memory c.in_ok-places.ensures.enough c.in_ok-places.places c.in_ok-places.ensures.places
-    c.in_ok-blocks.blocks c.in_ok-blocks.ensures.jobs n is _ c.in_err-image.ensures.refused)
+    c.in_ok-blocks.blocks c.in_ok-blocks.ensures.flow c.in_ok-blocks.ensures.jobs n is _ c.in_err-image.ensures.refused)

@@ -6,7 +6,6 @@ use Rattle.mode_set.specs.Plans.{UsableAt}
 use Rattle.std.proofs.lemmas.Result.{IfErr-weaker, IfOk-weaker, err_from_is_err_and}
 use Rattle.code_model.specs.declared.image.Places.{Places}
 use Rattle.form_model.specs.declared.flow.Blocks.{Blocks}
-use Rattle.src_trees.specs.Flows.{program_flow}
 use Rattle.src_trees.specs.Jobs.{works_of}
 use Rattle.right_code.specs.Tasks.{IsChecked, Task, task_works}
 use Rattle.compaction.specs.declared.machine.Machine.{Machine}
@@ -41,7 +40,7 @@ coded : (task : Task) (modes : Modes) (machines : List Machine) (netlist : Netli
     → netlist ≡ task.netlist → AreMachinesOf machines task.netlist → AreFormsBelow netlist machines (modes_in netlist) forms → ArePassages netlist machines forms words
     → modes.machines.now ≡ machines → modes.forms.now ≡ forms.kept.items → modes.special ≡ netlist.special → modes.passages.now ≡ words
     → usable ≡ marks → length marks ≡ modes_in netlist → ((v : ℕ) → UsableAt marks v ↔ CanUse netlist (all_rules netlist forms) v)
-    → ¬ IsStepless netlist → ¬ IsJumpless netlist → IsChecked task → ArePlaces task places → blocks.flow ≡ program_flow task.listing → works_of blocks.jobs.items ≡ task_works task
+    → ¬ IsStepless netlist → ¬ IsJumpless netlist → IsChecked task → ArePlaces task places → blocks.flow ≡ task.flow → works_of blocks.jobs.items ≡ task_works task
     → IsCodedIn modes usable places blocks task
 coded task modes machines netlist forms words marks usable places blocks same are below passages as_machines as_forms special as_words given long can steps jumps checked placed flow works = record {
   told =
@@ -63,7 +62,7 @@ planned_image-requires-clause-coded c = record {
   is =
       coded (coded_task c.args.modes.now.netlist c.args.typed.now c.args.places c.args.blocks.now) _ c.args.machines.now c.netlist-netlist.result.now c.in_ok-forms.forms c.in_ok-passages.passages.items c.in_ok-usable.usable.items c.deref-3.result.now _ c.args.blocks.now
       c.netlist-netlist.ensures.value c.requires.machines c.in_ok-forms.ensures.forms c.in_ok-passages.ensures.words refl c.deref.ensures.value refl c.deref-2.ensures.value c.deref-3.ensures.value c.in_ok-usable.ensures.long c.in_ok-usable.ensures.usable
-      c.in_ok-forms.ensures.steps c.in_ok-forms.ensures.jumps c.requires.checked (record { temps = c.temps.ensures; list = refl }) c.requires.flow refl;
+      c.in_ok-forms.ensures.steps c.in_ok-forms.ensures.jumps c.requires.checked (record { temps = c.temps.ensures; list = refl }) refl refl;
 }
 
 pub returns-clause-right : goal.returns-clause-right
@@ -72,7 +71,7 @@ returns-clause-right c =
     (λ image h. h (coded_task c.args.modes.now.netlist c.args.typed.now c.args.places c.args.blocks.now)
     (coded (coded_task c.args.modes.now.netlist c.args.typed.now c.args.places c.args.blocks.now) _ c.args.machines.now c.netlist-netlist.result.now c.in_ok-forms.forms c.in_ok-passages.passages.items c.in_ok-usable.usable.items c.deref-3.result.now _ c.args.blocks.now
     c.netlist-netlist.ensures.value c.requires.machines c.in_ok-forms.ensures.forms c.in_ok-passages.ensures.words refl c.deref.ensures.value refl c.deref-2.ensures.value c.deref-3.ensures.value c.in_ok-usable.ensures.long c.in_ok-usable.ensures.usable
-    c.in_ok-forms.ensures.steps c.in_ok-forms.ensures.jumps c.requires.checked (record { temps = c.temps.ensures; list = refl }) c.requires.flow refl)) c.planned_image.ensures.right
+    c.in_ok-forms.ensures.steps c.in_ok-forms.ensures.jumps c.requires.checked (record { temps = c.temps.ensures; list = refl }) refl refl)) c.planned_image.ensures.right
 
 pub returns-clause-fits : goal.returns-clause-fits
 returns-clause-fits c =
@@ -80,7 +79,7 @@ returns-clause-fits c =
     (λ image h. h (coded_task c.args.modes.now.netlist c.args.typed.now c.args.places c.args.blocks.now)
     (coded (coded_task c.args.modes.now.netlist c.args.typed.now c.args.places c.args.blocks.now) _ c.args.machines.now c.netlist-netlist.result.now c.in_ok-forms.forms c.in_ok-passages.passages.items c.in_ok-usable.usable.items c.deref-3.result.now _ c.args.blocks.now
     c.netlist-netlist.ensures.value c.requires.machines c.in_ok-forms.ensures.forms c.in_ok-passages.ensures.words refl c.deref.ensures.value refl c.deref-2.ensures.value c.deref-3.ensures.value c.in_ok-usable.ensures.long c.in_ok-usable.ensures.usable
-    c.in_ok-forms.ensures.steps c.in_ok-forms.ensures.jumps c.requires.checked (record { temps = c.temps.ensures; list = refl }) c.requires.flow refl)) c.planned_image.ensures.fits
+    c.in_ok-forms.ensures.steps c.in_ok-forms.ensures.jumps c.requires.checked (record { temps = c.temps.ensures; list = refl }) refl refl)) c.planned_image.ensures.fits
 
 pub returns-clause-reached : goal.returns-clause-reached
 returns-clause-reached c =
@@ -88,7 +87,7 @@ returns-clause-reached c =
     (λ image h. h (coded_task c.args.modes.now.netlist c.args.typed.now c.args.places c.args.blocks.now)
     (coded (coded_task c.args.modes.now.netlist c.args.typed.now c.args.places c.args.blocks.now) _ c.args.machines.now c.netlist-netlist.result.now c.in_ok-forms.forms c.in_ok-passages.passages.items c.in_ok-usable.usable.items c.deref-3.result.now _ c.args.blocks.now
     c.netlist-netlist.ensures.value c.requires.machines c.in_ok-forms.ensures.forms c.in_ok-passages.ensures.words refl c.deref.ensures.value refl c.deref-2.ensures.value c.deref-3.ensures.value c.in_ok-usable.ensures.long c.in_ok-usable.ensures.usable
-    c.in_ok-forms.ensures.steps c.in_ok-forms.ensures.jumps c.requires.checked (record { temps = c.temps.ensures; list = refl }) c.requires.flow refl)) c.planned_image.ensures.reached
+    c.in_ok-forms.ensures.steps c.in_ok-forms.ensures.jumps c.requires.checked (record { temps = c.temps.ensures; list = refl }) refl refl)) c.planned_image.ensures.reached
 
 pub returns-clause-refused : goal.returns-clause-refused
 returns-clause-refused c =
@@ -96,7 +95,7 @@ returns-clause-refused c =
     (λ fault h. h (coded_task c.args.modes.now.netlist c.args.typed.now c.args.places c.args.blocks.now)
     (coded (coded_task c.args.modes.now.netlist c.args.typed.now c.args.places c.args.blocks.now) _ c.args.machines.now c.netlist-netlist.result.now c.in_ok-forms.forms c.in_ok-passages.passages.items c.in_ok-usable.usable.items c.deref-3.result.now _ c.args.blocks.now
     c.netlist-netlist.ensures.value c.requires.machines c.in_ok-forms.ensures.forms c.in_ok-passages.ensures.words refl c.deref.ensures.value refl c.deref-2.ensures.value c.deref-3.ensures.value c.in_ok-usable.ensures.long c.in_ok-usable.ensures.usable
-    c.in_ok-forms.ensures.steps c.in_ok-forms.ensures.jumps c.requires.checked (record { temps = c.temps.ensures; list = refl }) c.requires.flow refl)) c.planned_image.ensures.refused
+    c.in_ok-forms.ensures.steps c.in_ok-forms.ensures.jumps c.requires.checked (record { temps = c.temps.ensures; list = refl }) refl refl)) c.planned_image.ensures.refused
 
 pub returns-in_err-forms-clause-refused : goal.returns-in_err-forms-clause-refused
 returns-in_err-forms-clause-refused c =

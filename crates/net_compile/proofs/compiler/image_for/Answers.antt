@@ -11,9 +11,9 @@ use Rattle.net_compile.proofs.TaskLemmas.{fault_of_image, fault_of_places}
 use Rattle.net_compile.proofs.compiler.image_for.Goals as goal
 
 -- tasks with the same parts are one
-same_parts : (task other : Task) → task.netlist ≡ other.netlist → task.width ≡ other.width → task.listing ≡ other.listing → task.places ≡ other.places → task.works ≡ other.works → task ≡ other
-same_parts task other netlist width listing places works =
-    (λ i. record { netlist = netlist i; width = width i; listing = listing i; places = places i; works = works i })
+same_parts : (task other : Task) → task.netlist ≡ other.netlist → task.width ≡ other.width → task.listing ≡ other.listing → task.places ≡ other.places → task.flow ≡ other.flow → task.works ≡ other.works → task ≡ other
+same_parts task other netlist width listing places flow works =
+    (λ i. record { netlist = netlist i; width = width i; listing = listing i; places = places i; flow = flow i; works = works i })
 
 pub blocks_of-requires : goal.blocks_of-requires
 blocks_of-requires c = record { width = c.requires.width; places = c.in_ok-places.ensures.places; room = c.in_ok-places.ensures.room.room }
@@ -23,7 +23,7 @@ image_of-requires-clause-checked c =
     let modes = c.args.modes.now in
     let typed = c.args.typed.now in
     let own : read_task modes typed ≡ coded_task modes.netlist typed c.in_ok-places.places.list c.in_ok-blocks.blocks =
-    same_parts (read_task modes typed) (coded_task modes.netlist typed c.in_ok-places.places.list c.in_ok-blocks.blocks) refl refl refl (sym (ap (λ (p : Places). p.list) c.in_ok-places.ensures.places)) (sym c.in_ok-blocks.ensures.jobs) in
+    same_parts (read_task modes typed) (coded_task modes.netlist typed c.in_ok-places.places.list c.in_ok-blocks.blocks) refl refl refl (sym (ap (λ (p : Places). p.list) c.in_ok-places.ensures.places)) (sym c.in_ok-blocks.ensures.flow) (sym c.in_ok-blocks.ensures.jobs) in
     subst IsChecked own
     (task_checked modes.netlist typed.width (listing_of typed.program) c.requires.rules c.requires.program (sym c.requires.width) c.in_ok-places.ensures.room.room)
 
@@ -32,7 +32,7 @@ returns-clause-image c =
     let modes = c.args.modes.now in
     let typed = c.args.typed.now in
     let own : coded_task modes.netlist typed c.in_ok-places.places.list c.in_ok-blocks.blocks ≡ read_task modes typed =
-    same_parts (coded_task modes.netlist typed c.in_ok-places.places.list c.in_ok-blocks.blocks) (read_task modes typed) refl refl refl (ap (λ (p : Places). p.list) c.in_ok-places.ensures.places) c.in_ok-blocks.ensures.jobs in
+    same_parts (coded_task modes.netlist typed c.in_ok-places.places.list c.in_ok-blocks.blocks) (read_task modes typed) refl refl refl (ap (λ (p : Places). p.list) c.in_ok-places.ensures.places) c.in_ok-blocks.ensures.flow c.in_ok-blocks.ensures.jobs in
     record {
       room = c.in_ok-places.ensures.room;
       reached = subst IsReached own c.in_ok-image.ensures.reached;
@@ -51,7 +51,7 @@ returns-in_err-image-clause-refused c =
     let modes = c.args.modes.now in
     let typed = c.args.typed.now in
     let own : coded_task modes.netlist typed c.in_ok-places.places.list c.in_ok-blocks.blocks ≡ read_task modes typed =
-    same_parts (coded_task modes.netlist typed c.in_ok-places.places.list c.in_ok-blocks.blocks) (read_task modes typed) refl refl refl (ap (λ (p : Places). p.list) c.in_ok-places.ensures.places) c.in_ok-blocks.ensures.jobs in
+    same_parts (coded_task modes.netlist typed c.in_ok-places.places.list c.in_ok-blocks.blocks) (read_task modes typed) refl refl refl (ap (λ (p : Places). p.list) c.in_ok-places.ensures.places) c.in_ok-blocks.ensures.flow c.in_ok-blocks.ensures.jobs in
     rw (p.1, p.2)
     (fault_of_image (read_task modes typed) c.in_ok-places.ensures.room _
     (subst (λ (task : Task). IsCodeFault task c.in_err-image.field-0.0) own c.in_err-image.ensures.refused))

@@ -16,7 +16,7 @@ run_image-requires-clause-start c = c.in_ok-start.ensures.starts.here.state
 
 pub run_image-requires-clause-clean : goal.run_image-requires-clause-clean
 run_image-requires-clause-clean c =
-    right_runs (read_task c.args.modes.now c.args.typed.now) c.args.image.now c.requires.image.right c.in_ok-start.start c.in_ok-start.ensures.starts 1000000
+    right_runs (read_task c.args.modes.now c.args.typed.now) c.args.image.now refl c.requires.image.right c.in_ok-start.start c.in_ok-start.ensures.starts 1000000
 
 pub returns : goal.returns
 returns c =
