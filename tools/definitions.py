@@ -1,4 +1,4 @@
-"""The definitions of specs/ and what cites what, for reading.py and apart.py: it prints nothing itself.
+"""The definitions of specs/ and what cites what, for reading.py, apart.py and pages.py: it prints nothing itself.
 
 A definition is named by its crate, its file below specs/ (`Trees`, or `Inner/Tables`) and its own name. What it cites is found by its words: a name of its
 own file, or one that the file imports. A field or a constructor stands for the definition that declares it. So what is found is never too little; it is too
@@ -108,14 +108,14 @@ def cited_in(text, names):
 
 
 def functions(text):
-    """The functions of a file: name, the word before `fn`, head up to the body, and the words of the `impl` or trait round it."""
-    blocks = [(m.start(), set(WORD.findall(m.group(0)))) for m in re.finditer(r"(?m)^(?:impl|pub trait|trait)\b[^{\n]*", text)]
+    """The functions of a file: name, the word before `fn`, head up to the body, the line of the `impl` or trait round it, and where it begins."""
+    blocks = [(m.start(), m.group(0)) for m in re.finditer(r"(?m)^(?:impl|pub trait|trait)\b[^{\n]*", text)]
     for m in re.finditer(r"^([ \t]*)((?:pub(?:\([a-z]+\))? )?)(?:const |ghost |unsafe )*fn (\w+)", text, re.M):
-        body = re.compile(r"^" + re.escape(m.group(1)) + r"\{|\{[ \t]*$", re.M).search(text, m.end())
-        semicolon = re.compile(r";[ \t]*$", re.M).search(text, m.end())
-        ends = [found.start() for found in (body, semicolon) if found]
-        around = [words for at, words in blocks if at < m.start()] if m.group(1) else []
-        yield m.group(3), m.group(2).strip(), text[m.start():min(ends, default=len(text))], around[-1] if around else set()
+        end = re.compile(r"^" + re.escape(m.group(1)) + r"\{|\{[ \t]*$|;[ \t]*$", re.M)
+        heads = (text[m.start():found.start()] for found in end.finditer(text, m.end()))
+        head = next((head for head in heads if head.count("{") == head.count("}")), text[m.start():])
+        around = [line for at, line in blocks if at < m.start()] if m.group(1) else []
+        yield m.group(3), m.group(2).strip(), head, around[-1] if around else "", m.start()
 
 
 def exported(crate):
@@ -126,20 +126,32 @@ def exported(crate):
     return names, set(re.findall(r"pub mod (\w+)", text))
 
 
-def public_citations(crate):
-    """What the contracts of a crate's public functions and the views of its types cite. An invariant of a type isn't among it: it is proved."""
+def sources(crate):
+    """The files of a crate's code, each with its text without tests."""
+    for file in sorted((CRATES / crate / "src").rglob("*.rt")):
+        yield file, re.split(r"#\[cfg\(test\)\]", file.read_text())[0]
+
+
+def public_functions(crate):
+    """The functions that others can call: file, its text, name, head, the line of the block round it, and where it begins."""
     names, modules = exported(crate)
-    found = set()
-    for file in (CRATES / crate / "src").rglob("*.rt"):
-        text = re.split(r"#\[cfg\(test\)\]", file.read_text())[0]
-        bound = imports(text)
+    for file, text in sources(crate):
         is_open = file.stem in modules or file.stem in ("lib", "main")
         types = set(re.findall(r"(?m)^pub (?:struct|enum|trait) (\w+)", text)) if is_open else set()
-        for name, public, head, around in functions(text):
-            is_member = bool(around & (names | types))
-            if public == "pub" and (name in names or is_open or is_member) or public == "" and is_member:
-                found |= cited_in(head, bound)
+        for name, public, head, block, start in functions(text):
+            is_member = bool(set(WORD.findall(block)) & (names | types))
+            is_of_trait = "trait " in block or " for " in block
+            if public == "pub" and (name in names or is_open or is_member) or public == "" and is_member and is_of_trait:
+                yield file, text, name, head, block, start
+
+
+def public_citations(crate):
+    """What the contracts of a crate's public functions and the views of its types cite. An invariant of a type isn't among it: it is proved."""
+    found = set()
+    for _, text, _, head, _, _ in public_functions(crate):
+        found |= cited_in(head, imports(text))
+    for _, text in sources(crate):
         for view in re.findall(r"(?ms)^impl[^\n]*Model[^\n]*\{.*?^\}", text):
             view = re.sub(r"(?ms)^    ghost invariant = \{.*?\};\n", "", view)
-            found |= cited_in(re.sub(r"(?m)^\s*ghost use .*$", "", view), bound)
+            found |= cited_in(re.sub(r"(?m)^\s*ghost use .*$", "", view), imports(text))
     return found

@@ -128,6 +128,14 @@ def cases():
             yield immediate(value), (FOLDER / f'{name}.src').read_text(), count
 
 
+def tuned():
+    """What a program takes by equal trees."""
+    yield from [(WIDE, MOVE, 3), (WIDE, SUM, 4), (WIDE, WHILE, 7)]
+    yield example('c10i'), (FOLDER / 'fir16.src').read_text(), 61
+    yield netlist(JUMP, ROWS + '14: add(A, P[30:15]);', FRACTION), FRACTIONS, 6
+    yield netlist(ALL.replace('lts(A, 0#16)', 'A[15]'), ROWS), BELOW, 7
+
+
 def parts():
     """The words and cycles of `dot.src` on two memories, by what stands in the bank."""
     yield from [('', (22, 137)), ('y', (22, 137)), ('s', (19, 120)), ('i', (18, 104)), ('i y', (17, 96)), ('i x', (19, 112)), ('s i x y', (19, 119))]
@@ -143,12 +151,12 @@ def banked(binary, folder, names):
     return int(image.split()[2]), cycles
 
 
-def answer(binary, files, due):
-    """What the program says, in the form of what is due."""
+def answer(binary, files, due, word='compile'):
+    """What the program says by this command, in the form of what is due."""
     def said(*words):
         return subprocess.run([binary, *map(str, words)], capture_output=True, text=True).stdout
 
-    first = said('compile', *files).split('\n')[0]
+    first = said(word, *files).split('\n')[0]
     if not first.startswith('image '):
         return first
     words = int(first.split()[2])
@@ -163,10 +171,11 @@ def main():
     binary, wrong, count = str(pathlib.Path(sys.argv[1]).resolve()), 0, 0
     with tempfile.TemporaryDirectory() as folder:
         files = [pathlib.Path(folder) / name for name in ('n.rtn', 'p.src')]
-        for net, program, due in cases():
+        words = [('compile', *case) for case in [*cases(), (example('c10i'), (FOLDER / 'fir16.src').read_text(), 'error no cover 1')]]
+        for word, net, program, due in words + [('tune', *case) for case in tuned()]:
             files[0].write_text(net)
             files[1].write_text(program)
-            found = answer(binary, files, due)
+            found = answer(binary, files, due, word)
             count += 1
             if found != due:
                 wrong += 1

@@ -13,10 +13,13 @@ and held against the same results. Their words are those that `record asm` makes
     dot a16: error no cover 3
     dot twin: 17 words, 22 unpacked, 96 cycles
     dot twin with one memory: 21 words, 22 unpacked, 128 cycles
+    dot c10i tuned: 32 words, 162 cycles
     dot xy: dot.xy.lst
 
 `twin` has two memories. The programs with a text examples/PROGRAM.part are compiled for it by `record dual` with this part, and clocked here, by
 tools/clocked.py; and by `record compile` and `record go` for the same processor with one memory, which is read or written at one place in a word.
+
+Each pair is compiled by `record tune`, too, and run by `record run`; a pair that `compile` has an image for may not be refused.
 
 The last are the listings examples/PROGRAM.PROCESSOR.lst, which have to be what tools/listing.py writes.
 
@@ -37,7 +40,7 @@ from listing import listed
 
 FOLDER = pathlib.Path(__file__).resolve().parent.parent / 'examples'
 LONGEST = 1_000_000
-PROCESSORS = ['a16', 'f16', 'xy', 'dsp', 'r16', 'c10w', 'adsp', 'rr4', 'rrf', 'm16']
+PROCESSORS = ['a16', 'f16', 'xy', 'dsp', 'r16', 'c10w', 'c10i', 'adsp', 'rr4', 'rrf', 'm16']
 
 
 def signed(word):
@@ -112,18 +115,18 @@ def wht(v):
 
 # Each program, what it has to leave, and the first tree that the forms of a processor don't cover, for the processors that can't run it.
 PROGRAMS = {
-    'dot': (dot, {'a16': 3, 'f16': 3, 'r16': 3, 'adsp': 3}),
-    'dotl': (dot, {'a16': 3, 'f16': 3, 'xy': 3, 'dsp': 3, 'r16': 3, 'rr4': 3, 'rrf': 3, 'm16': 3}),
-    'fir': (fir, {'a16': 5, 'dsp': 5, 'r16': 5}),
-    'fir16': (fir16, {'a16': 5, 'dsp': 5, 'r16': 5}),
-    'biquad': (biquad, {'a16': 4, 'f16': 4, 'dsp': 4, 'r16': 4}),
-    'matvec': (matvec, {'a16': 5, 'f16': 5, 'r16': 5, 'adsp': 5}),
-    'crc': (crc, {'a16': 2, 'f16': 2, 'm16': 2}),
-    'crc8': (crc8, {'a16': 3, 'f16': 3, 'm16': 3}),
-    'sort': (sort, {'a16': 5, 'f16': 5, 'dsp': 5, 'c10w': 5, 'm16': 5}),
-    'fly': (fly, {'a16': 2, 'dsp': 2, 'r16': 2}),
-    'gain': (gain, {'a16': 4, 'f16': 4, 'dsp': 5, 'r16': 4, 'adsp': 4}),
-    'wht': (wht, {}),
+    'dot': (dot, {'a16': 3, 'f16': 3, 'r16': 3, 'adsp': 3, 'c10i': 2}),
+    'dotl': (dot, {'a16': 3, 'f16': 3, 'xy': 3, 'dsp': 3, 'r16': 3, 'rr4': 3, 'rrf': 3, 'm16': 3, 'c10i': 2}),
+    'fir': (fir, {'a16': 5, 'dsp': 5, 'r16': 5, 'c10i': 1}),
+    'fir16': (fir16, {'a16': 5, 'dsp': 5, 'r16': 5, 'c10i': 1}),
+    'biquad': (biquad, {'a16': 4, 'f16': 4, 'dsp': 4, 'r16': 4, 'c10i': 3}),
+    'matvec': (matvec, {'a16': 5, 'f16': 5, 'r16': 5, 'adsp': 5, 'c10i': 1}),
+    'crc': (crc, {'a16': 2, 'f16': 2, 'm16': 2, 'c10i': 1}),
+    'crc8': (crc8, {'a16': 3, 'f16': 3, 'm16': 3, 'c10i': 2}),
+    'sort': (sort, {'a16': 5, 'f16': 5, 'dsp': 5, 'c10w': 5, 'm16': 5, 'c10i': 4}),
+    'fly': (fly, {'a16': 2, 'dsp': 2, 'r16': 2, 'c10i': 1}),
+    'gain': (gain, {'a16': 4, 'f16': 4, 'dsp': 5, 'r16': 4, 'adsp': 4, 'c10i': 1}),
+    'wht': (wht, {'c10i': 0}),
 }
 
 
@@ -257,6 +260,29 @@ def examples(binary):
                 yield f'{program} {name} by hand: {row[5]} words, {cycles} cycles', fault, None
 
 
+def tuned_examples(binary):
+    """Of each pair that `tune` has code for: its line, what is wrong with it, and its row of the table where `compile` has none or another image."""
+    with tempfile.TemporaryDirectory() as folder:
+        held = pathlib.Path(folder) / 'tuned.img'
+        for program, (result, _) in PROGRAMS.items():
+            source, memory = FOLDER / f'{program}.src', FOLDER / f'{program}.mem'
+            for name in PROCESSORS:
+                netlist = FOLDER / f'{name}.rtn'
+                image, own = answer(binary, 'tune', netlist, source), answer(binary, 'compile', netlist, source)
+                if not image.startswith('image '):
+                    yield f'{program} {name} tuned: {image.rstrip()}', ', but `compile` has an image' if own.startswith('image ') else '', None
+                    continue
+                held.write_text(image)
+                cells, cycles = by_hand(binary, netlist, held, memory)
+                values = variables(places_of(image), cells_of(memory.read_text()))
+                expected = {key: [value & 0xffff for value in left] for key, left in result(values).items()}
+                row = [program, name, image.split()[2], cycles]
+                if own.startswith('image '):
+                    row += [own.split()[2], compiled(binary, netlist, source, memory)[1]]
+                yield (f'{program} {name} tuned: {row[2]} words, {cycles} cycles', wrong(expected, variables(places_of(image), cells), cycles),
+                       None if own == image else row)
+
+
 def on_two(binary, source, part, values):
     """The image of a program on `twin` with this part, what it leaves in the variables that begin with these values, and the cycle of its end mark."""
     image = answer(binary, 'dual', FOLDER / 'twin.rtn', source, part)
@@ -301,8 +327,8 @@ def main():
     if len(sys.argv) not in (2, 3) or sys.argv[2:] not in ([], ['--table']):
         sys.exit(__doc__)
     binary, table = str(pathlib.Path(sys.argv[1]).resolve()), len(sys.argv) == 3
-    rows, banked_rows, faults = [], [], 0
-    for kept, found in ((rows, examples(binary)), (banked_rows, banked_examples(binary))):
+    rows, banked_rows, tuned_rows, faults = [], [], [], 0
+    for kept, found in ((rows, examples(binary)), (banked_rows, banked_examples(binary)), (tuned_rows, tuned_examples(binary))):
         for line, fault, row in found:
             faults += fault != ''
             if fault or not table:
@@ -321,6 +347,9 @@ def main():
         print('\n| program | in the bank | two memories: words | cycles | one memory: words | cycles |\n|---|---|---|---|---|---|')
         for program, names, words, _, cycles, words_on_one, _, cycles_on_one in banked_rows:
             print(f'| {program} | {names} | {words} | {cycles} | {words_on_one} | {cycles_on_one} |')
+        print('\n| program | processor | `tune`: words | cycles | `compile`: words | cycles |\n|---|---|---|---|---|---|')
+        for row in tuned_rows:
+            print('| ' + ' | '.join(map(str, row + [''] * (6 - len(row)))) + ' |')
     else:
         print(f'{faults} wrong')
     sys.exit(1 if faults else 0)

@@ -82,7 +82,7 @@ def image_of_bytes(count):
 
 def cases(examples):
     """Each case: its name, the words, and the files that it makes."""
-    a16, dsp = (examples / 'a16.rtn').read_text(), (examples / 'dsp.rtn').read_text()
+    a16, dsp, twin = ((examples / f'{name}.rtn').read_text() for name in ('a16', 'dsp', 'twin'))
     accumulator = 'register A : 16 in {}when I[33];\n'
     nets = ''.join(f'net {long_name(k)} : 16 = not(A);\n' for k in range(2041)) + 'net w : 16 = A;\n'
     trees = f'x={full_tree(7)[1:-1]};'
@@ -101,6 +101,10 @@ def cases(examples):
         ('eight such sums, on dsp.rtn', ['compile', 'n', 's'], {'n': dsp, 's': padded('var a,x;' + trees * 8)}),
         ('5,000 loops, one behind the other', ['compile', 'n', 's'], {'n': WIDE, 's': padded('var i;' + 'for i=0 to 1{}' * 5000)}),
         ('6,000 tests with a block each', ['compile', 'n', 's'], {'n': WIDE, 's': padded('var a;' + 'if a==0{a=1;}' * 6000)}),
+        ('65,535 assignments, by equal trees', ['tune', 'n', 's'], {'n': IMMEDIATE, 's': padded('var a;' + 'a=1;' * 65535)}),
+        ('a sum of 128 reads by equal trees, on dsp.rtn', ['tune', 'n', 's'], {'n': dsp, 's': padded('var a,x;' + trees)}),
+        ('5,000 loops over two memories', ['dual', 'n', 's', 'p'], {'n': twin, 's': padded('var i;' + 'for i=0 to 1{}' * 5000), 'p': 'i\n'}),
+        ('a part of a megabyte', ['dual', 'n', 's', 'p'], {'n': twin, 's': 'var i; i = 0;', 'p': repeated('', lambda k: f'{long_name(k)}\n')}),
         ('an image of 65,536 words', ['run', 'n', 'i', 'm', '65536'], {'n': BYTES, 'i': image_of_bytes(65536), 'm': ''}),
         ('a memory text of each cell, over and over', ['run', 'n', 'i', 'm', '0'], {'n': BYTES, 'i': image_of_bytes(1), 'm': repeated('', lambda k: f'M {k % 256} {k % 256}\n')}),
         ('a million clocks', ['go', 'n', 's', 'm', '1000000'], {'n': a16, 's': 'var a, b; while 1 != 0 { while a != 0 { a = a - 1; } b = b + 1; }', 'm': 'M 1 65535\n'}),

@@ -1,9 +1,9 @@
 #!/usr/bin/env python3
 """Lists the code of a program on a netlist: its words with what they do, below the statements that they are of.
 
-Usage: listing.py BINARY NET.rtn PROGRAM.src [PROGRAM.part] [--check LISTING]
+Usage: listing.py BINARY [--tune] NET.rtn PROGRAM.src [PROGRAM.part] [--check LISTING]
 
-BINARY is run as `compile` and `extract`, and for a netlist with a bank as `dual` with the part. Above stand the cells of the variables. Each statement has its line in the program, its tree's number
+BINARY is run as `extract` and `compile`, with --tune as `tune`, and for a netlist with a bank as `dual` with the part. Above stand the cells of the variables. Each statement has its line in the program, its tree's number
 and cost, and its words: their address, with a * where the image has a mark, the word in hexadecimal, and the wanted transfers, each in a line, with
 the numbers in the word's fields in place of the slices, and behind them the variable of a cell that is read or written at a number. A `for` stands
 three times: where its counter is set, at its test, and where it is stepped. A jump stands at the end of the statement before it.
@@ -185,10 +185,10 @@ class Listing:
         yield f'{self.count - self.turns} words for {sum(self.costs)} steps, {self.turns} for jumps and branches, the end\'s among them'
 
 
-def listed(binary, netlist, source, part=None):
+def listed(binary, netlist, source, part=None, word='compile'):
     """The listing of a program on a netlist, which has a bank where there is a part, as a text."""
     texts = []
-    for words in (('extract', netlist), ('dual', netlist, source, part) if part else ('compile', netlist, source)):
+    for words in (('extract', netlist), ('dual', netlist, source, part) if part else (word, netlist, source)):
         run = subprocess.run([binary, *map(str, words)], capture_output=True, text=True)
         if run.returncode:
             raise Fault(run.stdout.strip() or run.stderr.strip())
@@ -200,6 +200,8 @@ def listed(binary, netlist, source, part=None):
 
 def main():
     words, checked = sys.argv[1:], None
+    word = 'tune' if '--tune' in words else 'compile'
+    words = [other for other in words if other != '--tune']
     if words[-2:-1] == ['--check']:
         checked = words.pop()
         words.pop()
@@ -207,7 +209,7 @@ def main():
         print(__doc__, file=sys.stderr)
         sys.exit(2)
     try:
-        text = listed(pathlib.Path(words[0]).resolve(), *words[1:])
+        text = listed(pathlib.Path(words[0]).resolve(), *words[1:], word=word)
         if checked is None:
             sys.stdout.write(text)
             return

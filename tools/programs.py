@@ -1,13 +1,16 @@
 #!/usr/bin/env python3
 """Compiles random programs for random small processors, runs them with `record go`, and holds every checkpoint against an interpreter of its own.
 
-Usage: programs.py BINARY [--files | --modes] [COUNT] [SEED]
+Usage: programs.py BINARY [--files | --modes | --wide] [--tune] [COUNT] [SEED]
 
 Each of COUNT runs (200 where none are given) makes a netlist and a program, and starts from random cells and registers. The lines of `go` have to
 show the stores that the interpreter below has before each test and at the end, each test always under one label, and each within one image length
 of clocks of the last. Then `record run` clocks the image to one of these lines, and has to show the same store at that mark. A run that is refused,
-for want of a cover for example, is counted and not compared. With --files each netlist has a register file, and with --modes a mode register, which
-has to be 0 at each mark.
+for want of a cover for example, is counted and not compared. With --files each netlist has a register file, with --modes a mode register, which
+has to be 0 at each mark, and with --wide an accumulator that is wider than the memory.
+
+With --tune each program is compiled by `record tune`. Its image is clocked here, by tools/clocked.py, and has to show the same stores at its marks;
+what `record compile` compiles may not be refused.
 """
 import collections
 import pathlib
@@ -15,6 +18,8 @@ import random
 import subprocess
 import sys
 import tempfile
+
+from clocked import Netlist
 
 CYCLES = 1500
 WORD = 1 << 16
@@ -194,7 +199,30 @@ def random_mode_netlist(pick):
     return '\n'.join(head + lines) + '\n', operators, registers
 
 
-NETLISTS = {'--files': random_file_netlist, '--modes': random_mode_netlist}
+def random_wide_netlist(pick):
+    """The same of a processor with an accumulator that is wider than the memory."""
+    fields = Fields()
+    fields.take(8)
+    codes = Codes(pick, fields)
+    width = pick.randint(17, 40)
+    operators = ['+', '-'] + pick.sample('*&|^', pick.randint(0, 3))
+    operand = pick.choice(['sext', 'sext', 'zext']) + f'(read(M, f), {width})'
+    rows = [operand, f'{pick.choice(["sext", "zext"])}(f, {width})', f'shl(A, 1#{width})']
+    rows += [f'{GATES[o]}(A, {operand})' for o in operators]
+    value, enable = codes.rows(rows)
+    value = value.replace('0#16', f'0#{width}')
+    counter, turn = pick.choice([f'eq(A, 0#{width})', f'A[{width - 1}]']), pick.choice(['1: f; 0: next;', '0: f; 1: next;'])
+    jump, branch, store = codes.take(), codes.take(), codes.take()
+    lines = [
+        f'code I : {fields.bits} size 256 at PC;', 'net f : 8 = I[7:0];', 'net next : 8 = add(PC, 1#8);',
+        f'register A : {width} in {value} when {enable};',
+        f'register PC : 8 in case {codes.field} {{ {jump}: f; {branch}: case {counter} {{ {turn} }}; else: next; }};',
+        f'memory M : 16 size 256 addr 8 write A[15:0] at f when eq({codes.field}, {store}#4);',
+    ]
+    return '\n'.join(lines) + '\n', operators, ['A']
+
+
+NETLISTS = {'--wide': random_wide_netlist, '--files': random_file_netlist, '--modes': random_mode_netlist}
 
 
 class Maker:
@@ -410,7 +438,43 @@ def differs(lines, program, cells, length):
     return None
 
 
-def one(binary, folder, seed, make):
+def first_state(processor, memory):
+    """The state that a memory text says."""
+    state = processor.zeros()
+    for line in memory.splitlines():
+        words = line.split()
+        if words[0] == 'M':
+            state['M'][int(words[1])] = int(words[2])
+        else:
+            state[words[0]] = int(words[1])
+    return state
+
+
+def strays(processor, image, held, memory, program, cells):
+    """What is wrong with the stores at the marks of an image that is clocked from the memory text, or None."""
+    marks = {int(line.split()[1]): line.split()[2] for line in image if line.startswith('mark ')}
+    words = [int(line.split()[2], 16) for line in image if line.startswith('word ')]
+    state, labels, last = first_state(processor, memory), {}, 0
+    source = Interpreter(cells)
+    expected = source.run(program)
+    for cycle in range(CYCLES):
+        label = marks.get(state['PC'])
+        if label:
+            test, last = next(expected, None), cycle
+            stored = {cell: state['M'][address] for address, cell in held.items()}
+            if any(stored.get(cell, 0) != value for cell, value in source.cells.items()):
+                return f'cycle {cycle}, {label}: the store is {source.cells}, not {stored}'
+            if (test is None) != (label == 'end') or labels.setdefault(test, label) != label or state.get('S', 0) != 0:
+                return f'cycle {cycle}, {label}: the test is {test}'
+            if label == 'end':
+                return None
+        if cycle - last > len(words):
+            return f'cycle {cycle}: the last mark was at {last}'
+        state = processor.clock(state, words[state['PC']])
+    return None
+
+
+def one(binary, folder, seed, make, tuned):
     """What became of one run: what is wrong, or None, and how it is counted."""
     pick = random.Random(seed)
     netlist, operators, registers = make(pick)
@@ -424,14 +488,18 @@ def one(binary, folder, seed, make):
     def call(*words):
         return subprocess.run([binary, *words], capture_output=True, text=True, timeout=60)
 
-    image = call('compile', net, src)
+    image = call('tune' if tuned else 'compile', net, src)
     if image.returncode != 0:
-        return None, ' '.join(image.stdout.split()[:3])
+        found = 'tune is refused' if tuned and call('compile', net, src).returncode == 0 else None
+        return found, 'wrong' if found else ' '.join(image.stdout.split()[:3])
     cells = {cell: 0 for cell in ['a', 'b', 'c', 'i', 'j'] + [f'x[{k}]' for k in range(4)]}
     (folder / 'p.img').write_text(image.stdout)
     image = image.stdout.split('\n')
     held = addresses(image, cells)
     mem.write_text(random_memory(pick, held, registers, cells))
+    if tuned:
+        found = strays(Netlist(netlist), image, held, mem.read_text(), program, cells)
+        return found, 'wrong' if found else 'as it should be'
     shown = {cell: 0 for cell in cells}
     went = call('go', net, src, mem, str(CYCLES))
     if went.returncode != 0:
@@ -452,13 +520,14 @@ def one(binary, folder, seed, make):
 
 def main():
     binary, *words = sys.argv[1:]
+    tuned, words = '--tune' in words, [word for word in words if word != '--tune']
     binary, make = str(pathlib.Path(binary).resolve()), NETLISTS.get(words[0], random_netlist) if words else random_netlist
     numbers = [int(word) for word in words if word not in NETLISTS]
     count, first = [*numbers, *[200, 0][len(numbers):]]
     counts = collections.Counter()
     with tempfile.TemporaryDirectory() as folder:
         for seed in range(first, first + count):
-            found, kind = one(binary, pathlib.Path(folder), seed, make)
+            found, kind = one(binary, pathlib.Path(folder), seed, make, tuned)
             counts[kind] += 1
             if found:
                 print(f'seed {seed}: {found}')

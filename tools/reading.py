@@ -72,4 +72,5 @@ def main():
         print(f"       {file.relative_to(TOP)}")
 
 
-main()
+if __name__ == "__main__":
+    main()

@@ -26,7 +26,7 @@ use Rattle.dual_bank.proofs.Lying.{banked_does}
 use Rattle.dual_bank.proofs.Sizes.{banked_small}
 use Rattle.right_code.specs.Jobs.{HasOne}
 use Rattle.right_code.specs.Tasks.{HasJobs, Task}
-use Rattle.right_code.specs.Works.{AllOne, AreTests}
+use Rattle.right_code.specs.Works.{AllOne, AreFlowJobs}
 use Rattle.right_code.proofs.Tasks.{program_tests, works_one}
 
 module _ (k : ℕ) where
@@ -42,9 +42,24 @@ module _ (k : ℕ) where
   all_one [] h = tt
   all_one (work ∷ later) h = (one_kept work.destination work.trees h.0, all_one later h.1)
 
-  tests_kept : (all : List Work) (flow : List Flow) → AreTests all flow → AreTests (map (banked_work k) all) flow
+  banked_tested : (destination : Destination) → banked_destination k destination ≡ tested → destination ≡ tested
+  banked_tested (into id) e = absurd (cc e)
+  banked_tested (cell address) e = absurd (cc e)
+  banked_tested (stored address) e = absurd (cc e)
+  banked_tested temporary e = absurd (cc e)
+  banked_tested filed e = absurd (cc e)
+  banked_tested tested e = refl
+
+  tests_kept : (all : List Work) (flow : List Flow) → AreFlowJobs all flow → AreFlowJobs (map (banked_work k) all) flow
   tests_kept all [] h = tt
-  tests_kept all (Assign tree ∷ rest) h = tests_kept all rest h
+  tests_kept all (Assign tree ∷ rest) h = (
+    record {
+      work = banked_work k h.0.work;
+      at = slice_get-map (banked_work k) all tree ∙ ap (option_map (banked_work k)) h.0.at;
+      destination = λ e. h.0.destination (banked_tested h.0.work.destination e);
+    },
+    tests_kept all rest h.1,
+  )
   tests_kept all (Tested tree one none ∷ rest) h = (
     record {
       work = banked_work k h.0.work;

@@ -166,7 +166,7 @@ fn image_for(
 {
     let places = places(alloc, modes, typed, in_bank)?;
     let blocks = jobs(alloc, modes, typed, &places)?;
-    let image = image_of(alloc, modes, isas, typed, places.list, &blocks)?;
+    let image = image_of(alloc, modes, isas, typed, places.list, blocks)?;
     Ok(image)
 }
 

@@ -2,6 +2,7 @@
 
 /// The forms of words of the program, one a line.
 pub const FORMS: &str = "record compile NET SRC
+record tune NET SRC
 record dual NET SRC PART
 record explain NET SRC
 record extract NET

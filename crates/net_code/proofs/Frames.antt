@@ -20,7 +20,7 @@ use Rattle.right_code.specs.Forks.{plan_rule}
 use Rattle.right_code.specs.Jobs.{IsCovered, tree_or_none, tree_used}
 use Rattle.right_code.specs.Tasks.{Task, task_works}
 use Rattle.right_code.proofs.Right.{job_covered}
-use Rattle.right_code.specs.Works.{AreTests, IsTestWork}
+use Rattle.right_code.specs.Works.{AreFlowJobs, IsTestJob}
 use Rattle.right_code.proofs.Tasks.{tests_get}
 use Rattle.compaction.specs.declared.machine.Machine.{Machine}
 use Rattle.net_code.specs.declared.views.Modes.{Modes}
@@ -125,10 +125,10 @@ module _ (modes : Modes) (program : PlannedProgram) (task : Task) (isas : Isas t
 
   -- ---- tests
 
-  pub tests : AreTests (works_in program) program.flow.now
+  pub tests : AreFlowJobs (works_in program) program.flow.now
   tests =
-      subst (λ (ws : List Work). AreTests ws program.flow.now) (sym p.works)
-      (subst (λ (flow : List Flow). AreTests (task_works task) flow) (sym p.flow) p.checked.jobs.tests)
+      subst (λ (ws : List Work). AreFlowJobs ws program.flow.now) (sym p.works)
+      (subst (λ (flow : List Flow). AreFlowJobs (task_works task) flow) (sym p.flow) p.checked.jobs.tests)
 
-  pub test_job : (at tree when_one when_zero : ℕ) → slice_get program.flow.now at ≡ Some (Test tree when_one when_zero) → IsTestWork (works_in program) tree
+  pub test_job : (at tree when_one when_zero : ℕ) → slice_get program.flow.now at ≡ Some (Test tree when_one when_zero) → IsTestJob (works_in program) tree
   test_job at tree when_one when_zero e = tests_get (works_in program) program.flow.now at tree when_one when_zero tests e

@@ -19,7 +19,7 @@ use Rattle.right_code.specs.Covered.{mode_stock, plan_costs}
 use Rattle.right_code.specs.Cuts.{AreBlockCuts, AreCutWords, Cut, cuts_of, join_cut, join_first, join_zero, plan_at, plans_at, plans_of}
 use Rattle.right_code.specs.Jobs.{IsCovered, job_steps, jobs_steps, tree_or_none}
 use Rattle.right_code.specs.Tasks.{Task}
-use Rattle.right_code.specs.Works.{AreTests}
+use Rattle.right_code.specs.Works.{AreFlowJobs}
 use Rattle.right_code.proofs.Tasks.{tests_get}
 use Rattle.compaction.specs.declared.packer.PackedBlock.{PackedBlock}
 use Rattle.net_code.specs.Inner.Coded.{IsBlockCode}
@@ -161,7 +161,7 @@ module _ (task : Task) (isas : Isas task.netlist) where
         omega (arith, before, here, both, more)
 
     -- no block has more words than it costs
-    pub code_within : (flow : List Flow) (blocks : List PackedBlock) (branches : List (ℕ × ℕ)) → AreTests works flow → ((k : ℕ) (job : Work) → slice_get works k ≡ Some job → (planned : Planned) × (slice_get plans k ≡ Some planned))
+    pub code_within : (flow : List Flow) (blocks : List PackedBlock) (branches : List (ℕ × ℕ)) → AreFlowJobs works flow → ((k : ℕ) (job : Work) → slice_get works k ≡ Some job → (planned : Planned) × (slice_get plans k ≡ Some planned))
         → IsBlockCode task isas flow works plans (length flow) blocks branches → SizesWithin (sizes blocks) (block_costs flow (plan_costs works plans) flow 0)
     code_within flow blocks branches tests planned_at code =
         sizes_within flow (plan_costs works plans) (sizes blocks) (length-map blocks (λ (block : PackedBlock). length block.words) ∙ code.long)

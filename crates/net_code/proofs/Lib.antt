@@ -17,6 +17,8 @@ pub mod Packing
 pub mod Places
 pub mod Running
 pub mod Sizes
+pub mod Spelled
+pub mod Spellings
 pub mod Stepping
 pub mod Told
 pub mod Whole

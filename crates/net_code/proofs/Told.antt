@@ -197,7 +197,7 @@ module _ (a b : ℕ → Stock) (A B : ℕ → Type 0) (to : (v : ℕ) → A v �
   covers_back destination trees v choice c =
       record { can = back v c.can; may = c.may; covers = subst (λ (stock : Stock). Covers stock destination trees choice) (sym (same v (back v c.can))) c.covers }
 
-  planned_along : (destination : Destination) (trees : List Term) (planned : Planned) → IsPlanned a A destination trees planned → IsPlanned b B destination trees planned
+  pub planned_along : (destination : Destination) (trees : List Term) (planned : Planned) → IsPlanned a A destination trees planned → IsPlanned b B destination trees planned
   planned_along destination trees planned p = record {
     can = to planned.mode p.can;
     may = p.may;

@@ -5,5 +5,6 @@ pub mod Imaged
 pub mod Memories
 pub mod Planning
 pub mod Registers
+pub mod Spelling
 pub mod Uncovered
 pub mod Views

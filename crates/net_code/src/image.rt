@@ -12,7 +12,9 @@ ghost use Rattle.net_extract.specs.Extraction.{AreIsas};
 ghost use Rattle.net_extract.specs.declared.netlists.Isa.{Isa as TheIsa};
 ghost use Rattle.net_code.specs.Inner.Planning.{AddsOperations, AreMachinesOf, AreOperations, AreReady, AreReadyAll, AreViews, IsView, costs_in, reach_at};
 ghost use Rattle.net_code.specs.Inner.Imaged.{AreCodedIn, HasTask, IsImageMade, IsLengthFault, IsTaskImage, OfCoded, OfTask};
+ghost use Rattle.net_code.specs.Inner.Spelling.{AreBlocksIn, IsSpelledFault, MayBeSpelled, MaySpell, OfSpelled, SpelledSo};
 ghost use Rattle.net_code.specs.Refusals.{IsCodeFault, IsReached};
+ghost use Rattle.net_code.specs.Spelled.{HasSpelling, IsPlain, IsRightByEqualTrees, IsTunedFault};
 ghost use Rattle.net_code.specs.Tasks.{coded_task};
 
 use crate::blocks::block_code;
@@ -20,6 +22,7 @@ use crate::covers::{cost_lines, costs_of, plans_of};
 use crate::cuts::mode_set;
 use crate::fault::CodeFault;
 use crate::modes::{forms_by_mode, passages, usable_modes};
+use crate::spelling::{Spelling, respelled};
 use crate::views::{Modes, Operations, PlannedProgram};
 use crate::words::words_of_items;
 use bit_bdd::Book;
@@ -259,6 +262,54 @@ fn planned_image(
     covered_image(alloc, modes, books, &program, places)
 }
 
+// The flow and the jobs of a program in this spelling.
+fn spelled(
+    alloc: Global,
+    modes: &Modes<'_>,
+    usable: &[bool],
+    temps: u32,
+    blocks: Blocks,
+    spelling: Spelling,
+) -> Result<Blocks, NoMemory>
+    requires modes { length usable.now ≡ length modes.now.forms.now }
+    requires machines { 0 < length modes.now.machines.now }
+    ensures { IfOk result (AreBlocksIn spelling modes.now usable.now temps blocks) }
+{
+    match spelling {
+        Spelling::Own => Ok(blocks),
+        Spelling::Equal => {
+            let cell = modes.machines[0].checked.memory_width();
+            respelled(alloc, modes.forms, usable, temps, cell, blocks)
+        }
+    }
+}
+
+// The image of a program with these jobs in this spelling, for what a netlist is in its modes.
+fn spelled_image(
+    alloc: Global,
+    modes: &Modes<'_>,
+    usable: &[bool],
+    books: &mut [Book],
+    places: Places,
+    blocks: Blocks,
+    spelling: Spelling,
+) -> Result<Image, CodeFault>
+    requires ready { AreReady modes.now books.old }
+    requires coded { MayBeSpelled spelling modes.now usable.now places blocks }
+    requires named { AllByRecursion PlaceFits places.list }
+    ensures right { IfOk result (λ image. OfSpelled spelling modes.now usable.now places blocks
+        (SpelledSo spelling (λ (task : Task). IsRightImage task image))) }
+    ensures fits { IfOk result (λ image. OfSpelled spelling modes.now usable.now places blocks
+        (λ (task : Task). IsFitting (limits_of task.netlist) image)) }
+    ensures reached { IfOk result (λ _. OfSpelled spelling modes.now usable.now places blocks
+        (SpelledSo spelling IsReached)) }
+    ensures refused { IfErr result (λ fault. OfSpelled spelling modes.now usable.now places blocks
+        (IsSpelledFault spelling fault)) }
+{
+    let blocks = spelled(alloc, modes, usable, places.temps, blocks, spelling)?;
+    planned_image(alloc, modes, usable, books, places, &blocks)
+}
+
 // The image of a program for what a netlist is in its modes.
 fn image_for(
     alloc: Global,
@@ -267,16 +318,20 @@ fn image_for(
     books: &mut [Book],
     typed: &Typed,
     places: Items<Place>,
-    blocks: &Blocks,
+    blocks: Blocks,
+    spelling: Spelling,
 ) -> Result<Image, CodeFault>
     requires machines { AreMachinesOf machines.now modes.now.netlist }
     requires ready { AreReadyAll machines.now books.old }
-    requires checked { IsChecked (coded_task modes.now.netlist typed.now places blocks.now) }
+    requires checked { IsChecked (coded_task modes.now.netlist typed.now places blocks) }
+    requires plain { MaySpell spelling (coded_task modes.now.netlist typed.now places blocks) }
     requires named { AllByRecursion PlaceFits places }
-    ensures right { IfOk result (IsRightImage (coded_task modes.now.netlist typed.now places blocks.now)) }
+    ensures right { IfOk result (λ image. SpelledSo spelling (λ (task : Task). IsRightImage task image)
+        (coded_task modes.now.netlist typed.now places blocks)) }
     ensures fits { IfOk result (IsFitting (limits_of modes.now.netlist)) }
-    ensures reached { IfOk result (λ _. IsReached (coded_task modes.now.netlist typed.now places blocks.now)) }
-    ensures refused { IfErr result (IsCodeFault (coded_task modes.now.netlist typed.now places blocks.now)) }
+    ensures reached { IfOk result (λ _. SpelledSo spelling IsReached (coded_task modes.now.netlist typed.now places blocks)) }
+    ensures refused { IfErr result (λ fault. IsSpelledFault spelling fault
+        (coded_task modes.now.netlist typed.now places blocks)) }
 {
     let netlist = modes.netlist();
     let forms = forms_by_mode(alloc, machines, books, netlist)?;
@@ -292,7 +347,35 @@ fn image_for(
         temps: typed.temps(),
         list: places,
     };
-    planned_image(alloc, &view, &usable, books, places, blocks)
+    spelled_image(alloc, &view, &usable, books, places, blocks, spelling)
+}
+
+// The image of a program in this spelling, whose variables stand at these places.
+fn coded_image(
+    alloc: Global,
+    modes: &NetModes,
+    extracted: Items<Extracted>,
+    typed: &Typed,
+    places: Items<Place>,
+    blocks: Blocks,
+    spelling: Spelling,
+) -> Result<Image, CodeFault>
+    requires isas { AreIsas modes.now.bases extracted }
+    requires checked { IsChecked (coded_task modes.now.netlist typed.now places blocks) }
+    requires plain { MaySpell spelling (coded_task modes.now.netlist typed.now places blocks) }
+    requires named { AllByRecursion PlaceFits places }
+    ensures right { IfOk result (λ image. SpelledSo spelling (λ (task : Task). IsRightImage task image)
+        (coded_task modes.now.netlist typed.now places blocks)) }
+    ensures fits { IfOk result (IsFitting (limits_of modes.now.netlist)) }
+    ensures reached { IfOk result (λ _. SpelledSo spelling IsReached (coded_task modes.now.netlist typed.now places blocks)) }
+    ensures refused { IfErr result (λ fault. IsSpelledFault spelling fault
+        (coded_task modes.now.netlist typed.now places blocks)) }
+{
+    let (mut books, rest) = apart(alloc, extracted)?;
+    let machines = machines_of(alloc, modes.bases(), &rest)?;
+    image_for(
+        alloc, modes, &machines, &mut books, typed, places, blocks, spelling,
+    )
 }
 
 /// The image of a program that was checked for the words of the netlist's data memory, whose
@@ -304,17 +387,53 @@ pub fn image_of(
     extracted: Items<Extracted>,
     typed: &Typed,
     places: Items<Place>,
-    blocks: &Blocks,
+    blocks: Blocks,
 ) -> Result<Image, CodeFault>
     requires isas { AreIsas modes.now.bases extracted }
-    requires checked { IsChecked (coded_task modes.now.netlist typed.now places blocks.now) }
+    requires checked { IsChecked (coded_task modes.now.netlist typed.now places blocks) }
     requires named { AllByRecursion PlaceFits places }
-    ensures right { IfOk result (IsRightImage (coded_task modes.now.netlist typed.now places blocks.now)) }
+    ensures right { IfOk result (IsRightImage (coded_task modes.now.netlist typed.now places blocks)) }
     ensures fits { IfOk result (IsFitting (limits_of modes.now.netlist)) }
-    ensures reached { IfOk result (λ _. IsReached (coded_task modes.now.netlist typed.now places blocks.now)) }
-    ensures refused { IfErr result (IsCodeFault (coded_task modes.now.netlist typed.now places blocks.now)) }
+    ensures reached { IfOk result (λ _. IsReached (coded_task modes.now.netlist typed.now places blocks)) }
+    ensures refused { IfErr result (IsCodeFault (coded_task modes.now.netlist typed.now places blocks)) }
 {
-    let (mut books, rest) = apart(alloc, extracted)?;
-    let machines = machines_of(alloc, modes.bases(), &rest)?;
-    image_for(alloc, modes, &machines, &mut books, typed, places, blocks)
+    coded_image(
+        alloc,
+        modes,
+        extracted,
+        typed,
+        places,
+        blocks,
+        Spelling::Own,
+    )
+}
+
+/// The image of such a program, whose flow and jobs are its own, by equal trees where these cost less
+/// or have covers alone. Leastness isn't promised; no job costs more than in its own spelling.
+pub fn tuned_image_of(
+    alloc: Global,
+    modes: &NetModes,
+    extracted: Items<Extracted>,
+    typed: &Typed,
+    places: Items<Place>,
+    blocks: Blocks,
+) -> Result<Image, CodeFault>
+    requires isas { AreIsas modes.now.bases extracted }
+    requires checked { IsChecked (coded_task modes.now.netlist typed.now places blocks) }
+    requires plain { IsPlain (coded_task modes.now.netlist typed.now places blocks) }
+    requires named { AllByRecursion PlaceFits places }
+    ensures right { IfOk result (λ image. IsRightByEqualTrees (coded_task modes.now.netlist typed.now places blocks) image) }
+    ensures fits { IfOk result (IsFitting (limits_of modes.now.netlist)) }
+    ensures reached { IfOk result (λ _. HasSpelling IsReached (coded_task modes.now.netlist typed.now places blocks)) }
+    ensures refused { IfErr result (IsTunedFault (coded_task modes.now.netlist typed.now places blocks)) }
+{
+    coded_image(
+        alloc,
+        modes,
+        extracted,
+        typed,
+        places,
+        blocks,
+        Spelling::Equal,
+    )
 }

@@ -6,7 +6,10 @@
 //! before a full image applies (`reached`: `IsReached`). No step, no jump, no cover and no reach come
 //! exactly where they are the first that applies; a full image only where an image that is made for
 //! the task is longer than the code, and then so is the bound (`refused`: `IsCodeFault`).
-//! `usable_forms` gives the forms of a netlist without modes, or the first refusal alone
+//! `tuned_image_of` takes equal trees in place of the program's own where these cost less, or have
+//! covers alone: its image is right code for the task in such a spelling, and traces the program as
+//! it is written (`right`: `IsRightByEqualTrees`; `refused`: `IsTunedFault`). `TREE_NODES` bounds
+//! such a tree. `usable_forms` gives the forms of a netlist without modes, or the first refusal alone
 //! (`refused`: `IsFormless`), for whoever asks why there is no image, and `blocks_of` the flow and
 //! the jobs of a program whose variables stand behind its temporary cells (`flow`: `program_flow`,
 //! `jobs`: `task_works`).
@@ -34,14 +37,15 @@
 //! - `blocks`: `pack_block`, and the groups of each block and of each test's operands, with their
 //!   words.
 //! - `words`: the words of the layout's items, with their lists.
-//! - `image`: the layout, the bound, and `image_of`.
-//! - `specs/`: `Refusals`, `Tasks`, `Machines`, `Blocks` and `Trials`, cited by public contracts with
-//!   `right_code/specs`. `specs/Inner/`: what goes with the code: `Planning`, `Coded`, `Imaged`,
-//!   `Views`, `Uncovered`, `Registers`, `Memories`.
+//! - `spelling`: the jobs of a program by equal trees, and its flow where tests are turned.
+//! - `image`: the layout, the bound, `image_of` and `tuned_image_of`.
+//! - `specs/`: `Refusals`, `Spelled`, `Tasks`, `Machines`, `Blocks` and `Trials`, cited by public
+//!   contracts with `right_code/specs`. `specs/Inner/`: what goes with the code: `Planning`, `Coded`,
+//!   `Imaged`, `Spelling`, `Views`, `Uncovered`, `Registers`, `Memories`.
 //! - `proofs/`: `Whole` and `Making` put the image together, `Coding`, `Cutting`, `Running`,
 //!   `Packing` and `Stepping` its blocks; `Lengths` and `Sizes` for the bound, `NeededForms` and
 //!   `FormLemmas` for refusals; `Held`, `ModeRegs` and `ByMode` for the modes; `Fitting`, `Frames`,
-//!   `Told`, `Built` and `Listing` for the task.
+//!   `Told`, `Built` and `Listing` for the task, `Spellings` and `Spelled` for it in another spelling.
 #![tactic(auto)]
 
 mod blocks;
@@ -53,6 +57,7 @@ mod image;
 mod jobs;
 mod modes;
 mod registers;
+mod spelling;
 mod steps;
 mod views;
 mod words;
@@ -61,5 +66,6 @@ pub use blocks::pack_block;
 pub use covers::chosen_cover;
 pub use fault::CodeFault;
 pub use forms::{only_control, usable_forms};
-pub use image::image_of;
+pub use image::{image_of, tuned_image_of};
 pub use jobs::{addr_width, blocks_of};
+pub use spelling::TREE_NODES;

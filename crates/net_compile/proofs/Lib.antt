@@ -1,2 +1,3 @@
 pub mod TaskLemmas
+pub mod ReadLemmas
 pub mod FittingLemmas

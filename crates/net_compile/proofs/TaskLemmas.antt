@@ -23,11 +23,16 @@ use Rattle.net_code.specs.Refusals.{HasSteps, HasJumps, IsBeyondReach, IsCodeFau
 use Rattle.net_code.specs.declared.fault.CodeFault.{CodeFault}
 use Rattle.net_code.specs.declared.fault.CodeFault.TheVariants.{NoStep as Stepless, NoJump as Jumpless, NoCover as Uncovered, NoReach as Beyond, ImageFull as Overlong, Memory as CodeMemory}
 use Rattle.net_compile.specs.Code.{IsDataFull, IsCode, IsPlaceFault, IsTaskFault, IsWithin, HasRoom, FailsWith}
-use Rattle.net_compile.specs.Compiled.{HasNet, IsCompiled, BreaksSrc, IsCompileFault, IsSrcFault}
+use Rattle.net_compile.specs.Compiled.{HasNet, IsCompiled, BreaksSrc, IsCompileFault, IsReadFault, IsSrcFault}
 use Rattle.net_compile.specs.Tasks.{IsTask, TaskHolds, compiled_edition, data_width}
 use Rattle.net_compile.specs.Inner.Faults.{bind_fault, code_fault}
 use Rattle.net_compile.specs.declared.fault.CompileFault.{CompileFault}
 use Rattle.net_compile.specs.declared.fault.CompileFault.TheVariants.{NetText, Net, SrcText, Src, DataFull, NoStep, NoJump, NoCover, NoReach, ImageFull, Memory}
+
+-- tasks with the same parts are one
+pub same_parts : (task other : Task) → task.netlist ≡ other.netlist → task.width ≡ other.width → task.listing ≡ other.listing → task.places ≡ other.places → task.flow ≡ other.flow → task.works ≡ other.works → task ≡ other
+same_parts task other netlist width listing places flow works =
+    (λ i. record { netlist = netlist i; width = width i; listing = listing i; places = places i; flow = flow i; works = works i })
 
 -- why there is no image of a task that has room
 pub fault_of_image : (task : Task) → HasRoom task → (fault : CodeFault) → IsCodeFault task fault → IsTaskFault task (code_fault fault)
@@ -59,7 +64,7 @@ fault_of_places task Memory h = tt
 
 -- why the program's bytes were not taken for a netlist that was read
 pub fault_of_program : (net src : List ℕ) (modes : Moded) (width : ℕ) → IsTakenModes compiled_edition net modes → width ≡ memory_width modes.netlist.storages → (fault : CompileFault) →
-    IsSrcFault src width fault → IsCompileFault net src fault
+    IsSrcFault src width fault → IsReadFault net src fault
 fault_of_program net src modes width read wide (NetText at) h = absurd h
 fault_of_program net src modes width read wide (Net fault) h = absurd h
 fault_of_program net src modes width read wide (SrcText at) h = (record { entries = read.routed.entries; file = file_of_modes compiled_edition net modes read }, h)
@@ -75,6 +80,20 @@ fault_of_program net src modes width read wide (NoCover number) h = absurd h
 fault_of_program net src modes width read wide (NoReach bound reach) h = absurd h
 fault_of_program net src modes width read wide (ImageFull len size bound) h = absurd h
 fault_of_program net src modes width read wide Memory h = tt
+
+-- what is not taken isn't compiled
+pub read_refused : (net src : List ℕ) (fault : CompileFault) → IsReadFault net src fault → IsCompileFault net src fault
+read_refused net src (NetText at) h = h
+read_refused net src (Net fault) h = h
+read_refused net src (SrcText at) h = h
+read_refused net src (Src fault) h = h
+read_refused net src (DataFull need have) h = absurd h
+read_refused net src NoStep h = absurd h
+read_refused net src NoJump h = absurd h
+read_refused net src (NoCover number) h = absurd h
+read_refused net src (NoReach bound reach) h = absurd h
+read_refused net src (ImageFull len size bound) h = absurd h
+read_refused net src Memory h = tt
 
 -- ---- two texts say one task
 

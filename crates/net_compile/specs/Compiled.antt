@@ -46,6 +46,15 @@ IsSrcFault src width (Src fault) = BreaksSrcRule src width fault
 IsSrcFault src width Memory = Unit {0}
 IsSrcFault src width _ = ⊥
 
+-- why one of the two was not taken
+abbrev pub IsReadFault : List ℕ → List ℕ → CompileFault → Type 0
+IsReadFault net src (NetText at) = IsNoNetText net at
+IsReadFault net src (Net fault) = BreaksAnyTaken compiled_edition net fault
+IsReadFault net src (SrcText at) = HasNet net × IsNoSrcText src at
+IsReadFault net src (Src fault) = BreaksSrc net src fault
+IsReadFault net src Memory = Unit {0}
+IsReadFault net src _ = ⊥
+
 -- when each refusal comes; nothing is said where memory ran out
 abbrev pub IsCompileFault : List ℕ → List ℕ → CompileFault → Type 0
 IsCompileFault net src (NetText at) = IsNoNetText net at

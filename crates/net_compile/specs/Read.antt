@@ -1,7 +1,9 @@
--- A program that was read and compiled.
+-- A netlist and a program that were read, and compiled.
 use Rattle.std.specs.Prelude.{ℕ, ◌≡◌, List}
 use Rattle.net_model.specs.Nets.{memory_width}
+use Rattle.net_model.specs.ModeRules.{Moded}
 use Rattle.net_extract.specs.Taken.{IsTakenModes}
+use Rattle.src_model.specs.declared.typed.Typed.{Typed}
 use Rattle.src_model.specs.Written.{listing_of}
 use Rattle.src_front.specs.Fronts.{IsSrcFile}
 use Rattle.right_code.specs.Tasks.{read_task}
@@ -9,10 +11,14 @@ use Rattle.net_compile.specs.Code.{IsRightFor}
 use Rattle.net_compile.specs.Tasks.{compiled_edition}
 use Rattle.net_compile.specs.declared.compiler.Compiled.{Compiled}
 
--- the netlist is that of the first bytes, which keeps all rules, the program that of the second for
--- its words, and the image is right code for them
+-- the netlist is that of the first bytes, which keeps all rules, and the program that of the second
+-- for its words
+pub record IsRead (net src : List ℕ) (modes : Moded) (typed : Typed) : Type 0 where
+  pub net_file : IsTakenModes compiled_edition net modes
+  pub src_file : IsSrcFile src typed.width (listing_of typed.program)
+  pub width : typed.width ≡ memory_width modes.netlist.storages
+
+-- so they are, and the image is right code for them
 pub record IsCompiledTo (net src : List ℕ) (compiled : Compiled) : Type 0 where
-  pub net_file : IsTakenModes compiled_edition net compiled.modes
-  pub src_file : IsSrcFile src compiled.typed.width (listing_of compiled.typed.program)
-  pub width : compiled.typed.width ≡ memory_width compiled.modes.netlist.storages
+  pub read : IsRead net src compiled.modes compiled.typed
   pub image : IsRightFor compiled.image (read_task compiled.modes compiled.typed)

@@ -15,8 +15,8 @@ ghost use Rattle.code_model.specs.Layout.{layout_of};
 ghost use Rattle.code_model.specs.Places.{Apart};
 ghost use Rattle.right_code.specs.Tasks.{read_task};
 ghost use Rattle.net_compile.specs.Code.{HasRoom, IsPlaceFault, IsRightFor, IsTaskFault};
-ghost use Rattle.net_compile.specs.Read.{IsCompiledTo};
-ghost use Rattle.net_compile.specs.Compiled.{IsCompiled, IsCompileFault, IsNetFault, IsSrcFault};
+ghost use Rattle.net_compile.specs.Read.{IsCompiledTo, IsRead};
+ghost use Rattle.net_compile.specs.Compiled.{IsCompiled, IsCompileFault, IsNetFault, IsReadFault, IsSrcFault};
 ghost use Rattle.net_compile.specs.Tasks.{compiled_edition};
 ghost use Rattle.net_compile.specs.declared.fault.CompileFault.{CompileFault};
 
@@ -111,8 +111,26 @@ pub fn image_for(
 {
     let places = places(alloc, modes, typed)?;
     let blocks = blocks_of(alloc, modes, typed, &places)?;
-    let image = image_of(alloc, modes, isas, typed, places.list, &blocks)?;
+    let image = image_of(alloc, modes, isas, typed, places.list, blocks)?;
     Ok(image)
+}
+
+/// The netlist that `net` is, in its modes, with what is extracted from each, and the program that
+/// `src` is, checked for its words. The refusals are the first four, and want of memory.
+pub fn read(
+    alloc: Global,
+    net: &[u8],
+    src: &[u8],
+) -> Result<(Modes, Items<Isa>, Typed), CompileFault>
+    requires net { length net.now < 2 ^ 32 }
+    requires src { length src.now < 2 ^ 32 }
+    ensures read { IfOk result (λ all. IsRead net.now src.now all.0 all.2) }
+    ensures isas { IfOk result (λ all. AreIsas all.0.bases all.1) }
+    ensures refused { IfErr result (IsReadFault net.now src.now) }
+{
+    let (modes, isas) = netlist(alloc, net)?;
+    let typed = program(alloc, src, modes.first().memory_width())?;
+    Ok((modes, isas, typed))
 }
 
 /// The program that `src` is, with its image for the netlist that `net` is: right code for it.
@@ -122,8 +140,7 @@ pub fn read_compiled(alloc: Global, net: &[u8], src: &[u8]) -> Result<Compiled, 
     ensures compiled { IfOk result (IsCompiledTo net.now src.now) }
     ensures refused { IfErr result (IsCompileFault net.now src.now) }
 {
-    let (modes, isas) = netlist(alloc, net)?;
-    let typed = program(alloc, src, modes.first().memory_width())?;
+    let (modes, isas, typed) = read(alloc, net, src)?;
     let image = image_for(alloc, &modes, isas, &typed)?;
     Ok(Compiled {
         modes,

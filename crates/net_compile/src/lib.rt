@@ -5,8 +5,8 @@
 //! (`right`: `IsCompiled`); so none of the refusals applies there, unless another image made for
 //! the task is too long. `read_compiled` gives that image with the netlist and the program
 //! (`compiled`: `IsCompiledTo`). Each refusal comes only where it is the first that applies
-//! (`refused`: `IsCompileFault`). `netlist`, `program`, `places` and `image_for` are the parts of
-//! these two, each with its own refusals, for whoever asks more of what was read.
+//! (`refused`: `IsCompileFault`). `netlist`, `program`, `read` of both, `places` and `image_for` are
+//! the parts of these two, each with its own refusals, for whoever asks more of what was read.
 //!
 //! Files:
 //!
@@ -22,5 +22,7 @@
 mod compiler;
 mod fault;
 
-pub use compiler::{Compiled, compile, image_for, netlist, places, program, read_compiled, text};
+pub use compiler::{
+    Compiled, compile, image_for, netlist, places, program, read, read_compiled, text,
+};
 pub use fault::CompileFault;

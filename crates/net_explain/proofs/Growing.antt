@@ -13,7 +13,7 @@ use Rattle.src_trees.specs.Lowered.{Work}
 use Rattle.job_places.specs.Places.{Spot}
 use Rattle.net_explain.specs.Explained.{AreJobTexts, AreLackLines, AreNearLines, IsInner, IsJobText}
 use Rattle.net_explain.specs.Inner.Telling.{Adds, Begins}
-use Rattle.net_explain.specs.Lines.{lack_line, near_line, tree_lines}
+use Rattle.net_explain.specs.Lines.{lack_line, lines_of, near_line}
 
 -- ---- one part further
 
@@ -46,13 +46,13 @@ adds_both old mid new first Second Whole join is b = record {
 
 -- ---- lines of trees
 
-pub tree_next : (netlist : Netlist) (left rest : List Tree) (tree : Tree) (old new whole line : List ℕ) → left ≡ tree ∷ rest
-    → new ≡ old ++ line → line ++ tree_lines netlist (map tree_term rest) ≡ tree_lines netlist (map tree_term (tree ∷ rest))
-    → old ++ tree_lines netlist (map tree_term left) ≡ whole → new ++ tree_lines netlist (map tree_term rest) ≡ whole
-tree_next netlist left rest tree old new whole line is e f w =
-    ap (λ l. l ++ tree_lines netlist (map tree_term rest)) e
-    ∙ append_assoc old line (tree_lines netlist (map tree_term rest))
-    ∙ ap (λ l. old ++ l) (f ∙ ap (λ l. tree_lines netlist (map tree_term l)) (sym is)) ∙ w
+pub tree_next : (netlist : Netlist) (word : List ℕ) (left rest : List Tree) (tree : Tree) (old new whole line : List ℕ) → left ≡ tree ∷ rest
+    → new ≡ old ++ line → line ++ lines_of netlist word (map tree_term rest) ≡ lines_of netlist word (map tree_term (tree ∷ rest))
+    → old ++ lines_of netlist word (map tree_term left) ≡ whole → new ++ lines_of netlist word (map tree_term rest) ≡ whole
+tree_next netlist word left rest tree old new whole line is e f w =
+    ap (λ l. l ++ lines_of netlist word (map tree_term rest)) e
+    ∙ append_assoc old line (lines_of netlist word (map tree_term rest))
+    ∙ ap (λ l. old ++ l) (f ∙ ap (λ l. lines_of netlist word (map tree_term l)) (sym is)) ∙ w
 
 -- ---- lines on near forms
 

@@ -1,8 +1,9 @@
--- What is explained of two texts: each job with its cover or with what lacks one, and what
--- `compile` answers.
-use Rattle.std.specs.Prelude.{ℕ, ◌+◌, ◌≤◌, ◌≡◌, ◌≢◌, ◌⊎◌, List, [], ◌∷◌, ◌++◌, map}
+-- What is explained of two texts: each job with its cover, or with what lacks one and equal trees
+-- that have one, and what `compile` answers.
+use Rattle.std.specs.Prelude.{ℕ, Bool, ◌+◌, ◌≤◌, ◌≡◌, ◌≢◌, ◌⊎◌, List, [], ◌∷◌, ◌++◌, map}
 use Rattle.std.specs.List.{AllByRecursion, concat}
 use Rattle.net_model.specs.declared.hardware.Netlist.{Netlist}
+use Rattle.net_model.specs.Nets.{memory_width}
 use Rattle.net_model.specs.Terms.{Term}
 use Rattle.net_model.specs.Written.{Text}
 use Rattle.net_parser.specs.Texts.{IsNoNetText}
@@ -11,17 +12,20 @@ use Rattle.net_extract.specs.Taken.{BreaksAnyTaken}
 use Rattle.form_model.specs.Covers.{Choice, HasNoCover, IsChosen, Stock, job_cost}
 use Rattle.form_model.specs.Rules.{Rule}
 use Rattle.src_trees.specs.Lowered.{Work}
+use Rattle.src_trees.specs.Measures.{IsSmall}
 use Rattle.job_places.specs.Places.{Spot, program_spots}
 use Rattle.cover_lacks.specs.Lacks.{AreLacking}
+use Rattle.respell.specs.Respelled.{IsRespelled}
 use Rattle.right_code.specs.Forms.{AreFormsOf}
 use Rattle.right_code.specs.Tasks.{Task, task_stock, task_works}
+use Rattle.right_code.specs.Works.{node_limit}
 use Rattle.net_code.specs.Refusals.{HasJumps}
 use Rattle.net_compile.specs.Code.{HasRightCode, HasRoom, IsTaskFault}
 use Rattle.net_compile.specs.Compiled.{IsCompileFault}
 use Rattle.net_compile.specs.Tasks.{TaskHolds}
 use Rattle.net_compile.specs.declared.fault.CompileFault.{CompileFault}
 use Rattle.net_compile.specs.declared.fault.CompileFault.TheVariants.{NetText, Net, NoCover, NoReach, ImageFull, Memory}
-use Rattle.net_explain.specs.Lines.{bare_line, cost_line, done_line, end_line, job_head, lack_line, near_line}
+use Rattle.net_explain.specs.Lines.{bare_line, cost_line, done_line, end_line, equal_lines, job_head, lack_line, near_line}
 
 -- ---- what is open: the wording of near forms
 
@@ -50,14 +54,36 @@ pub record ShowsCost (stock : Stock) (job : Work) (text : List ℕ) : Type 0 whe
   pub chosen : IsChosen stock job.destination job.trees choice
   pub line : text ≡ cost_line (job_cost job.destination choice.plan)
 
--- it has none, and the text tells the smallest subtrees that nothing makes
+-- a job that may stand for another: by equal trees, or of a test by an opposite one, and with cells
+-- for what waits
+pub record MayStandFor (netlist : Netlist) (stock : Stock) (turned : Bool) (job other : Work) : Type 0 where
+  pub respelled : IsRespelled (memory_width netlist.storages) turned job other
+  pub small : IsSmall (memory_width netlist.storages) stock.temps node_limit other
+
+-- one that has an orderly cover, and the text tells its trees and the cost of the chosen one
+pub record ShowsEqual (netlist : Netlist) (stock : Stock) (job : Work) (text : List ℕ) : Type 0 where
+  pub turned : Bool
+  pub other : Work
+  pub stands : MayStandFor netlist stock turned job other
+  pub choice : Choice
+  pub chosen : IsChosen stock other.destination other.trees choice
+  pub lines : text ≡ equal_lines netlist turned other (job_cost other.destination choice.plan)
+
+-- such trees, where some are found; that all are found which there are is not promised
+abbrev pub IsEqualText : Netlist → Stock → Work → List ℕ → Type 0
+IsEqualText netlist stock job text = (text ≡ []) ⊎ ShowsEqual netlist stock job text
+
+-- it has none, and the text tells the smallest subtrees that nothing makes, and what may stand for
+-- the job
 pub record ShowsLacks (netlist : Netlist) (stock : Stock) (job : Work) (text : List ℕ) : Type 0 where
   pub none : HasNoCover stock job.destination job.trees
   pub lacks : List Term
   pub are : AreLacking stock job.destination job.trees lacks
   pub rest : List ℕ
   pub told : AreLackLines netlist lacks rest
-  pub lines : text ≡ bare_line ++ rest
+  pub equal : List ℕ
+  pub found : IsEqualText netlist stock job equal
+  pub lines : text ≡ concat (bare_line ∷ rest ∷ equal ∷ [])
 
 -- one of the two
 abbrev pub IsCoverText : Netlist → Stock → Work → List ℕ → Type 0

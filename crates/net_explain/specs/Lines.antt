@@ -1,5 +1,5 @@
 -- The lines of an explanation. Each ends with LF, and fields stand one space apart.
-use Rattle.std.specs.Prelude.{ℕ, List, [], ◌∷◌, codes, map}
+use Rattle.std.specs.Prelude.{ℕ, Bool, true, false, List, [], ◌∷◌, codes, map}
 use Rattle.std.specs.List.{concat}
 use Rattle.std.specs.Fmt.{decimal}
 use Rattle.net_model.specs.declared.hardware.Netlist.{Netlist}
@@ -46,9 +46,13 @@ aim_lines netlist filed = []
 aim_lines netlist temporary = []
 aim_lines netlist tested = []
 
+-- a line for each tree behind a word
+abbrev pub lines_of : Netlist → List ℕ → List Term → List ℕ
+lines_of netlist word trees = concat (map (tree_line netlist word) trees)
+
 -- the job's tree, or its two: `tree TREE`
 abbrev pub tree_lines : Netlist → List Term → List ℕ
-tree_lines netlist trees = concat (map (tree_line netlist (codes "tree")) trees)
+tree_lines netlist trees = lines_of netlist (codes "tree") trees
 
 abbrev pub job_head : Netlist → List ℕ → ℕ → Spot → Work → List ℕ
 job_head netlist src number spot job =
@@ -71,6 +75,18 @@ lack_line netlist tree = tree_line netlist (codes "lacks") tree
 -- what is told of a near form: `near ` and what follows it
 abbrev pub near_line : List ℕ → List ℕ
 near_line rest = concat (codes "near " ∷ rest ∷ codes "\n" ∷ [])
+
+-- ---- the job by equal trees that have a cover
+
+-- `equal TREE`, or of a test whose targets are exchanged `opposite TREE`
+abbrev pub equal_word : (turned : Bool) → List ℕ
+equal_word false = codes "equal"
+equal_word true = codes "opposite"
+
+-- the address, where it is computed, the tree, and the cost
+abbrev pub equal_lines : Netlist → (turned : Bool) → Work → (cost : ℕ) → List ℕ
+equal_lines netlist turned job cost =
+    concat (aim_lines netlist job.destination ∷ lines_of netlist (equal_word turned) job.trees ∷ cost_line cost ∷ [])
 
 -- ---- the end: what `compile` answers of the two texts
 

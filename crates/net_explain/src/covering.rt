@@ -1,16 +1,17 @@
-//! What is told of a job's cover: its cost, or what lacks one.
+//! What is told of a job's cover: its cost, or what lacks one and what may stand for the job.
 
 ghost use Rattle.std.specs.Prelude.{◌≡◌, ◌++◌, OnOk};
 ghost use Rattle.form_model.specs.Covers.{HasNoCover};
 ghost use Rattle.src_trees.specs.Jobs.{work_of};
 ghost use Rattle.net_explain.specs.Explained.{AreLackLines, AreNearLines, IsCoverText, ShowsLacks};
 ghost use Rattle.net_explain.specs.Inner.Telling.{Adds, netlist_of, stock_of};
-ghost use Rattle.net_explain.specs.Lines.{cost_line, near_line};
+ghost use Rattle.net_explain.specs.Lines.{near_line};
 ghost use Rattle.tree_sharing.specs.Sharing.{terms_at};
 
+use crate::equal::add_equal;
 use crate::heading::add_tree_line;
 use crate::subject::Subject;
-use crate::text::{add_bytes, add_number};
+use crate::text::{add_bytes, add_cost};
 use cover::{CoverFault, cover};
 use cover_lacks::lacking;
 use form_model::{Job, Tree};
@@ -18,15 +19,6 @@ use near_forms::near_texts;
 use rec_bits::NoMemory;
 use std::alloc::Global;
 use text_places::line_around;
-
-// The line of a cost.
-fn add_cost(text: &mut Vec<u8>, cost: u64) -> Result<(), NoMemory>
-    ensures { OnOk result (text.new.items ≡ text.old.items ++ cost_line cost) }
-{
-    add_bytes(text, b"cost ")?;
-    add_number(text, cost)?;
-    add_bytes(text, b"\n")
-}
 
 // A line on a near form.
 fn add_near(text: &mut Vec<u8>, rest: &[u8]) -> Result<(), NoMemory>
@@ -73,7 +65,7 @@ fn add_trees(
     Ok(())
 }
 
-// What a job lacks that has no cover.
+// What a job lacks that has no cover, and what may stand for it.
 fn add_lacks(
     alloc: Global,
     text: &mut Vec<u8>,
@@ -86,7 +78,8 @@ fn add_lacks(
 {
     let trees = lacking(alloc, subject.forms, job, subject.temps)?;
     add_bytes(text, b"no cover\n")?;
-    add_trees(alloc, text, subject, job, &trees)
+    add_trees(alloc, text, subject, job, &trees)?;
+    add_equal(alloc, text, subject, job)
 }
 
 /// The lines of a job's cover.

@@ -7,7 +7,7 @@ ghost use Rattle.form_model.specs.Rules.{destination_of};
 ghost use Rattle.form_model.specs.Trees.{tree_term};
 ghost use Rattle.job_places.specs.Places.{duty_of, spot_of};
 ghost use Rattle.src_trees.specs.Jobs.{work_of};
-ghost use Rattle.net_explain.specs.Lines.{aim_lines, duty_text, job_head, job_line, place_text, tree_line, tree_lines};
+ghost use Rattle.net_explain.specs.Lines.{aim_lines, duty_text, job_head, job_line, lines_of, place_text, tree_line};
 
 use crate::text::{add_bytes, add_number};
 use crate::tree_text::add_tree;
@@ -90,8 +90,8 @@ pub(crate) fn add_tree_line(
     add_bytes(text, b"\n")
 }
 
-// The address of the cell that is assigned, where it is computed.
-fn add_aim(text: &mut Vec<u8>, checked: &Checked, aim: &Aim) -> Result<(), NoMemory>
+/// The address of the cell that is assigned, where it is computed.
+pub(crate) fn add_aim(text: &mut Vec<u8>, checked: &Checked, aim: &Aim) -> Result<(), NoMemory>
     ensures { OnOk result (text.new.items
         ≡ text.old.items ++ aim_lines checked.now.netlist (destination_of aim.now)) }
 {
@@ -101,13 +101,18 @@ fn add_aim(text: &mut Vec<u8>, checked: &Checked, aim: &Aim) -> Result<(), NoMem
     }
 }
 
-// The lines of a job's trees.
-fn add_trees(text: &mut Vec<u8>, checked: &Checked, trees: &[Tree]) -> Result<(), NoMemory>
+/// A line for each tree behind a word.
+pub(crate) fn add_trees(
+    text: &mut Vec<u8>,
+    checked: &Checked,
+    word: &[u8],
+    trees: &[Tree],
+) -> Result<(), NoMemory>
     ensures { OnOk result (text.new.items
-        ≡ text.old.items ++ tree_lines checked.now.netlist (map tree_term trees.now)) }
+        ≡ text.old.items ++ lines_of checked.now.netlist word.now (map tree_term trees.now)) }
 {
     for tree in trees {
-        add_tree_line(text, checked, b"tree", tree)?;
+        add_tree_line(text, checked, word, tree)?;
     }
     Ok(())
 }
@@ -126,5 +131,5 @@ pub(crate) fn add_head(
 {
     add_job_line(text, src, number, place)?;
     add_aim(text, checked, &job.aim)?;
-    add_trees(text, checked, &job.trees)
+    add_trees(text, checked, b"tree", &job.trees)
 }

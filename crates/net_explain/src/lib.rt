@@ -2,11 +2,12 @@
 //!
 //! Promise: `explain` gives a text that tells of each job of the program, in order, its number, its
 //! place in the program's text, what it is there, its trees, and the cost of its chosen cover; or,
-//! exactly where it has no orderly cover, the smallest subtrees that nothing makes (`explained`:
-//! `IsExplained`). Behind each of these come lines on the forms that are nearest, of which nothing
-//! is promised but that they are lines which begin with `near `. The text ends with the line of an
-//! answer of `compile`. Refusals are those of `compile` up to NoJump, in its order, but that netlists
-//! with modes are refused as ones that break N6 (`refused`: `IsExplainFault`).
+//! exactly where it has no orderly cover, the smallest subtrees that nothing makes, and equal trees
+//! that have a cover, where some are found (`explained`: `IsExplained`). Behind each of the subtrees
+//! come lines on the forms that are nearest, of which nothing is promised but that they are lines
+//! which begin with `near `. The text ends with the line of an answer of `compile`. Refusals are
+//! those of `compile` up to NoJump, in its order, but that netlists with modes are refused as ones
+//! that break N6 (`refused`: `IsExplainFault`).
 //!
 //! Invariant: the places of jobs and the jobs have the same numbers (`law_of_places`).
 //!
@@ -16,6 +17,7 @@
 //! - `tree_text`: the text of a tree.
 //! - `heading`: what is told of a job whatever its cover is.
 //! - `covering`: the cost of its cover, or what lacks one.
+//! - `equal`: what may stand for a job without a cover.
 //! - `subject`: what is told of.
 //! - `telling`: all jobs, one behind the other.
 //! - `ending`: what `compile` answers.
@@ -29,6 +31,7 @@
 
 mod covering;
 mod ending;
+mod equal;
 mod explaining;
 mod heading;
 mod netlists;

@@ -2,6 +2,7 @@
 
 ghost use Rattle.std.specs.Prelude.{◌≡◌, ◌++◌, OnOk};
 ghost use Rattle.std.specs.Fmt.{decimal};
+ghost use Rattle.net_explain.specs.Lines.{cost_line};
 
 use itoa::Buffer;
 use rec_bits::NoMemory;
@@ -21,4 +22,13 @@ pub(crate) fn add_number(text: &mut Vec<u8>, number: u64) -> Result<(), NoMemory
     let mut buffer = Buffer::new();
     text.extend_from_slice(buffer.format(number).as_bytes())?;
     Ok(())
+}
+
+/// The line of a cost.
+pub(crate) fn add_cost(text: &mut Vec<u8>, cost: u64) -> Result<(), NoMemory>
+    ensures { OnOk result (text.new.items ≡ text.old.items ++ cost_line cost) }
+{
+    add_bytes(text, b"cost ")?;
+    add_number(text, cost)?;
+    add_bytes(text, b"\n")
 }

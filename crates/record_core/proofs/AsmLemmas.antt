@@ -29,7 +29,7 @@ use Rattle.record_core.specs.Answers.{AsmAnswers, DisAnswers}
 use Rattle.record_core.specs.Inner.Statuses.{asm_status, dis_status}
 use Rattle.record_core.specs.Stages.{By, Then}
 use Rattle.record_core.specs.declared.status.Status.{Status}
-use Rattle.record_core.specs.declared.status.Status.TheVariants.{Done, Memory, Net, NetText, ImageText, AsmText, AsmWord}
+use Rattle.record_core.specs.declared.status.Status.TheVariants.{Done, Memory, Net, ImageText, AsmText, AsmWord}
 
 -- ---- the netlist's stages, where editions are taken that have no modes
 

@@ -18,7 +18,7 @@ use Rattle.record_core.specs.Answers.{CodeAnswers, CodeEnds, CompileAnswers}
 use Rattle.record_core.specs.Stages.{By, Then}
 use Rattle.record_core.specs.Inner.Statuses.{compile_status}
 use Rattle.record_core.specs.declared.status.Status.{Status}
-use Rattle.record_core.specs.declared.status.Status.TheVariants.{Done, NetText, Net, SrcText, Src, NoStep, NoJump, NoCover, DataFull, NoReach, ImageFull, Memory}
+use Rattle.record_core.specs.declared.status.Status.TheVariants.{Done, NoCover, NoReach, ImageFull, Memory}
 
 module _ (line : Status → List ℕ) (net src : List ℕ) (Later : Status → List ℕ → Type 0) where
   -- ---- the stages behind those of the forms

@@ -1,5 +1,5 @@
 -- What commands answer that take the forms of a netlist for a program.
-use Rattle.std.proofs.Common.{◌≡◌, ℕ, List, inl, inr, refl}
+use Rattle.std.proofs.Common.{ℕ, List, inl, inr, refl}
 use Rattle.net_model.specs.declared.fault.NetFault.{NetFault}
 use Rattle.net_parser.specs.Texts.{IsNoNetText}
 use Rattle.src_front.proofs.FrontLaws.{no_text_fault as no_src_fault}

@@ -89,7 +89,7 @@ module _ (line : Status → List ℕ) (net src memory : List ℕ) (clocks : ℕ)
   module _ (program : Compiled) (from : IsCompiledTo net src program) where
     -- what holds of the task that was read holds of the texts
     holds : (P : Property) → P (read_task program.modes program.typed) → TaskHolds net src P
-    holds = holds_of_read net src program.modes program.typed from.net_file from.width from.src_file
+    holds = holds_of_read net src program.modes program.typed from.read.net_file from.read.width from.read.src_file
 
     later : (status : Status) (text : List ℕ) → WatchAnswers line net src memory clocks status text → GoAnswers line net src memory clocks status text
     later = answers_later line net src (WatchAnswers line net src memory clocks) (holds HasRoom from.image.room) (holds IsReached from.image.reached)

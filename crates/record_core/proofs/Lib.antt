@@ -10,6 +10,7 @@ mod GoLemmas
 mod MakeLemmas
 mod StageLemmas
 mod TestLemmas
+mod TuneLemmas
 mod UniqueLemmas
 mod WordLemmas
 mod WroteLemmas

@@ -5,7 +5,6 @@ use Rattle.job_gen.specs.SrcText.{src_text as job_program}
 use Rattle.net_compile.proofs.TaskLemmas.{weaker}
 use Rattle.net_compile.specs.Code.{HasRoom}
 use Rattle.net_compile.specs.Compiled.{IsCompileFault}
-use Rattle.net_compile.specs.Tasks.{TaskHolds}
 use Rattle.net_compile.specs.declared.fault.CompileFault.{CompileFault}
 use Rattle.net_code.specs.Refusals.{IsReached}
 use Rattle.net_make.specs.Summaries.{IsSummary, IsSummaryOf}

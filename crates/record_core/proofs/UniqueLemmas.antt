@@ -40,19 +40,20 @@ use Rattle.rec_io.specs.Shelf.{ShelfState}
 use Rattle.rec_io.specs.Sink.{SinkState}
 use Rattle.record_core.proofs.CompileLemmas.{done_within}
 use Rattle.record_core.proofs.BothLemmas.{dual_within}
+use Rattle.record_core.proofs.TuneLemmas.{tuned_done}
 use Rattle.record_core.proofs.GoLemmas.{one_lack}
 use Rattle.record_core.proofs.NetLemmas.{NetStages-alike}
 use Rattle.net_asm.specs.Machines.{assembled_edition}
 use Rattle.record_core.proofs.StageLemmas.{AllAlike, AtMostOne, By-unique, Then-alike, Just-unique}
-use Rattle.record_core.specs.Answers.{AnswersAgree, Answers, AsmAnswers, DisAnswers, FilesAnswer, CanCompile, CanDual, AreOfImages, AreOfTests, CodeAnswers, CodeEnds, CoverAnswers, DualAnswers, ExtractAnswers, FormAnswers, IsAskedOf, RoomAnswers, SourceAnswers, WatchAnswers, netlist_in, RunEnds, RunAnswers, TestAnswers, TestEnds, TextAnswers, CommandAnswers, file_at, file_limit, place_from, AreFiles, IsFileReadFault, IsFileTooLong, IsFile, IsAnswer, IsExact, IsAccepted}
+use Rattle.record_core.specs.Answers.{AnswersAgree, Answers, AsmAnswers, DisAnswers, FilesAnswer, CanCompile, CanDual, CanTune, AreOfImages, AreOfTests, CodeAnswers, CodeEnds, CoverAnswers, DualAnswers, ExtractAnswers, FormAnswers, IsAskedOf, RoomAnswers, SourceAnswers, TuneAnswers, TuneEnds, IsOfTune, WatchAnswers, netlist_in, RunEnds, RunAnswers, TestAnswers, TestEnds, TextAnswers, CommandAnswers, file_at, file_limit, place_from, AreFiles, IsFileReadFault, IsFileTooLong, IsFile, IsAnswer, IsExact, IsAccepted}
 use Rattle.record_core.specs.Lines.{due_line}
 use Rattle.record_core.specs.Stages.{Then}
 use Rattle.record_core.specs.Watching.{IsWatched}
 use Rattle.record_core.specs.Words.{command_of, names_of}
 use Rattle.record_core.specs.declared.words.Command.{Command}
-use Rattle.record_core.specs.declared.words.Command.TheVariants.{Compile, Extract, Run, Go, Make, Asm, Dis, Test, Explain, Dual}
+use Rattle.record_core.specs.declared.words.Command.TheVariants.{Compile, Extract, Run, Go, Make, Asm, Dis, Test, Explain, Tune, Dual}
 use Rattle.record_core.specs.declared.status.Status.{Status}
-use Rattle.record_core.specs.declared.status.Status.TheVariants.{Done, Usage, ReadFault, TooLong, NetText, Net, SrcText, Src, NoStep, NoJump, NoCover, DataFull, NoReach, ImageFull, ImageText, MemText, Clash, AsmText, AsmWord, TestLimit, PartText, Memory}
+use Rattle.record_core.specs.declared.status.Status.TheVariants.{Done, Usage, ReadFault, TooLong, NetText, Net, SrcText, Src, NoStep, NoJump, NoCover, DataFull, NoReach, ImageFull, ImageText, MemText, Clash, AsmText, AsmWord, PartText, Memory}
 
 one_read : (names : List (List ℕ)) (before now : ShelfState) (x y : ℕ) → IsFileReadFault names before now x → IsFileReadFault names before now y → x ≡ y
 one_read names before now x y p q = let a = p.place in let b = q.place in cc
@@ -75,6 +76,7 @@ equal (Some Asm) s t e = e
 equal (Some Dis) s t e = e
 equal (Some Test) s t e = inl e
 equal (Some Explain) s t e = e
+equal (Some Tune) s t e = inl e
 equal (Some Dual) s t e = inl e
 
 -- ---- stages
@@ -178,6 +180,24 @@ DualAnswers-agree line net src part =
     (RoomAnswers-alike CodeAgree (λ s t e. inl e) line (λ (p : ℕ × ℕ). DualHolds net src part (IsDualFull p.0 p.1)) (one_dual_full net src part) (ViewHolds net src part) _
     (CoverAnswers-agree line (ViewHolds net src part) (of_three net src part) _ (done_beside (IsDualCompiled net src part)))))
 
+-- ---- `tune`
+
+module _ (line : Status → List ℕ) (net src : List ℕ) where
+  -- one answer, or two of a program in some spelling
+  abbrev TunesAgree : Status → Status → Type 0
+  TunesAgree s t = (s ≡ t) ⊎ (IsOfTune s × IsOfTune t)
+
+  of_tune : (s : Status) (text : List ℕ) → TuneEnds line net src s text → IsOfTune s
+  of_tune s text (inl ((tree, why, is), same)) = rw is tt
+  of_tune s text (inr (inl ((p, why, is), same))) = rw is tt
+  of_tune s text (inr (inr (inl ((p, why, is), same)))) = rw is tt
+  of_tune s text (inr (inr (inr (is, tuned)))) = rw is tt
+
+  TuneAnswers-agree : AllAlike TunesAgree (TuneAnswers line net src)
+  TuneAnswers-agree =
+      FormAnswers-alike TunesAgree (λ s t e. inl e) line net src _ (one_broken_any_taken compiled_edition net) _
+      (λ s t a b p q. inr (of_tune s a p, of_tune t b q))
+
 -- ---- `extract`
 
 ExtractAnswers-unique : (line : Status → List ℕ) (net : List ℕ) → AtMostOne (ExtractAnswers line net)
@@ -253,6 +273,7 @@ TextAnswers-agree line Dis files = DisAnswers-unique (line None) (file_at files 
 TextAnswers-agree line Test files = TestAnswers-agree (line None) (file_at files 0)
 TextAnswers-agree line Explain files =
     FormAnswers-alike (λ s t. s ≡ t) (λ s t e. e) (line None) (file_at files 0) (file_at files 1) _ (one_broken_any_taken explained_edition (file_at files 0)) _ (done_only (IsExplained (file_at files 0) (file_at files 1)))
+TextAnswers-agree line Tune files = TuneAnswers-agree (line None) (file_at files 0) (file_at files 1)
 TextAnswers-agree line Dual files = DualAnswers-agree (line None) (file_at files 0) (file_at files 1) (file_at files 2)
 
 -- the bytes of a file that is told
@@ -356,6 +377,13 @@ compiled_of words before now old new result gives can read calm =
     complete_of words before now old new result gives
     (accepted_by words before now Compile (λ (files : List (List ℕ)). TaskHolds (file_at files 0) (file_at files 1) IsWithin) can read
     (λ line files within. done_within (line None) (file_at files 0) (file_at files 1) within)) calm
+
+pub tuned_with : (words : List (List ℕ)) (before now : ShelfState) (old new : SinkState) (result : Status) → IsAnswer words before now old new result →
+    CanTune words before.files → (Rose before.faults now.faults → ⊥) → (Rose old.faults new.faults → ⊥) → (result ≡ Done) ⊎ (result ≡ Memory)
+tuned_with words before now old new result gives can read calm =
+    complete_of words before now old new result gives
+    (accepted_by words before now Tune (λ (files : List (List ℕ)). TaskHolds (file_at files 0) (file_at files 1) IsWithin) can read
+    (λ line files within. tuned_done (line None) (file_at files 0) (file_at files 1) within)) calm
 
 pub both_of : (words : List (List ℕ)) (before now : ShelfState) (old new : SinkState) (result : Status) → IsAnswer words before now old new result →
     CanDual words before.files → (Rose before.faults now.faults → ⊥) → (Rose old.faults new.faults → ⊥) → (result ≡ Done) ⊎ (result ≡ Memory)

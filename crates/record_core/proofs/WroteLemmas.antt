@@ -14,11 +14,12 @@ use Rattle.record_core.proofs.GoLemmas.{watched_of}
 use Rattle.record_core.proofs.MakeLemmas.{summary_of}
 use Rattle.record_core.proofs.RunLemmas.{state_of}
 use Rattle.record_core.proofs.TestLemmas.{tested_of}
+use Rattle.record_core.proofs.TuneLemmas.{tuned_of}
 use Rattle.record_core.specs.Answers.{FilesAnswer, TextAnswers, CommandAnswers, IsAnswer, IsText, Wrote, file_at, netlist_in}
 use Rattle.record_core.specs.Lines.{due_line}
 use Rattle.record_core.specs.Words.{command_of, names_of}
 use Rattle.record_core.specs.declared.words.Command.{Command}
-use Rattle.record_core.specs.declared.words.Command.TheVariants.{Compile, Extract, Run, Go, Make, Asm, Dis, Test, Explain, Dual}
+use Rattle.record_core.specs.declared.words.Command.TheVariants.{Compile, Extract, Run, Go, Make, Asm, Dis, Test, Explain, Tune, Dual}
 use Rattle.record_core.specs.declared.status.Status.{Status}
 use Rattle.record_core.specs.declared.status.Status.TheVariants.{Done}
 
@@ -32,6 +33,7 @@ text_is line Asm files text answers = assembled_of (line None) (file_at files 0)
 text_is line Dis files text answers = shown_of (line None) (file_at files 0) (file_at files 1) text answers
 text_is line Test files text answers = tested_of (line None) (file_at files 0) text answers
 text_is line Explain files text answers = explained_of (line None) (file_at files 0) (file_at files 1) text answers
+text_is line Tune files text answers = tuned_of (line None) (file_at files 0) (file_at files 1) text answers
 text_is line Dual files text answers = dual_of (line None) (file_at files 0) (file_at files 1) (file_at files 2) text answers
 
 command_wrote : (line : List ℕ → Option ℕ → Status → List ℕ) (command : Command) (names : List (List ℕ)) (told : Option Files) (old new : Option (List ℕ)) (text : List ℕ) → CommandAnswers line told command names Done text → Takes old new text → Wrote command names told old new

@@ -15,6 +15,8 @@ use Rattle.net_code.specs.Refusals.{IsBeyondReach, IsJumpless, IsStepless, IsIma
 use Rattle.net_compile.specs.Code.{HasRightCode, IsDataFull, IsWithin}
 use Rattle.net_compile.specs.Compiled.{IsCompiled, BreaksSrc}
 use Rattle.net_compile.specs.Tasks.{TaskHolds, compiled_edition}
+use Rattle.net_compile.specs.declared.fault.CompileFault.TheVariants.{NoCover as Uncovered, NoReach as Beyond, ImageFull as Overlong}
+use Rattle.net_tune.specs.Tuned.{IsTuned, TuneFailsWith}
 use Rattle.dual_code.specs.Code.{IsDualFull, IsDualWithin}
 use Rattle.dual_code.specs.Compiled.{BreaksDualSrc, IsDualCompiled, IsNoPart}
 use Rattle.dual_code.specs.Tasks.{DualHolds, ViewHolds}
@@ -39,7 +41,7 @@ use Rattle.record_core.specs.Stages.{By, Just, Then}
 use Rattle.record_core.specs.Watching.{IsWatched, LacksMemory}
 use Rattle.record_core.specs.Words.{command_of, names_of}
 use Rattle.record_core.specs.declared.words.Command.{Command}
-use Rattle.record_core.specs.declared.words.Command.TheVariants.{Compile, Extract, Run, Go, Make, Asm, Dis, Test, Explain, Dual}
+use Rattle.record_core.specs.declared.words.Command.TheVariants.{Compile, Extract, Run, Go, Make, Asm, Dis, Test, Explain, Tune, Dual}
 use Rattle.record_core.specs.declared.status.Status.{Status}
 use Rattle.record_core.specs.declared.status.Status.TheVariants.{Done, Usage, ReadFault, TooLong, WriteFault, NetText, Net, SrcText, Src, NoStep, NoJump, NoCover, DataFull, NoReach, ImageFull, Memory, ImageText, MemText, Clash, AsmText, AsmWord, TestLimit, PartText}
 
@@ -138,6 +140,20 @@ CodeAnswers line net src Later =
 -- what `compile` answers for these two texts
 abbrev pub CompileAnswers : (Status → List ℕ) → List ℕ → List ℕ → Status → List ℕ → Type 0
 CompileAnswers line net src = CodeAnswers line net src (λ status text. (status ≡ Done) × IsCompiled net src text)
+
+-- how `tune` ends, whose program has room in a netlist that steps and jumps: of the task in some
+-- spelling one of these refusals comes, or code is written. What is found isn't the least, so more
+-- than one may apply
+abbrev pub TuneEnds : (Status → List ℕ) → (net src : List ℕ) → Status → List ℕ → Type 0
+TuneEnds line net src status text =
+    (By NoCover (λ (tree : ℕ). TaskHolds net src (TuneFailsWith (Uncovered tree))) status × (text ≡ line status))
+    ⊎ (By (λ (p : ℕ × ℕ). NoReach p.0 p.1) (λ (p : ℕ × ℕ). TaskHolds net src (TuneFailsWith (Beyond p.0 p.1))) status × (text ≡ line status))
+    ⊎ (By (λ (p : ℕ × ℕ × ℕ). ImageFull p.0 p.1 p.2) (λ (p : ℕ × ℕ × ℕ). TaskHolds net src (TuneFailsWith (Overlong p.0 p.1 p.2))) status × (text ≡ line status))
+    ⊎ ((status ≡ Done) × IsTuned net src text)
+
+-- what `tune` answers for these two texts
+abbrev pub TuneAnswers : (Status → List ℕ) → (net src : List ℕ) → Status → List ℕ → Type 0
+TuneAnswers line net src = FormAnswers line net src (BreaksAnyTaken compiled_edition net) (TuneEnds line net src)
 
 -- what `dual` answers for these three texts, of which the first has a bank
 abbrev pub DualAnswers : (Status → List ℕ) → (net src part : List ℕ) → Status → List ℕ → Type 0
@@ -248,6 +264,7 @@ TextAnswers line Asm files = AsmAnswers (line None) (file_at files 0) (file_at f
 TextAnswers line Dis files = DisAnswers (line None) (file_at files 0) (file_at files 1)
 TextAnswers line Test files = TestAnswers (line None) (file_at files 0)
 TextAnswers line Explain files = ExplainAnswers (line None) (file_at files 0) (file_at files 1)
+TextAnswers line Tune files = TuneAnswers (line None) (file_at files 0) (file_at files 1)
 TextAnswers line Dual files = DualAnswers (line None) (file_at files 0) (file_at files 1) (file_at files 2)
 
 -- the netlist's text of a command: the first file, and of `make` that of its number
@@ -336,13 +353,22 @@ AreOfTests (ImageFull len size bound) (ImageFull other room most) = (size ≡ ro
 AreOfTests (TestLimit count bound) (TestLimit other most) = bound ≡ most
 AreOfTests _ _ = ⊥
 
+-- answers that `tune` has of a program in some spelling
+abbrev pub IsOfTune : Status → Type 0
+IsOfTune Done = ⊤
+IsOfTune (NoCover tree) = ⊤
+IsOfTune (NoReach bound reach) = ⊤
+IsOfTune (ImageFull len size bound) = ⊤
+IsOfTune _ = ⊥
+
 -- one answer; of the commands that make code, or two of images made for one task; of `test`, or two
--- of words made for one netlist
+-- of words made for one netlist; of `tune`, or two of a program in some spelling
 abbrev pub AnswersAgree : Option Command → Status → Status → Type 0
 AnswersAgree (Some Compile) status other = (status ≡ other) ⊎ AreOfImages status other
 AnswersAgree (Some (Go clocks)) status other = (status ≡ other) ⊎ AreOfImages status other
 AnswersAgree (Some (Make number)) status other = (status ≡ other) ⊎ AreOfImages status other
 AnswersAgree (Some Test) status other = (status ≡ other) ⊎ AreOfTests status other
+AnswersAgree (Some Tune) status other = (status ≡ other) ⊎ (IsOfTune status × IsOfTune other)
 AnswersAgree (Some Dual) status other = (status ≡ other) ⊎ AreOfImages status other
 AnswersAgree _ status other = status ≡ other
 
@@ -369,6 +395,10 @@ pub record IsAskedOf (command : Command) (Of : List (List ℕ) → Type 0) (word
 abbrev pub CanCompile : List (List ℕ) → Option Files → Type 0
 CanCompile = IsAskedOf Compile (λ (files : List (List ℕ)). TaskHolds (file_at files 0) (file_at files 1) IsWithin)
 
+-- the words ask for equal trees, of such a task
+abbrev pub CanTune : List (List ℕ) → Option Files → Type 0
+CanTune = IsAskedOf Tune (λ (files : List (List ℕ)). TaskHolds (file_at files 0) (file_at files 1) IsWithin)
+
 -- the same for two memories
 abbrev pub CanDual : List (List ℕ) → Option Files → Type 0
 CanDual =
@@ -382,8 +412,9 @@ CanDual =
 -- Of `asm`: the image of the least words of the lines. Of `dis`: a line for each word of the image,
 -- of which it is one of the words, and what is assembled of the text clocks as the image does. Of
 -- `test`: the report of a right self-test of the netlist. Of `explain`: what covers the program's
--- jobs, and what in them no form makes. Of `dual`: an image that is right code for the program on the
--- netlist of two memories, with the variables of the part in the bank
+-- jobs, and what in them no form makes. Of `tune`: an image that traces the program on the netlist,
+-- made for it in a spelling by equal trees. Of `dual`: an image that is right code for the program on
+-- the netlist of two memories, with the variables of the part in the bank
 abbrev pub IsText : Command → List (List ℕ) → List ℕ → Type 0
 IsText Compile files = IsCompiled (file_at files 0) (file_at files 1)
 IsText Extract files = IsExtracted (file_at files 0)
@@ -394,6 +425,7 @@ IsText Asm files = IsAssembled (file_at files 0) (file_at files 1)
 IsText Dis files = IsShownText (file_at files 0) (file_at files 1)
 IsText Test files = IsTested (file_at files 0)
 IsText Explain files = IsExplained (file_at files 0) (file_at files 1)
+IsText Tune files = IsTuned (file_at files 0) (file_at files 1)
 IsText Dual files = IsDualCompiled (file_at files 0) (file_at files 1) (file_at files 2)
 
 -- the bytes that were taken are the text of the command for the files of these names

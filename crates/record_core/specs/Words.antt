@@ -6,7 +6,7 @@ use Rattle.std.specs.Option.{option_map_or}
 use Rattle.std.specs.Str.{bytes_eq}
 use Rattle.text_lines.specs.Fields.{number_of}
 use Rattle.record_core.specs.declared.words.Command.{Command}
-use Rattle.record_core.specs.declared.words.Command.TheVariants.{Compile, Extract, Run, Go, Make, Asm, Dis, Test, Explain, Dual}
+use Rattle.record_core.specs.declared.words.Command.TheVariants.{Compile, Extract, Run, Go, Make, Asm, Dis, Test, Explain, Tune, Dual}
 
 -- the words as texts
 abbrev pub texts_of : List (String Global) → List (List ℕ)
@@ -42,7 +42,8 @@ pair_command word =
     if bytes_eq word (codes "compile") then Some Compile
     else (if bytes_eq word (codes "asm") then Some Asm
     else (if bytes_eq word (codes "dis") then Some Dis
-    else (if bytes_eq word (codes "explain") then Some Explain else None)))
+    else (if bytes_eq word (codes "explain") then Some Explain
+    else (if bytes_eq word (codes "tune") then Some Tune else None))))
 
 -- the command that the words ask for, if they have the form of one
 abbrev pub command_of : List (List ℕ) → Option Command
@@ -73,6 +74,7 @@ file_count Asm = 2
 file_count Dis = 2
 file_count Test = 1
 file_count Explain = 2
+file_count Tune = 2
 file_count Dual = 3
 
 -- how many files the words ask for

@@ -2,7 +2,7 @@
 ghost use Rattle.std.specs.Prelude.{◌≡◌, ◌≢◌, ◌⊎◌, ◌≤◌, Some, IfOk, IfErr, IsSome, OnOk};
 ghost use Rattle.rec_io.specs.Causes.{Rose};
 ghost use Rattle.rec_io.specs.Shelf.{NoFetchFailed};
-ghost use Rattle.record_core.specs.Answers.{FetchesTold, IsAnswer, IsExact, IsAccepted, CanCompile, CanDual, Wrote, netlist_in};
+ghost use Rattle.record_core.specs.Answers.{FetchesTold, IsAnswer, IsExact, IsAccepted, CanCompile, CanDual, CanTune, Wrote, netlist_in};
 ghost use Rattle.record_core.specs.Inner.Fetch.{contents, AreShort};
 ghost use Rattle.record_core.specs.Lines.{due_line};
 ghost use Rattle.record_core.specs.Inner.Putting.{PutsAnswer, PutsDone};
@@ -113,13 +113,13 @@ fn answer<F: Shelf, S: Sink>(alloc: Global, words: &[String], shelf: &mut F, out
 ///
 /// The words are those after the program's name: `compile NET SRC`, `extract NET`, `run NET IMG MEM
 /// CYCLES`, `go NET SRC MEM CYCLES`, `make N`, `asm NET TEXT`, `dis NET IMG`, `test NET`, `explain
-/// NET SRC` or `dual NET SRC PART`, where NET, SRC, IMG, MEM, TEXT and PART are names of files, CYCLES
-/// is a decimal number from 0 to 1,000,000, and N one from 1 to 1,000. On `Done` the output took the
-/// whole text: an image, the patterns of a netlist, a state, checkpoints, a summary, lines of
-/// transfers, the report of a self-test, or what covers the jobs of a program. On `WriteFault` it
-/// took a prefix of the text that was due, and nothing after the put that failed; on every other
-/// status it took the line of the fault. Want of memory may be answered anywhere, but where a file
-/// could not be read.
+/// NET SRC`, `tune NET SRC` or `dual NET SRC PART`, where NET, SRC, IMG, MEM, TEXT and PART are names
+/// of files, CYCLES is a decimal number from 0 to 1,000,000, and N one from 1 to 1,000. On `Done` the
+/// output took the whole text: an image, the patterns of a netlist, a state, checkpoints, a summary,
+/// lines of transfers, the report of a self-test, or what covers the jobs of a program. On
+/// `WriteFault` it took a prefix of the text that was due, and nothing after the put that failed; on
+/// every other status it took the line of the fault. Want of memory may be answered anywhere, but
+/// where a file could not be read.
 pub fn record_call<F: Shelf, S: Sink>(
     alloc: Global,
     words: &Vec<String>,
@@ -158,6 +158,12 @@ pub fn record_call<F: Shelf, S: Sink>(
         ¬ Rose (S.state out.old).faults (S.state out.new).faults →
         (result ≡ Status.Done) ⊎ (result ≡ Status.Memory) }
 
+    // So does `tune` for the same netlist and program, whose jobs cost no more in another spelling.
+    ensures compiles_tuned { CanTune (texts_of words.now.items) (F.state shelf.old).files →
+        ¬ Rose (F.state shelf.old).faults (F.state shelf.new).faults →
+        ¬ Rose (S.state out.old).faults (S.state out.new).faults →
+        (result ≡ Status.Done) ⊎ (result ≡ Status.Memory) }
+
     // So does `dual`.
     ensures compiles_dual { CanDual (texts_of words.now.items) (F.state shelf.old).files →
         ¬ Rose (F.state shelf.old).faults (F.state shelf.new).faults →
@@ -166,7 +172,7 @@ pub fn record_call<F: Shelf, S: Sink>(
 
     // The main promise: what was written is the text of the command for its files, as of `compile`
     // an image that is right code for the program on the netlist, and that the netlist holds; as of
-    // `dual` such an image for both memories of a netlist.
+    // `tune` one made by equal trees, and of `dual` one for both memories of a netlist.
     ensures wrote { (command : Command) → command_of (texts_of words.now.items) ≡ Some command →
         result ≡ Status.Done →
         Wrote command (names_of command (texts_of words.now.items)) (F.state shelf.old).files

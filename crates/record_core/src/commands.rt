@@ -17,6 +17,7 @@ use crate::make::make_text;
 use crate::run::run_text;
 use crate::stop::Stop;
 use crate::test::test_text;
+use crate::tune::tuned_text;
 use crate::words::Command;
 use rec_io::{Sink, WriteFault, put_all};
 use std::alloc::Global;
@@ -107,6 +108,10 @@ pub fn put_command<S: Sink>(
         }
         Command::Explain => {
             let text = explained_text(alloc, file(files, 0), file(files, 1))?;
+            Ok(put(out, &text))
+        }
+        Command::Tune => {
+            let text = tuned_text(alloc, file(files, 0), file(files, 1))?;
             Ok(put(out, &text))
         }
         Command::Dual => {

@@ -33,6 +33,8 @@ pub enum Command {
     Test,
     /// `explain NET SRC`: what each job of a program is covered by, or why it isn't.
     Explain,
+    /// `tune NET SRC`: the image text of a program for a netlist, by equal trees that cost less.
+    Tune,
     /// `dual NET SRC PART`: the image text of a program for a netlist with a bank, in which the
     /// variables of a part stand.
     Dual,
@@ -48,7 +50,8 @@ impl Command {
         ensures few { result ≤ 8 }
     {
         match self {
-            Command::Compile | Command::Asm | Command::Dis | Command::Explain => 2,
+            Command::Compile | Command::Asm | Command::Dis => 2,
+            Command::Explain | Command::Tune => 2,
             Command::Extract | Command::Test => 1,
             Command::Run(_) | Command::Go(_) | Command::Dual => 3,
             Command::Make(_) => 0,
@@ -109,6 +112,7 @@ fn pair_command(word: &str) -> Option<Command>
         "asm" => Some(Command::Asm),
         "dis" => Some(Command::Dis),
         "explain" => Some(Command::Explain),
+        "tune" => Some(Command::Tune),
         _ => None,
     }
 }

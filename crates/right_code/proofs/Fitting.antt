@@ -37,7 +37,7 @@ use Rattle.right_code.specs.Inner.Laid.{AreSectionsReady, IsBlockReady, IsLaidCo
 use Rattle.right_code.specs.Words.{AreGroupWords, StandItems}
 use Rattle.right_code.proofs.Coded.{there}
 use Rattle.right_code.proofs.Inside.{get_there}
-use Rattle.right_code.specs.Works.{IsTestWork, AreTests}
+use Rattle.right_code.specs.Works.{IsTestJob, AreFlowJobs}
 use Rattle.right_code.proofs.Tasks.{test_work_of}
 
 -- ---- a block begins at a part of a block
@@ -215,7 +215,7 @@ block_at rules flow parts k block size fit e =
     one x y e = cc
 
 -- each word of the code fits
-pub code_fits : (m : Machine) (kit : Kit) (are : IsKit m 0 kit) (image : Image) (flow : List Flow) (jobs : List Work) (parts : List Part) (reach : ℕ) → AreTests jobs flow → IsLaidCode m kit image flow jobs parts reach
+pub code_fits : (m : Machine) (kit : Kit) (are : IsKit m 0 kit) (image : Image) (flow : List Flow) (jobs : List Work) (parts : List Part) (reach : ℕ) → AreFlowJobs jobs flow → IsLaidCode m kit image flow jobs parts reach
     → 1 ≤ length (words_of image) → (a : ℕ) → WordFits kit.netlist (slice_index (words_of image) a)
 code_fits m kit are image flow jobs parts reach tests laid some =
     let rules : List Rule = kit.stock.rules in
@@ -232,6 +232,6 @@ code_fits m kit are image flow jobs parts reach tests laid some =
         let long : size ≡ length (laid.words block) = r.long in
         (λ i l. all_at (WordFits kit.netlist) (laid.words block) i (sections_fit m kit are r.sections (laid.words block) r.ready) (omega (arith, l, long)))
     by fit k Inner e = tt
-    by fit k (Test f) e = let t : IsTestWork jobs f.tree = test_work_of jobs kit.stock.rules flow parts k f fit tests e in let r = laid.forks k f e t.work t.at in least_fit kit.netlist m.netlist.special kit.patterns laid.words f.block r.groups r.live f.words r.least r.long
+    by fit k (Test f) e = let t : IsTestJob jobs f.tree = test_work_of jobs kit.stock.rules flow parts k f fit tests e in let r = laid.forks k f e t.work t.at in least_fit kit.netlist m.netlist.special kit.patterns laid.words f.block r.groups r.live f.words r.least r.long
     by fit k (Jump to) e = tt
     by fit k End e = tt

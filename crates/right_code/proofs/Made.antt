@@ -46,7 +46,7 @@ use Rattle.right_code.proofs.Kept.{keep_of}
 use Rattle.right_code.proofs.ModeKept.{StepsApart, job_apart, jobs_apart, packed_keep}
 use Rattle.right_code.proofs.Ordered.{ordered_right}
 use Rattle.right_code.proofs.Standing.{shown_some}
-use Rattle.right_code.specs.Works.{AllOne, AreTests, IsTestWork}
+use Rattle.right_code.specs.Works.{AllOne, AreFlowJobs, IsTestJob}
 use Rattle.right_code.proofs.Tasks.{test_work_of}
 
 -- ---- what forms of a mode give
@@ -103,7 +103,7 @@ module _ (task : Task) (image : Image) (made : IsMadeFor task image) where
   machine = record { netlist = task.netlist; temps = temp_count task.width task.listing }
 
   module _ (keeps : (v : ℕ) → KeepsInOrder (net_in v)) (give : (v : ℕ) → FormsGive (net_in v) (made.isas v).patterns task.width (size_in InFile task.netlist.storages) (made.isas v).rules) (register : IsModeRegister task.netlist.special task.netlist) (most : ℕ)
-      (small : AllSmall task.width (temp_count task.width task.listing) most (task_works task)) (one : AllOne (task_works task)) (tests : AreTests (task_works task) task.flow) where
+      (small : AllSmall task.width (temp_count task.width task.listing) most (task_works task)) (one : AllOne (task_works task)) (tests : AreFlowJobs (task_works task) task.flow) where
     pub is_kit : (v : ℕ) → held task.netlist v ≡ v → IsKit machine v (kit_in v)
     is_kit v e = record {
       base = subst (λ x. IsBase task.netlist task.netlist.special x (net_in v)) e (base_of task.netlist task.netlist.special (held task.netlist v));
@@ -194,7 +194,7 @@ module _ (task : Task) (image : Image) (made : IsMadeFor task image) where
               (cuts_covered task made.isas (jobs_at task.flow (task_works task) at n) (plans_at task.flow made.plans at n) c) p.0 in
               record { sections = r.sections; are = cuts_jobs task made.isas (jobs_at task.flow (task_works task) at n) (plans_at task.flow made.plans at n) c ∙ r.jobs; ready = r.ready; long = p.1 });
           forks = λ at f e job has_job.
-              (let t : IsTestWork (task_works task) f.tree = test_work_of (task_works task) (made.isas 0).rules task.flow made.parts at f fit tests e in
+              (let t : IsTestJob (task_works task) f.tree = test_work_of (task_works task) (made.isas 0).rules task.flow made.parts at f fit tests e in
               let aim : job.destination ≡ tested = ap (λ (x : Work). x.destination) (one_work job t.work (sym has_job ∙ t.at)) ∙ t.destination in
               let d = test_plan task made.isas (λ v. (give v).reads) most small one made.plans made.planned (task_works task) made.plans f.tree job small made.planned has_job aim in
               let same : test_of job ≡ job = as_test job aim in

@@ -63,7 +63,7 @@ use Rattle.right_code.proofs.Worded.{block_words, test_words}
 use Rattle.right_code.proofs.Layouts.{within_code}
 use Rattle.right_code.proofs.Made.{FormsGive, has_in, is_kit, kit_in, machine, made_laid, made_traces}
 use Rattle.right_code.proofs.OneBound.{made_reached}
-use Rattle.right_code.specs.Works.{AllOne, IsTestWork, node_limit}
+use Rattle.right_code.specs.Works.{AllOne, IsTestJob, node_limit}
 use Rattle.right_code.proofs.TaskFlows.{task_is_flow, task_upto}
 use Rattle.right_code.proofs.Tasks.{test_work_of}
 
@@ -227,7 +227,7 @@ module _ (task : Task) (checked : IsChecked task) where
           asked : (at : ℕ) (f : Fork) → slice_get parts at ≡ Some (Test f)
               → IsAsked (own_net task isas 0) (keeps 0).order (keeps 0).rules task.netlist.special (isas 0).patterns (greatest_reach (isas 0).rules) (mode_stock task isas 0) turning refl (turns (some_reach parts layout)) task.flow parts (places_in (acts_of task.listing.body)) (task_is_flow task checked.jobs) (task_upto task checked.jobs) layout f
           asked at f e =
-              let t : IsTestWork (task_works task) f.tree = test_work_of (task_works task) (isas 0).rules task.flow parts at f fits checked.jobs.tests e in
+              let t : IsTestJob (task_works task) f.tree = test_work_of (task_works task) (isas 0).rules task.flow parts at f fits checked.jobs.tests e in
               let d = test_plan task isas (λ v. (give v).reads) node_limit small one plans planned (task_works task) plans f.tree t.work small planned t.at t.destination in
               let c : IsCovered (mode_stock task isas 0) (test_of t.work) d.0.choice = test_covered f.tree t.work d.0 t.at d.1 t.destination in
               let b : IsBranchOf (mode_stock task isas 0) t.work d.0.choice f = branch at f e t.work t.at d.0 d.1 in

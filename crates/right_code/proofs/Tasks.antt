@@ -1,16 +1,17 @@
--- The jobs of a program: those that store something have one tree, and those of tests store
--- nothing.
-use Rattle.right_code.specs.Works.{AllOne, AreTests, IsTestWork}
-use Rattle.std.proofs.Common.{ℕ, zero, suc, ◌≡◌, ◌<◌, ◌+◌, Bool, true, false, if◌then◌else◌, List, [], ◌∷◌, ◌++◌, length, Some, refl, sym, ◌∙◌, subst, arith, slice_get}
+-- The jobs of a program: those of assignments store something and have one tree, and those of tests
+-- store nothing.
+use Rattle.right_code.specs.Works.{AllOne, AreFlowJobs, IsTestJob}
+use Rattle.std.proofs.Common.{ℕ, zero, suc, ◌≡◌, ◌<◌, ◌+◌, Bool, true, false, if◌then◌else◌, List, [], ◌∷◌, ◌++◌, length, Option, None, Some, refl, sym, ◌∙◌, subst, arith, slice_get}
 use Rattle.net_model.specs.Terms.{Term, const}
 use Rattle.src_model.specs.declared.program.Cmp.{Cmp}
 use Rattle.src_model.specs.declared.program.Cmp.TheVariants.{Ne}
-use Rattle.src_model.specs.Written.{Act, assign, choice, while, count, Acts, no_acts, act, Otherwise, without, otherwise, Listing, acts_of}
+use Rattle.src_model.specs.Written.{Phrase, Act, assign, choice, while, count, Acts, no_acts, act, Otherwise, without, otherwise, Listing, acts_of}
 use Rattle.src_model.specs.Sizes.{statements, statements_in}
 use Rattle.form_model.specs.declared.flow.Flow.{Flow}
 use Rattle.form_model.specs.declared.flow.Flow.TheVariants.{Assign, Test as Tested, Jump as Jumped, End as Ended}
 use Rattle.form_model.specs.Rules.{Rule, Destination, into, cell, filed, stored, temporary, tested}
-use Rattle.src_trees.specs.Lowered.{MemoryMap, Work, holds_at_one, start_work, step_work, works, works_in, works_else}
+use Rattle.src_model.specs.Indexes.{number_of}
+use Rattle.src_trees.specs.Lowered.{MemoryMap, Work, assigned_destination, element_destination, holds_at_one, start_work, step_work, tree_of, works, works_in, works_else}
 use Rattle.src_trees.specs.Flows.{places_for, places_in, else_entry, asked, flow_of, flow_in, flow_else, program_flow, program_works}
 use Rattle.src_trees.proofs.Parts.{Stand, stand_left, stand_right, stand_all, works_length, works_in_length}
 use Rattle.branch_fix.specs.Parts.{FitsPart, PartsFit}
@@ -51,26 +52,34 @@ mutual
   else_one m without = tt
   else_one m (otherwise body) = works_one m body
 
--- ---- tests
+-- ---- the jobs of the flow
 
-tests_on : (all : List Work) (xs ys : List Flow) → AreTests all xs → AreTests all ys → AreTests all (xs ++ ys)
+assigned_stores : (m : MemoryMap) (name : List ℕ) (index : Option Phrase) → assigned_destination m name index ≡ tested → ⊥
+assigned_stores m name None e = absurd (cc e)
+assigned_stores m name (Some x) e = by (number_of x.shape) e
+  where
+    by : (n : Option ℕ) → element_destination m name n (tree_of m m.word x.shape) ≡ tested → ⊥
+    by None e = absurd (cc e)
+    by (Some n) e = absurd (cc e)
+
+tests_on : (all : List Work) (xs ys : List Flow) → AreFlowJobs all xs → AreFlowJobs all ys → AreFlowJobs all (xs ++ ys)
 tests_on all [] ys g h = h
-tests_on all (Assign tree ∷ xs) ys g h = tests_on all xs ys g h
+tests_on all (Assign tree ∷ xs) ys g h = (g.0, tests_on all xs ys g.1 h)
 tests_on all (Tested tree one none ∷ xs) ys g h = (g.0, tests_on all xs ys g.1 h)
 tests_on all (Jumped to ∷ xs) ys g h = tests_on all xs ys g h
 tests_on all (Ended ∷ xs) ys g h = tests_on all xs ys g h
 
-asked_tests : (all : List Work) (cmp : Cmp) (tree on_true on_false : ℕ) (rest : List Flow) → IsTestWork all tree → AreTests all rest → AreTests all (asked cmp tree on_true on_false ∷ rest)
+asked_tests : (all : List Work) (cmp : Cmp) (tree on_true on_false : ℕ) (rest : List Flow) → IsTestJob all tree → AreFlowJobs all rest → AreFlowJobs all (asked cmp tree on_true on_false ∷ rest)
 asked_tests all cmp tree on_true on_false rest t g = by (holds_at_one cmp)
   where
-    by : (b : Bool) → AreTests all ((if b then Tested tree on_true on_false else Tested tree on_false on_true) ∷ rest)
+    by : (b : Bool) → AreFlowJobs all ((if b then Tested tree on_true on_false else Tested tree on_false on_true) ∷ rest)
     by true = (t, g)
     by false = (t, g)
 
 module _ (m : MemoryMap) (all : List Work) where
   mutual
-    flow_tests : (a : Act) (tree at : ℕ) → Stand all tree (works m a) → AreTests all (flow_of a tree at)
-    flow_tests (assign place e) tree at h = tt
+    flow_tests : (a : Act) (tree at : ℕ) → Stand all tree (works m a) → AreFlowJobs all (flow_of a tree at)
+    flow_tests (assign place e) tree at h = (record { work = _; at = h.0; destination = assigned_stores m place.name place.index }, tt)
     flow_tests (choice test taken other) tree at h =
         let n = works_in_length m taken in
         asked_tests all test.cmp tree (at + 1) (else_entry other (at + 1 + places_in taken)) (flow_in taken (tree + 1) (at + 1) ++ flow_else other (tree + 1 + statements_in taken) (at + 1 + places_in taken))
@@ -83,37 +92,43 @@ module _ (m : MemoryMap) (all : List Work) where
         (tests_on all (flow_in body (tree + 1) (at + 1)) (Jumped at ∷ []) (in_tests body (tree + 1) (at + 1) h.1) tt)
     flow_tests (count counter from_at from to body) tree at h =
         let z : tree + 1 + 1 ≡ tree + 2 = omega arith in
-        asked_tests all Ne (tree + 1) (at + 2) (at + 2 + places_in body + 2) (flow_in body (tree + 2) (at + 2) ++ Assign (tree + 2 + statements_in body) ∷ (Jumped (at + 1) ∷ [])) (record { work = _; at = h.1.0; destination = refl })
-        (tests_on all (flow_in body (tree + 2) (at + 2)) (Assign (tree + 2 + statements_in body) ∷ (Jumped (at + 1) ∷ []))
-        (in_tests body (tree + 2) (at + 2) (subst (λ k. Stand all k (works_in m body)) z (stand_left all (tree + 1 + 1) (works_in m body) (_ ∷ []) h.1.1))) tt)
+        let n = works_in_length m body in
+        let next : Stand all (tree + 2) (works_in m body ++ step_work m counter ∷ []) = subst (λ k. Stand all k (works_in m body ++ step_work m counter ∷ [])) z h.1.1 in
+        let step = stand_right all (tree + 2) (tree + 2 + statements_in body) (works_in m body) (step_work m counter ∷ []) (omega (arith, n)) next in (
+          record { work = start_work m counter from; at = h.0; destination = λ e. absurd (cc e) },
+          asked_tests all Ne (tree + 1) (at + 2) (at + 2 + places_in body + 2) (flow_in body (tree + 2) (at + 2) ++ Assign (tree + 2 + statements_in body) ∷ (Jumped (at + 1) ∷ [])) (record { work = _; at = h.1.0; destination = refl })
+              (tests_on all (flow_in body (tree + 2) (at + 2)) (Assign (tree + 2 + statements_in body) ∷ (Jumped (at + 1) ∷ []))
+              (in_tests body (tree + 2) (at + 2) (stand_left all (tree + 2) (works_in m body) (step_work m counter ∷ []) next))
+              (record { work = step_work m counter; at = step.0; destination = λ e. absurd (cc e) }, tt)),
+        )
 
-    pub in_tests : (list : Acts) (tree at : ℕ) → Stand all tree (works_in m list) → AreTests all (flow_in list tree at)
+    pub in_tests : (list : Acts) (tree at : ℕ) → Stand all tree (works_in m list) → AreFlowJobs all (flow_in list tree at)
     in_tests no_acts tree at h = tt
     in_tests (act a rest) tree at h =
         let n = works_length m a in
         tests_on all (flow_of a tree at) (flow_in rest (tree + statements a) (at + places_for a)) (flow_tests a tree at (stand_left all tree (works m a) (works_in m rest) h))
         (in_tests rest (tree + statements a) (at + places_for a) (stand_right all tree (tree + statements a) (works m a) (works_in m rest) (omega (arith, n)) h))
 
-    else_tests : (o : Otherwise) (tree at : ℕ) → Stand all tree (works_else m o) → AreTests all (flow_else o tree at)
+    else_tests : (o : Otherwise) (tree at : ℕ) → Stand all tree (works_else m o) → AreFlowJobs all (flow_else o tree at)
     else_tests without tree at h = tt
     else_tests (otherwise body) tree at h = in_tests body tree (at + 1) h
 
-pub program_tests : (m : MemoryMap) (l : Listing) → AreTests (program_works m l) (program_flow l)
+pub program_tests : (m : MemoryMap) (l : Listing) → AreFlowJobs (program_works m l) (program_flow l)
 program_tests m l = tests_on (program_works m l) (flow_in (acts_of l.body) 0 0) (Ended ∷ []) (in_tests m (program_works m l) (acts_of l.body) 0 0 (stand_all (program_works m l))) tt
 
-pub tests_get : (all : List Work) (xs : List Flow) (k tree one none : ℕ) → AreTests all xs → slice_get xs k ≡ Some (Tested tree one none) → IsTestWork all tree
+pub tests_get : (all : List Work) (xs : List Flow) (k tree one none : ℕ) → AreFlowJobs all xs → slice_get xs k ≡ Some (Tested tree one none) → IsTestJob all tree
 tests_get all [] k tree one none h e = absurd (cc e)
-tests_get all (Tested t a b ∷ xs) zero tree one none h e = let p : t ≡ tree = cc in subst (IsTestWork all) p h.0
+tests_get all (Tested t a b ∷ xs) zero tree one none h e = let p : t ≡ tree = cc in subst (IsTestJob all) p h.0
 tests_get all (Assign t ∷ xs) zero tree one none h e = absurd (cc e)
 tests_get all (Jumped to ∷ xs) zero tree one none h e = absurd (cc e)
 tests_get all (Ended ∷ xs) zero tree one none h e = absurd (cc e)
 tests_get all (Tested t a b ∷ xs) (suc k) tree one none h e = tests_get all xs k tree one none h.1 e
-tests_get all (Assign t ∷ xs) (suc k) tree one none h e = tests_get all xs k tree one none h e
+tests_get all (Assign t ∷ xs) (suc k) tree one none h e = tests_get all xs k tree one none h.1 e
 tests_get all (Jumped to ∷ xs) (suc k) tree one none h e = tests_get all xs k tree one none h e
 tests_get all (Ended ∷ xs) (suc k) tree one none h e = tests_get all xs k tree one none h e
 
 -- the job of a test's part
-pub test_work_of : (all : List Work) (rules : List Rule) (flow : List Flow) (parts : List Part) (k : ℕ) (f : Fork) → PartsFit rules flow 0 flow parts → AreTests all flow → slice_get parts k ≡ Some (Test f) → IsTestWork all f.tree
+pub test_work_of : (all : List Work) (rules : List Rule) (flow : List Flow) (parts : List Part) (k : ℕ) (f : Fork) → PartsFit rules flow 0 flow parts → AreFlowJobs all flow → slice_get parts k ≡ Some (Test f) → IsTestJob all f.tree
 test_work_of all rules flow parts k f fit tests e =
     let l : k < length parts = there parts k (Test f) e in
     let n : length parts ≡ length flow = fit_length rules flow 0 flow parts fit in
@@ -124,8 +139,8 @@ test_work_of all rules flow parts k f fit tests e =
     one : (x y : Part) → Some x ≡ Some y → x ≡ y
     one x y e = cc
 
-    by : (g : Flow) → slice_get flow k ≡ Some g → FitsPart rules flow k g (Test f) → IsTestWork all f.tree
-    by (Tested tree a b) at h = subst (IsTestWork all) (sym h.0) (tests_get all flow k tree a b tests at)
+    by : (g : Flow) → slice_get flow k ≡ Some g → FitsPart rules flow k g (Test f) → IsTestJob all f.tree
+    by (Tested tree a b) at h = subst (IsTestJob all) (sym h.0) (tests_get all flow k tree a b tests at)
     by (Assign tree) at h = absurd h
     by (Jumped to) at h = absurd h
     by Ended at h = absurd h

@@ -21,7 +21,7 @@ use Rattle.src_trees.specs.Measures.{AllSmall}
 use Rattle.src_trees.specs.Meant.{DoProgram}
 use Rattle.src_trees.specs.Seen.{memory_map}
 use Rattle.src_trees.specs.Turned.{Turns, TurnsTests, told_works, turned_flow}
-use Rattle.right_code.specs.Works.{AllOne, AreTests, node_limit}
+use Rattle.right_code.specs.Works.{AllOne, AreFlowJobs, node_limit}
 
 -- a netlist, how many bits a word has, a program that keeps the rules for such words, where its
 -- variables stand in the netlist's data memory, its flow and its jobs
@@ -61,7 +61,7 @@ pub record HasJobs (task : Task) : Type 0 where
   pub meant : DoProgram (task_memory task) (task_temps task) task.listing (told_works turned task.works)
   pub count : length task.works ≡ statements_in (acts_of task.listing.body)
   pub one : AllOne task.works
-  pub tests : AreTests task.works task.flow
+  pub tests : AreFlowJobs task.works task.flow
   pub small : AllSmall task.width (task_temps task) node_limit task.works
 
 -- the netlist keeps its rules in each mode, and the program its own; its words are those of the data

@@ -16,7 +16,8 @@ use Rattle.net_code.specs.Inner.Imaged.{ArePlaces, IsCodedIn}
 use Rattle.net_code.specs.Inner.Planning.{AreFormsBelow, AreMachinesOf, ArePassages, all_rules}
 use Rattle.net_code.specs.Refusals.{IsFormless, IsJumpless, IsStepless}
 use Rattle.net_code.specs.Tasks.{coded_task}
-use Rattle.net_code.proofs.Told.{formless_fault, has_modes}
+use Rattle.net_code.proofs.Spelled.{formless_so}
+use Rattle.net_code.proofs.Told.{has_modes}
 use Rattle.net_code.proofs.image.image_for.Goals as goal
 
 -- the netlist is that of the modes
@@ -56,50 +57,46 @@ coded task modes machines netlist forms words marks usable places blocks same ar
   works = works;
 }
 
-pub planned_image-requires-clause-coded : goal.planned_image-requires-clause-coded
-planned_image-requires-clause-coded c = record {
-  task = coded_task c.args.modes.now.netlist c.args.typed.now c.args.places c.args.blocks.now;
-  is =
-      coded (coded_task c.args.modes.now.netlist c.args.typed.now c.args.places c.args.blocks.now) _ c.args.machines.now c.netlist-netlist.result.now c.in_ok-forms.forms c.in_ok-passages.passages.items c.in_ok-usable.usable.items c.deref-3.result.now _ c.args.blocks.now
+pub spelled_image-requires-clause-coded : goal.spelled_image-requires-clause-coded
+spelled_image-requires-clause-coded c = record {
+  task = coded_task c.args.modes.now.netlist c.args.typed.now c.args.places c.args.blocks;
+  is = coded (coded_task c.args.modes.now.netlist c.args.typed.now c.args.places c.args.blocks) _ c.args.machines.now c.netlist-netlist.result.now c.in_ok-forms.forms c.in_ok-passages.passages.items c.in_ok-usable.usable.items c.deref-3.result.now _ c.args.blocks
       c.netlist-netlist.ensures.value c.requires.machines c.in_ok-forms.ensures.forms c.in_ok-passages.ensures.words refl c.deref.ensures.value refl c.deref-2.ensures.value c.deref-3.ensures.value c.in_ok-usable.ensures.long c.in_ok-usable.ensures.usable
       c.in_ok-forms.ensures.steps c.in_ok-forms.ensures.jumps c.requires.checked (record { temps = c.temps.ensures; list = refl }) refl refl;
+  may = c.requires.plain;
 }
 
 pub returns-clause-right : goal.returns-clause-right
 returns-clause-right c =
-    IfOk-weaker c.planned_image.result _ _
-    (λ image h. h (coded_task c.args.modes.now.netlist c.args.typed.now c.args.places c.args.blocks.now)
-    (coded (coded_task c.args.modes.now.netlist c.args.typed.now c.args.places c.args.blocks.now) _ c.args.machines.now c.netlist-netlist.result.now c.in_ok-forms.forms c.in_ok-passages.passages.items c.in_ok-usable.usable.items c.deref-3.result.now _ c.args.blocks.now
+    IfOk-weaker c.spelled_image.result _ _ (λ x h. h (coded_task c.args.modes.now.netlist c.args.typed.now c.args.places c.args.blocks) (coded (coded_task c.args.modes.now.netlist c.args.typed.now c.args.places c.args.blocks) _ c.args.machines.now c.netlist-netlist.result.now c.in_ok-forms.forms c.in_ok-passages.passages.items c.in_ok-usable.usable.items c.deref-3.result.now _ c.args.blocks
     c.netlist-netlist.ensures.value c.requires.machines c.in_ok-forms.ensures.forms c.in_ok-passages.ensures.words refl c.deref.ensures.value refl c.deref-2.ensures.value c.deref-3.ensures.value c.in_ok-usable.ensures.long c.in_ok-usable.ensures.usable
-    c.in_ok-forms.ensures.steps c.in_ok-forms.ensures.jumps c.requires.checked (record { temps = c.temps.ensures; list = refl }) refl refl)) c.planned_image.ensures.right
+    c.in_ok-forms.ensures.steps c.in_ok-forms.ensures.jumps c.requires.checked (record { temps = c.temps.ensures; list = refl }) refl refl) c.requires.plain)
+    c.spelled_image.ensures.right
 
 pub returns-clause-fits : goal.returns-clause-fits
 returns-clause-fits c =
-    IfOk-weaker c.planned_image.result _ _
-    (λ image h. h (coded_task c.args.modes.now.netlist c.args.typed.now c.args.places c.args.blocks.now)
-    (coded (coded_task c.args.modes.now.netlist c.args.typed.now c.args.places c.args.blocks.now) _ c.args.machines.now c.netlist-netlist.result.now c.in_ok-forms.forms c.in_ok-passages.passages.items c.in_ok-usable.usable.items c.deref-3.result.now _ c.args.blocks.now
+    IfOk-weaker c.spelled_image.result _ _ (λ x h. h (coded_task c.args.modes.now.netlist c.args.typed.now c.args.places c.args.blocks) (coded (coded_task c.args.modes.now.netlist c.args.typed.now c.args.places c.args.blocks) _ c.args.machines.now c.netlist-netlist.result.now c.in_ok-forms.forms c.in_ok-passages.passages.items c.in_ok-usable.usable.items c.deref-3.result.now _ c.args.blocks
     c.netlist-netlist.ensures.value c.requires.machines c.in_ok-forms.ensures.forms c.in_ok-passages.ensures.words refl c.deref.ensures.value refl c.deref-2.ensures.value c.deref-3.ensures.value c.in_ok-usable.ensures.long c.in_ok-usable.ensures.usable
-    c.in_ok-forms.ensures.steps c.in_ok-forms.ensures.jumps c.requires.checked (record { temps = c.temps.ensures; list = refl }) refl refl)) c.planned_image.ensures.fits
+    c.in_ok-forms.ensures.steps c.in_ok-forms.ensures.jumps c.requires.checked (record { temps = c.temps.ensures; list = refl }) refl refl) c.requires.plain)
+    c.spelled_image.ensures.fits
 
 pub returns-clause-reached : goal.returns-clause-reached
 returns-clause-reached c =
-    IfOk-weaker c.planned_image.result _ _
-    (λ image h. h (coded_task c.args.modes.now.netlist c.args.typed.now c.args.places c.args.blocks.now)
-    (coded (coded_task c.args.modes.now.netlist c.args.typed.now c.args.places c.args.blocks.now) _ c.args.machines.now c.netlist-netlist.result.now c.in_ok-forms.forms c.in_ok-passages.passages.items c.in_ok-usable.usable.items c.deref-3.result.now _ c.args.blocks.now
+    IfOk-weaker c.spelled_image.result _ _ (λ x h. h (coded_task c.args.modes.now.netlist c.args.typed.now c.args.places c.args.blocks) (coded (coded_task c.args.modes.now.netlist c.args.typed.now c.args.places c.args.blocks) _ c.args.machines.now c.netlist-netlist.result.now c.in_ok-forms.forms c.in_ok-passages.passages.items c.in_ok-usable.usable.items c.deref-3.result.now _ c.args.blocks
     c.netlist-netlist.ensures.value c.requires.machines c.in_ok-forms.ensures.forms c.in_ok-passages.ensures.words refl c.deref.ensures.value refl c.deref-2.ensures.value c.deref-3.ensures.value c.in_ok-usable.ensures.long c.in_ok-usable.ensures.usable
-    c.in_ok-forms.ensures.steps c.in_ok-forms.ensures.jumps c.requires.checked (record { temps = c.temps.ensures; list = refl }) refl refl)) c.planned_image.ensures.reached
+    c.in_ok-forms.ensures.steps c.in_ok-forms.ensures.jumps c.requires.checked (record { temps = c.temps.ensures; list = refl }) refl refl) c.requires.plain)
+    c.spelled_image.ensures.reached
 
 pub returns-clause-refused : goal.returns-clause-refused
 returns-clause-refused c =
-    IfErr-weaker c.planned_image.result _ _
-    (λ fault h. h (coded_task c.args.modes.now.netlist c.args.typed.now c.args.places c.args.blocks.now)
-    (coded (coded_task c.args.modes.now.netlist c.args.typed.now c.args.places c.args.blocks.now) _ c.args.machines.now c.netlist-netlist.result.now c.in_ok-forms.forms c.in_ok-passages.passages.items c.in_ok-usable.usable.items c.deref-3.result.now _ c.args.blocks.now
+    IfErr-weaker c.spelled_image.result _ _ (λ x h. h (coded_task c.args.modes.now.netlist c.args.typed.now c.args.places c.args.blocks) (coded (coded_task c.args.modes.now.netlist c.args.typed.now c.args.places c.args.blocks) _ c.args.machines.now c.netlist-netlist.result.now c.in_ok-forms.forms c.in_ok-passages.passages.items c.in_ok-usable.usable.items c.deref-3.result.now _ c.args.blocks
     c.netlist-netlist.ensures.value c.requires.machines c.in_ok-forms.ensures.forms c.in_ok-passages.ensures.words refl c.deref.ensures.value refl c.deref-2.ensures.value c.deref-3.ensures.value c.in_ok-usable.ensures.long c.in_ok-usable.ensures.usable
-    c.in_ok-forms.ensures.steps c.in_ok-forms.ensures.jumps c.requires.checked (record { temps = c.temps.ensures; list = refl }) refl refl)) c.planned_image.ensures.refused
+    c.in_ok-forms.ensures.steps c.in_ok-forms.ensures.jumps c.requires.checked (record { temps = c.temps.ensures; list = refl }) refl refl) c.requires.plain)
+    c.spelled_image.ensures.refused
 
 pub returns-in_err-forms-clause-refused : goal.returns-in_err-forms-clause-refused
 returns-in_err-forms-clause-refused c =
     let p = err_from_is_err_and c.from_residual.result c.from_residual.ensures.1 in
     rw (p.1, p.2)
-    (formless_fault (coded_task c.args.modes.now.netlist c.args.typed.now c.args.places c.args.blocks.now) _
+    (formless_so c.args.spelling (coded_task c.args.modes.now.netlist c.args.typed.now c.args.places c.args.blocks) _
     (subst (λ (n : Netlist). IsFormless n c.in_err-forms.field-0.0) c.netlist-netlist.ensures.value c.in_err-forms.ensures.refused))

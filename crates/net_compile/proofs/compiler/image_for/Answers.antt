@@ -7,13 +7,8 @@ use Rattle.right_code.specs.Tasks.{IsChecked, Task, read_task}
 use Rattle.right_code.proofs.Rows.{task_checked}
 use Rattle.net_code.specs.Refusals.{IsCodeFault, IsReached}
 use Rattle.net_code.specs.Tasks.{coded_task}
-use Rattle.net_compile.proofs.TaskLemmas.{fault_of_image, fault_of_places}
+use Rattle.net_compile.proofs.TaskLemmas.{fault_of_image, fault_of_places, same_parts}
 use Rattle.net_compile.proofs.compiler.image_for.Goals as goal
-
--- tasks with the same parts are one
-same_parts : (task other : Task) → task.netlist ≡ other.netlist → task.width ≡ other.width → task.listing ≡ other.listing → task.places ≡ other.places → task.flow ≡ other.flow → task.works ≡ other.works → task ≡ other
-same_parts task other netlist width listing places flow works =
-    (λ i. record { netlist = netlist i; width = width i; listing = listing i; places = places i; flow = flow i; works = works i })
 
 pub blocks_of-requires : goal.blocks_of-requires
 blocks_of-requires c = record { width = c.requires.width; places = c.in_ok-places.ensures.places; room = c.in_ok-places.ensures.room.room }

@@ -1,64 +1,31 @@
-use Rattle.std.proofs.Common.{ℕ, ◌≡◌, None, ◌∙◌, sym, subst, arith}
 use Rattle.std.proofs.lemmas.Result.{err_from_is_err_and}
-use Rattle.src_model.specs.Rules.{first_fault}
-use Rattle.src_model.specs.Written.{listing_of}
-use Rattle.src_front.proofs.Lengths.{few_variables}
-use Rattle.src_front.proofs.SourceNames.{source_names}
-use Rattle.src_front.specs.Fronts.{IsSrcFile}
-use Rattle.net_model.specs.Nets.{memory_width}
-use Rattle.net_model.proofs.ModeFaults.{modes_keep}
-use Rattle.net_compile.proofs.FittingLemmas.{of_first}
-use Rattle.net_compile.proofs.TaskLemmas.{fault_of_code, fault_of_program}
+use Rattle.net_compile.proofs.ReadLemmas.{read_few, read_named, read_program, read_rules}
+use Rattle.net_compile.proofs.TaskLemmas.{fault_of_code, read_refused}
 use Rattle.net_compile.proofs.compiler.read_compiled.Goals as goal
 
 pub image_for-requires-clause-rules : goal.image_for-requires-clause-rules
-image_for-requires-clause-rules c =
-    let modes = c.in_ok-modes.modes in
-    modes_keep modes.netlist modes.bases c.in_ok-modes.ensures.found.routed.netlist.rules
-
-pub image_for-requires-clause-isas : goal.image_for-requires-clause-isas
-image_for-requires-clause-isas c = c.in_ok-modes.ensures.isas
-
-pub image_for-requires-clause-width : goal.image_for-requires-clause-width
-image_for-requires-clause-width c =
-    c.in_ok-typed.ensures.width
-    ∙ of_first memory_width c.in_ok-modes.modes.netlist c.first.result.now.netlist c.memory_width.result c.first.ensures.base c.memory_width.ensures.width
+image_for-requires-clause-rules c = read_rules c.args.net.now c.args.src.now c.in_ok-modes.modes c.in_ok-modes.typed c.in_ok-modes.ensures.read
 
 pub image_for-requires-clause-program : goal.image_for-requires-clause-program
-image_for-requires-clause-program c =
-    subst (λ (n : ℕ). first_fault n (listing_of c.in_ok-typed.typed.program) ≡ None) (sym c.in_ok-typed.ensures.width) c.in_ok-typed.ensures.found.kept
+image_for-requires-clause-program c = read_program c.args.net.now c.args.src.now c.in_ok-modes.modes c.in_ok-modes.typed c.in_ok-modes.ensures.read
 
 pub image_for-requires-clause-few : goal.image_for-requires-clause-few
-image_for-requires-clause-few c =
-    let k = few_variables c.args.src.now (listing_of c.in_ok-typed.typed.program) c.in_ok-typed.ensures.found.says.text in
-    omega (arith, k, c.requires.src)
+image_for-requires-clause-few c = read_few c.args.net.now c.args.src.now c.in_ok-modes.modes c.in_ok-modes.typed c.in_ok-modes.ensures.read c.requires.src
 
 pub image_for-requires-clause-named : goal.image_for-requires-clause-named
-image_for-requires-clause-named c = source_names c.args.src.now (listing_of c.in_ok-typed.typed.program) c.in_ok-typed.ensures.found.says.text
+image_for-requires-clause-named c = read_named c.args.net.now c.args.src.now c.in_ok-modes.modes c.in_ok-modes.typed c.in_ok-modes.ensures.read
 
-pub returns-in_err-typed-clause-refused : goal.returns-in_err-typed-clause-refused
-returns-in_err-typed-clause-refused c =
-    let p = err_from_is_err_and c.from_residual-in_err-typed.result c.from_residual-in_err-typed.ensures.1 in
-    let wide = of_first memory_width c.in_ok-modes.modes.netlist c.first.result.now.netlist c.memory_width.result c.first.ensures.base c.memory_width.ensures.width in
-    rw (p.1, p.2)
-    (fault_of_program c.args.net.now c.args.src.now c.in_ok-modes.modes _ c.in_ok-modes.ensures.found wide _ c.in_err-typed.ensures.refused)
+pub returns-in_err-modes-clause-refused : goal.returns-in_err-modes-clause-refused
+returns-in_err-modes-clause-refused c =
+    let p = err_from_is_err_and c.from_residual.result c.from_residual.ensures.1 in
+    rw (p.1, p.2) (read_refused c.args.net.now c.args.src.now _ c.in_err-modes.ensures.refused)
 
 pub returns-in_err-image-clause-refused : goal.returns-in_err-image-clause-refused
 returns-in_err-image-clause-refused c =
-    let typed = c.in_ok-typed.typed in
+    let read = c.in_ok-modes.ensures.read in
     let p = err_from_is_err_and c.from_residual-in_err-image.result c.from_residual-in_err-image.ensures.1 in
-    let wide = of_first memory_width c.in_ok-modes.modes.netlist c.first.result.now.netlist c.memory_width.result c.first.ensures.base c.memory_width.ensures.width in
     rw (p.1, p.2)
-    (fault_of_code c.args.net.now c.args.src.now c.in_ok-modes.modes typed c.in_ok-modes.ensures.found (c.in_ok-typed.ensures.width ∙ wide)
-    (subst (λ (n : ℕ). IsSrcFile c.args.src.now n (listing_of typed.program)) (sym c.in_ok-typed.ensures.width) c.in_ok-typed.ensures.found) _ c.in_err-image.ensures.refused)
+    (fault_of_code c.args.net.now c.args.src.now c.in_ok-modes.modes c.in_ok-modes.typed read.net_file read.width read.src_file _ c.in_err-image.ensures.refused)
 
 pub returns-clause-compiled : goal.returns-clause-compiled
-returns-clause-compiled c =
-    let typed = c.in_ok-typed.typed in
-    let wide = of_first memory_width c.in_ok-modes.modes.netlist c.first.result.now.netlist c.memory_width.result c.first.ensures.base c.memory_width.ensures.width in
-    record {
-      net_file = c.in_ok-modes.ensures.found;
-      src_file = subst (λ (n : ℕ). IsSrcFile c.args.src.now n (listing_of typed.program)) (sym c.in_ok-typed.ensures.width) c.in_ok-typed.ensures.found;
-      width = c.in_ok-typed.ensures.width ∙ wide;
-      image = c.in_ok-image.ensures.image;
-    }
+returns-clause-compiled c = record { read = c.in_ok-modes.ensures.read; image = c.in_ok-image.ensures.image }

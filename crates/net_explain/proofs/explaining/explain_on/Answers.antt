@@ -7,7 +7,7 @@ use Rattle.src_front.specs.Fronts.{IsSrcFile}
 use Rattle.src_model.specs.Written.{listing_of}
 use Rattle.net_model.specs.Nets.{memory_width}
 use Rattle.net_code.proofs.Memories.{first_storages}
-use Rattle.net_compile.proofs.TaskLemmas.{fault_of_code, fault_of_program, holds_of_read}
+use Rattle.net_compile.proofs.TaskLemmas.{fault_of_code, fault_of_program, holds_of_read, read_refused}
 use Rattle.net_explain.specs.Explained.{IsExplainedTask}
 use Rattle.net_explain.proofs.Alone.{taken_file, taken_modes}
 use Rattle.net_explain.proofs.Early.{of_program, of_task}
@@ -55,7 +55,7 @@ returns-in_err-typed-clause-refused c = λ net read.
     let wide = c.memory_width.ensures.width ∙ ap memory_width (first_storages modes.netlist c.first.result.now.netlist c.first.ensures.base) in
     rw (p.1, p.2)
     (of_program net c.args.src.now (taken_file net modes read) _ _ refused
-    (fault_of_program net c.args.src.now modes _ (taken_modes net modes read) wide _ refused))
+    (read_refused net c.args.src.now _ (fault_of_program net c.args.src.now modes _ (taken_modes net modes read) wide _ refused)))
 
 pub returns-in_err-typed-clause-explained : goal.returns-in_err-typed-clause-explained
 returns-in_err-typed-clause-explained c = λ net read. IfOk-from_err c.from_residual.result _ c.from_residual.ensures.0

@@ -1,7 +1,7 @@
-use Rattle.std.proofs.Common.{◌≡◌, ◌+◌, ◌∷◌, ◌++◌, codes, drop, map, refl, arith}
+use Rattle.std.proofs.Common.{◌≡◌, ◌+◌, ◌∷◌, ◌++◌, drop, map, refl, arith}
 use Rattle.rec_bits.proofs.Faults.{drop_item}
 use Rattle.form_model.specs.Trees.{tree_term}
-use Rattle.net_explain.specs.Lines.{tree_line, tree_lines}
+use Rattle.net_explain.specs.Lines.{lines_of, tree_line}
 use Rattle.net_explain.proofs.Growing.{tree_next}
 use Rattle.net_explain.proofs.heading.add_trees.Goals as goal
 
@@ -12,6 +12,7 @@ loop-tree-preserved c =
     let i = c.loop-tree.tree-index in
     let tree = c.tree-item.result in
     let is : drop i trees ≡ tree ∷ drop (i + 1) trees = drop_item trees i tree (omega arith) c.tree-item.is in
-    tree_next netlist (drop i trees) (drop (i + 1) trees) tree c.loop-tree.text.items c.add_tree_line.new.text.items
-    (c.args.text.now.items ++ tree_lines netlist (map tree_term trees)) (tree_line netlist (codes "tree") (tree_term tree)) is c.in_ok-add_tree_line.ensures refl
+    let word = c.args.word.now in
+    tree_next netlist word (drop i trees) (drop (i + 1) trees) tree c.loop-tree.text.items c.add_tree_line.new.text.items
+    (c.args.text.now.items ++ lines_of netlist word (map tree_term trees)) (tree_line netlist word (tree_term tree)) is c.in_ok-add_tree_line.ensures refl
     c.loop-tree.invariant

@@ -54,6 +54,11 @@ returns-in_err-text-in-Explain-clause-refused g c = λ line.
     let p = err_from_is_err_and c.from_residual-in_err-text-in-Explain.result c.from_residual-in_err-text-in-Explain.ensures.1 in
     rw (p.1, p.2, c.in-Explain.is) (rw (c.file-in-Explain.ensures, c.file-in-Explain-2.ensures) at (c.in_err-text-in-Explain.ensures.refused (line None)))
 
+pub returns-in_err-text-in-Tune-clause-refused : goal.returns-in_err-text-in-Tune-clause-refused
+returns-in_err-text-in-Tune-clause-refused g c = λ line.
+    let p = err_from_is_err_and c.from_residual-in_err-text-in-Tune.result c.from_residual-in_err-text-in-Tune.ensures.1 in
+    rw (p.1, p.2, c.in-Tune.is) (rw (c.file-in-Tune.ensures, c.file-in-Tune-2.ensures) at (c.in_err-text-in-Tune.ensures.refused (line None)))
+
 pub returns-in_err-text-in-Dual-clause-refused : goal.returns-in_err-text-in-Dual-clause-refused
 returns-in_err-text-in-Dual-clause-refused g c = λ line.
     let p = err_from_is_err_and c.from_residual-in_err-text-in-Dual.result c.from_residual-in_err-text-in-Dual.ensures.1 in
@@ -122,6 +127,13 @@ returns-in_ok-text-in-Explain-clause-done g c = λ line. record {
   text = c.in_ok-text-in-Explain.text.items;
   answers = rw c.in-Explain.is (rw (c.file-in-Explain.ensures, c.file-in-Explain-2.ensures) at (c.in_ok-text-in-Explain.ensures.ok (line None)));
   puts = rw c.deref-in-Explain.ensures.value at c.put-in-Explain.ensures;
+}
+
+pub returns-in_ok-text-in-Tune-clause-done : goal.returns-in_ok-text-in-Tune-clause-done
+returns-in_ok-text-in-Tune-clause-done g c = λ line. record {
+  text = c.in_ok-text-in-Tune.text.items;
+  answers = rw c.in-Tune.is (rw (c.file-in-Tune.ensures, c.file-in-Tune-2.ensures) at (c.in_ok-text-in-Tune.ensures.ok (line None)));
+  puts = rw c.deref-in-Tune.ensures.value at c.put-in-Tune.ensures;
 }
 
 pub returns-in_ok-text-in-Dual-clause-done : goal.returns-in_ok-text-in-Dual-clause-done

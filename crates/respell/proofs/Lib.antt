@@ -1,0 +1,4 @@
+pub mod SpelledLemmas
+pub mod Gains
+pub mod EqualJobs
+pub mod RespelledPrograms

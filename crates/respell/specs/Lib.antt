@@ -1,0 +1,3 @@
+pub mod Respelled
+pub mod Kept
+pub mod Inner

@@ -1,0 +1,333 @@
+//! The least costs of classes by the forms, as far as the search knows them. What waits where is
+//! left to `cover`, so these costs only choose.
+
+use crate::index::Index;
+use crate::survey::Kind;
+use form_model::{Form, Goal};
+use net_model::Expr;
+use rec_bits::NoMemory;
+use std::alloc::Global;
+use sym_expr::Node;
+use tree_grammar::{expr_width, fits_field, is_field_shape};
+use tree_laws::Classes;
+
+/// Where the value of a class is: in a register, in the file, or in a temporary cell.
+#[derive(Clone, Copy, PartialEq, Eq)]
+pub enum Place {
+    Register(u32),
+    File,
+    Cell,
+}
+
+impl Place {
+    // Its place in a row, where it has one.
+    fn slot(self) -> Option<usize> {
+        match self {
+            Place::Register(id) if id < 16 => Some(id as usize),
+            Place::Register(_) => None,
+            Place::File => Some(16),
+            Place::Cell => Some(17),
+        }
+    }
+}
+
+/// The registers that forms name are below 16; the file and the cells stand behind them.
+const PLACES: usize = 18;
+
+/// How often the costs are gone through at most; a value that needs a longer chain of forms isn't
+/// found.
+const SWEEPS: usize = 24;
+
+/// A cost of none.
+const NONE: u64 = u64::MAX;
+
+/// The least cost of a value in its place, and the form that leaves it there.
+#[derive(Clone, Copy)]
+pub struct Least {
+    pub cost: u64,
+    pub form: usize,
+}
+
+/// A job whose trees are listed.
+#[derive(Clone, Copy)]
+pub enum Listed {
+    Cell { value: u64, address: u32 },
+    Store { value: u64, address: u64 },
+    Test { value: u64, opposite: u64 },
+}
+
+/// The form at the root of a job, and the classes that it covers.
+#[derive(Clone, Copy)]
+pub struct Root {
+    pub form: usize,
+    pub value: u64,
+    /// The class of a store's address.
+    pub address: Option<u64>,
+    /// Whether the value is that of the opposite test.
+    pub turned: bool,
+}
+
+/// For each class and place the least cost.
+#[derive(Drop)]
+pub struct Costs {
+    rows: Vec<[Least; PLACES]>,
+}
+
+impl Costs {
+    /// The least costs of a table's classes.
+    pub fn new(
+        alloc: Global,
+        table: &Classes,
+        index: &Index,
+        forms: &[Form],
+    ) -> Result<Costs, NoMemory> {
+        let none = Least {
+            cost: NONE,
+            form: 0,
+        };
+        let mut rows = Vec::new(alloc);
+        for _ in 0..table.len() {
+            rows.push([none; PLACES])?;
+        }
+        let mut costs = Costs { rows };
+        for _ in 0..SWEEPS {
+            if !costs.sweep(table, index, forms) {
+                break;
+            }
+        }
+        Ok(costs)
+    }
+
+    /// The least cost of a class in a place, and the form that leaves it there.
+    pub fn least(&self, class: u64, place: Place) -> Option<Least> {
+        let row = self.rows.get(class as usize)?;
+        let least = *row.get(place.slot()?)?;
+        if least.cost == NONE {
+            None
+        } else {
+            Some(least)
+        }
+    }
+
+    // Goes through all forms once, each at the classes that have a node of its kind. Whether some
+    // cost became less.
+    fn sweep(&mut self, table: &Classes, index: &Index, forms: &[Form]) -> bool {
+        let mut changed = false;
+        for (place, form) in forms.iter().enumerate() {
+            match Kind::of_expr(&form.value) {
+                Some(Kind::Read) | None => {
+                    for class in index.heads() {
+                        changed |= self.try_form(table, index, *class, place, form);
+                    }
+                }
+                Some(kind) => {
+                    for member in index.of_kind(kind) {
+                        changed |= self.try_form(table, index, member.class, place, form);
+                    }
+                }
+            }
+        }
+        changed
+    }
+
+    // Takes a form for a class where that is less.
+    fn try_form(
+        &mut self,
+        table: &Classes,
+        index: &Index,
+        class: u64,
+        place: usize,
+        form: &Form,
+    ) -> bool {
+        let Some(to) = destination(form).and_then(Place::slot) else {
+            return false;
+        };
+        let cost = self.fit(table, index, &form.value, class).saturating_add(1);
+        let Some(row) = self.rows.get_mut(class as usize) else {
+            return false;
+        };
+        match row.get_mut(to) {
+            Some(least) if cost < least.cost => {
+                *least = Least { cost, form: place };
+                true
+            }
+            _ => false,
+        }
+    }
+
+    /// What an expression of a form costs where it is to have the value of a class.
+    #[cycle(fit)]
+    pub fn fit(&self, table: &Classes, index: &Index, e: &Expr, class: u64) -> u64 {
+        let head = table.head(class);
+        if is_field_shape(e) {
+            return number_cost(index, e, head);
+        }
+        match e {
+            Expr::Reg(id, width) => {
+                if table.width(head) == Some(*width) {
+                    self.waiting(head, Place::Register(*id))
+                } else {
+                    NONE
+                }
+            }
+            Expr::Cell(_, width) => {
+                if table.width(head) == Some(*width) {
+                    self.waiting(head, Place::File)
+                } else {
+                    NONE
+                }
+            }
+            Expr::Read(addr, width) => self.read(table, index, addr, *width, head),
+            _ => self.operator(table, index, e, head),
+        }
+    }
+
+    fn waiting(&self, head: u64, place: Place) -> u64 {
+        match self.least(head, place) {
+            Some(least) => least.cost,
+            None => NONE,
+        }
+    }
+
+    // A read: a cell of the class, or a temporary cell that its value is stored in.
+    #[cycle(fit)]
+    fn read(&self, table: &Classes, index: &Index, addr: &Expr, width: u8, head: u64) -> u64 {
+        let mut best = NONE;
+        if is_field_shape(addr) && table.width(head) == Some(width) {
+            best = self.waiting(head, Place::Cell);
+        }
+        for node in index.nodes(head) {
+            if let Node::Read(of, w) = *node {
+                if w == width {
+                    best = best.min(self.fit(table, index, addr, of));
+                }
+            }
+        }
+        best
+    }
+
+    // An operator: the node of the class that costs least.
+    #[cycle(fit)]
+    fn operator(&self, table: &Classes, index: &Index, e: &Expr, head: u64) -> u64 {
+        let mut best = NONE;
+        for node in index.nodes(head) {
+            best = best.min(self.at_node(table, index, e, *node));
+        }
+        best
+    }
+
+    /// What an operator's expression costs at a node.
+    #[cycle(fit)]
+    pub fn at_node(&self, table: &Classes, index: &Index, e: &Expr, node: Node) -> u64 {
+        match (e, node) {
+            (Expr::Un(op, a), Node::Un(other, x)) if *op == other => self.fit(table, index, a, x),
+            (Expr::Bin(op, a, b), Node::Bin(other, x, y)) if *op == other => self
+                .fit(table, index, a, x)
+                .saturating_add(self.fit(table, index, b, y)),
+            (Expr::Slice(a, hi, lo), Node::Slice(x, high, low)) if *hi == high && *lo == low => {
+                self.fit(table, index, a, x)
+            }
+            (Expr::Zext(a, w), Node::Zext(x, width)) if *w == width => {
+                self.fit(table, index, a, x)
+            }
+            (Expr::Sext(a, w), Node::Sext(x, width)) if *w == width => {
+                self.fit(table, index, a, x)
+            }
+            _ => NONE,
+        }
+    }
+
+    /// The form at the root of a job that costs least, with that cost.
+    pub fn root(
+        &self,
+        table: &Classes,
+        index: &Index,
+        forms: &[Form],
+        job: Listed,
+    ) -> Option<(u64, Root)> {
+        let mut best = NONE;
+        let mut root = None;
+        for (place, form) in forms.iter().enumerate() {
+            for turned in [false, true] {
+                let (cost, tried) = self.root_at(table, index, form, place, job, turned);
+                if cost < best {
+                    best = cost;
+                    root = Some((cost, tried));
+                }
+            }
+        }
+        root
+    }
+
+    // What a form costs at the root of a job, or of the opposite test.
+    fn root_at(
+        &self,
+        table: &Classes,
+        index: &Index,
+        form: &Form,
+        place: usize,
+        job: Listed,
+        turned: bool,
+    ) -> (u64, Root) {
+        let (value, address) = match job {
+            Listed::Cell { value, .. } => (value, None),
+            Listed::Store { value, address } => (value, Some(address)),
+            Listed::Test { value, opposite } => (if turned { opposite } else { value }, None),
+        };
+        let root = Root {
+            form: place,
+            value,
+            address,
+            turned,
+        };
+        let at = self.target(table, index, form, job, turned);
+        let cost = at.saturating_add(self.fit(table, index, &form.value, value));
+        (cost, root)
+    }
+
+    // What it costs that a form goes to a job's aim.
+    fn target(
+        &self,
+        table: &Classes,
+        index: &Index,
+        form: &Form,
+        job: Listed,
+        turned: bool,
+    ) -> u64 {
+        match (&form.goal, &form.addr, job) {
+            (Goal::Memory, Some(addr), Listed::Cell { address, .. }) if !turned => {
+                match u8::try_from(expr_width(addr)) {
+                    Ok(width) if fits_field(addr, width, u64::from(address)) => 1,
+                    _ => NONE,
+                }
+            }
+            (Goal::Memory, Some(addr), Listed::Store { address, .. }) if !turned => {
+                self.fit(table, index, addr, address).saturating_add(1)
+            }
+            (Goal::Branch { .. }, _, Listed::Test { .. }) => 1,
+            _ => NONE,
+        }
+    }
+}
+
+// Where a form leaves its value, if it isn't a jump or a branch.
+fn destination(form: &Form) -> Option<Place> {
+    match (&form.goal, &form.addr) {
+        (Goal::Reg(id), _) => Some(Place::Register(*id)),
+        (Goal::File, _) => Some(Place::File),
+        (Goal::Memory, Some(addr)) if is_field_shape(addr) => Some(Place::Cell),
+        _ => None,
+    }
+}
+
+// A number that a field shape shows costs nothing.
+fn number_cost(index: &Index, shape: &Expr, head: u64) -> u64 {
+    let (Some(value), Ok(width)) = (index.number(head), u8::try_from(expr_width(shape))) else {
+        return NONE;
+    };
+    if fits_field(shape, width, value) {
+        0
+    } else {
+        NONE
+    }
+}
