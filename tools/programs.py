@@ -1,7 +1,8 @@
 #!/usr/bin/env python3
 """Compiles random programs for random small processors, runs them with `record go`, and holds every checkpoint against an interpreter of its own.
 
-Usage: programs.py BINARY [--files | --modes | --wide] [--tune] [COUNT] [SEED]
+Usage: programs.py BINARY [--files | --modes | --wide] [COUNT] [SEED]
+       programs.py BINARY [--wide] --tune [COUNT] [SEED]
 
 Each of COUNT runs (200 where none are given) makes a netlist and a program, and starts from random cells and registers. The lines of `go` have to
 show the stores that the interpreter below has before each test and at the end, each test always under one label, and each within one image length
@@ -521,6 +522,8 @@ def one(binary, folder, seed, make, tuned):
 def main():
     binary, *words = sys.argv[1:]
     tuned, words = '--tune' in words, [word for word in words if word != '--tune']
+    if tuned and words[:1] in (['--files'], ['--modes']):
+        sys.exit(__doc__)
     binary, make = str(pathlib.Path(binary).resolve()), NETLISTS.get(words[0], random_netlist) if words else random_netlist
     numbers = [int(word) for word in words if word not in NETLISTS]
     count, first = [*numbers, *[200, 0][len(numbers):]]
