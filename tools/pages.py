@@ -37,10 +37,14 @@ def wrapped(text, first="", rest=""):
 
 
 def listed():
-    """The crates of crates.txt in their order, each with the crates that it names, and the heads that stand between them as None and a text."""
-    for line in (TOP / "crates.txt").read_text().splitlines():
+    """The crates of crates.txt in their order, each with the crates that it names, and the heads of the layers as None and a text.
+
+    A head stands right above a crate; a remark is followed by an empty line."""
+    lines = (TOP / "crates.txt").read_text().splitlines()
+    for line, following in zip(lines, lines[1:] + [""]):
         if line.startswith("#"):
-            yield None, line.lstrip("# ")
+            if following.strip():
+                yield None, line.lstrip("# ")
         elif line.strip():
             name, _, needs = line.partition(":")
             yield name, [need for need in needs.split() if (CRATES / need).is_dir()]

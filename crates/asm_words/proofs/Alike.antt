@@ -6,11 +6,11 @@ use Rattle.std.specs.List.{AllByRecursion, filter}
 use Rattle.rec_bits.specs.Operators.{apply1_of, slice_of, sext_of}
 use Rattle.net_model.specs.Nets.{held}
 use Rattle.net_model.specs.declared.states.State.{State}
-use Rattle.net_model.specs.Fields.{WordFitsMove, WordFitsTerm}
+use Rattle.net_model.specs.Fields.{WordFitsTransfer, WordFitsExpr}
 use Rattle.net_model.specs.Meaning.{mean}
-use Rattle.net_model.specs.Terms.{Term, word, reg, const, read, un, bin, slice, cat, zext, sext, select, term_width, Move, keep, write, write_at}
+use Rattle.net_model.specs.Exprs.{ExprModel, word, reg, const, read, un, bin, slice, cat, zext, sext, select, expr_width, TransferModel, keep, write, write_at}
 use Rattle.net_model.specs.Transfers.{cells_moved, reg_moved}
-use Rattle.asm_words.specs.Slices.{is_other, move_slices, once, slices}
+use Rattle.asm_words.specs.Slices.{is_other, transfer_slices, once, slices}
 use Rattle.asm_words.specs.declared.slices.Slice.{Slice}
 
 -- two words have the same bits in a slice
@@ -40,12 +40,12 @@ same_word : (i j w : ℕ) → i < 2 ^ w → j < 2 ^ w → slice_of i (w - 1) 0 �
 same_word i j zero f g e = omega arith
 same_word i j (suc w) f g e = sym (whole_slice i (suc w) (omega arith) f) ∙ e ∙ whole_slice j (suc w) (omega arith) g
 
-pub mean_alike : (t : Term) (s : State) (i j : ℕ) → WordFitsTerm t i → WordFitsTerm t j → AllAlike i j (slices t) → mean t s i ≡ mean t s j
+pub mean_alike : (t : ExprModel) (s : State) (i j : ℕ) → WordFitsExpr t i → WordFitsExpr t j → AllAlike i j (slices t) → mean t s i ≡ mean t s j
 mean_alike (word w) s i j f g h = same_word i j w f g h.0
 mean_alike (reg r w) s i j f g h = refl
 mean_alike (const w v) s i j f g h = refl
 mean_alike (read space a w) s i j f g h = ap (λ k. slice_index (held s space) k) (mean_alike a s i j f g h)
-mean_alike (un o a) s i j f g h = ap (λ x. apply1_of o (term_width a) x) (mean_alike a s i j f g h)
+mean_alike (un o a) s i j f g h = ap (λ x. apply1_of o (expr_width a) x) (mean_alike a s i j f g h)
 mean_alike (bin o a b) s i j f g h =
     cc (mean_alike a s i j f.0 g.0 (all_left i j (slices a) (slices b) h), mean_alike b s i j f.1 g.1 (all_right i j (slices a) (slices b) h))
 mean_alike (slice (word w) hi lo) s i j f g h = h.0
@@ -62,19 +62,19 @@ mean_alike (slice (select c a b) hi lo) s i j f g h = ap (λ x. slice_of x hi lo
 mean_alike (cat a b) s i j f g h =
     cc (mean_alike a s i j f.0 g.0 (all_left i j (slices a) (slices b) h), mean_alike b s i j f.1 g.1 (all_right i j (slices a) (slices b) h))
 mean_alike (zext a w) s i j f g h = mean_alike a s i j f g h
-mean_alike (sext a w) s i j f g h = ap (λ x. sext_of x (term_width a) w) (mean_alike a s i j f g h)
+mean_alike (sext a w) s i j f g h = ap (λ x. sext_of x (expr_width a) w) (mean_alike a s i j f g h)
 mean_alike (select c a b) s i j f g h =
     let r : AllAlike i j (slices a ++ slices b) = all_right i j (slices c) (slices a ++ slices b) h in
     cc (mean_alike c s i j f.0 g.0 (all_left i j (slices c) (slices a ++ slices b) h), mean_alike a s i j f.1 g.1 (all_left i j (slices a) (slices b) r), mean_alike b s i j f.2 g.2 (all_right i j (slices a) (slices b) r))
 
 -- ---- transfers
 
-pub reg_alike : (m : Move) (s : State) (i j id : ℕ) → WordFitsMove m i → WordFitsMove m j → AllAlike i j (move_slices m) → reg_moved m s i id ≡ reg_moved m s j id
+pub reg_alike : (m : TransferModel) (s : State) (i j id : ℕ) → WordFitsTransfer m i → WordFitsTransfer m j → AllAlike i j (transfer_slices m) → reg_moved m s i id ≡ reg_moved m s j id
 reg_alike keep s i j id f g h = refl
 reg_alike (write e) s i j id f g h = mean_alike e s i j f g h
 reg_alike (write_at a e) s i j id f g h = refl
 
-pub cells_alike : (m : Move) (s : State) (i j : ℕ) (olds : List ℕ) → WordFitsMove m i → WordFitsMove m j → AllAlike i j (move_slices m) → cells_moved m s i olds ≡ cells_moved m s j olds
+pub cells_alike : (m : TransferModel) (s : State) (i j : ℕ) (olds : List ℕ) → WordFitsTransfer m i → WordFitsTransfer m j → AllAlike i j (transfer_slices m) → cells_moved m s i olds ≡ cells_moved m s j olds
 cells_alike keep s i j olds f g h = refl
 cells_alike (write e) s i j olds f g h = refl
 cells_alike (write_at a e) s i j olds f g h =

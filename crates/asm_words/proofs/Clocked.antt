@@ -7,10 +7,10 @@ use Rattle.net_model.specs.declared.hardware.Netlist.{Netlist}
 use Rattle.net_model.specs.declared.states.State.{State}
 use Rattle.net_model.specs.CheckedRules.{KeepsRules}
 use Rattle.net_model.specs.Clock.{Next, clash_in, clock, step, word_at}
-use Rattle.net_model.specs.Fields.{WordFitsMove}
+use Rattle.net_model.specs.Fields.{WordFitsTransfer}
 use Rattle.net_model.specs.Nets.{IsRegister, held, place_in}
-use Rattle.net_model.specs.Terms.{Move}
-use Rattle.net_model.specs.Transfers.{IsClean, Moved, cells_moved, move_at, reg_moved}
+use Rattle.net_model.specs.Exprs.{TransferModel}
+use Rattle.net_model.specs.Transfers.{IsClean, Moved, cells_moved, transfer_at, reg_moved}
 use Rattle.net_model.specs.Value.{value_of}
 use Rattle.net_model.specs.Widths.{IsState}
 use Rattle.net_model.proofs.Effects.{moved}
@@ -19,7 +19,7 @@ use Rattle.net_model.proofs.WordWidths.{move_fits}
 use Rattle.word_fit.proofs.Storages.{other_kept, outcome_next, register_or_not}
 use Rattle.asm_text.specs.declared.line.Line.TheVariants.{Raw, Do}
 use Rattle.asm_words.specs.Laws.{WordsClockAlike, WordsLie}
-use Rattle.asm_words.specs.Slices.{move_slices}
+use Rattle.asm_words.specs.Slices.{transfer_slices}
 use Rattle.asm_words.proofs.Alike.{AllAlike, cells_alike, reg_alike}
 use Rattle.asm_words.proofs.Naming.{lies, same_at}
 
@@ -30,8 +30,8 @@ other_entry netlist code s t id e h =
     ∙ other_kept (value_of netlist s (word_at netlist code s)) netlist.storages s.regs id h
 
 module _ (netlist : Netlist) (order : List ℕ) (keeps : KeepsRules netlist order) (word other : ℕ) (clean : IsClean netlist word) (clean_other : IsClean netlist other)
-    (same : (id : ℕ) → move_at netlist other id ≡ move_at netlist word id)
-    (alike : (id : ℕ) → AllAlike other word (move_slices (move_at netlist word id)))
+    (same : (id : ℕ) → transfer_at netlist other id ≡ transfer_at netlist word id)
+    (alike : (id : ℕ) → AllAlike other word (transfer_slices (transfer_at netlist word id)))
     (code codes : List ℕ) (s : State) (state : IsState netlist s) (here : word_at netlist code s ≡ word) (there : word_at netlist codes s ≡ other) where
   a : Moved netlist code word s
   a = moved netlist code word s (sound_of netlist order keeps) state clean here
@@ -39,25 +39,25 @@ module _ (netlist : Netlist) (order : List ℕ) (keeps : KeepsRules netlist orde
   b : Moved netlist codes other s
   b = moved netlist codes other s (sound_of netlist order keeps) state clean_other there
 
-  fits : (id : ℕ) → WordFitsMove (move_at netlist word id) word
+  fits : (id : ℕ) → WordFitsTransfer (transfer_at netlist word id) word
   fits id = move_fits netlist word clean.fits (sound_of netlist order keeps).typed id
 
-  fits_other : (id : ℕ) → WordFitsMove (move_at netlist word id) other
-  fits_other id = subst (λ (m : Move). WordFitsMove m other) (same id) (move_fits netlist other clean_other.fits (sound_of netlist order keeps).typed id)
+  fits_other : (id : ℕ) → WordFitsTransfer (transfer_at netlist word id) other
+  fits_other id = subst (λ (m : TransferModel). WordFitsTransfer m other) (same id) (move_fits netlist other clean_other.fits (sound_of netlist order keeps).typed id)
 
   entries : (id : ℕ) → slice_index b.next.regs id ≡ slice_index a.next.regs id
   entries id =
       register_or_not (slice_get netlist.storages id)
       (λ r.
-      b.regs id r ∙ ap (λ (m : Move). reg_moved m s other id) (same id)
-      ∙ reg_alike (move_at netlist word id) s other word id (fits_other id) (fits id) (alike id) ∙ sym (a.regs id r))
+      b.regs id r ∙ ap (λ (m : TransferModel). reg_moved m s other id) (same id)
+      ∙ reg_alike (transfer_at netlist word id) s other word id (fits_other id) (fits id) (alike id) ∙ sym (a.regs id r))
       (λ n. other_entry netlist codes s b.next id b.clocked n ∙ sym (other_entry netlist code s a.next id a.clocked n))
 
   cells : (space : Space) → held b.next space ≡ held a.next space
   cells space =
       let m : ℕ = place_in space netlist.storages in
-      b.cells space ∙ ap (λ (k : Move). cells_moved k s other (held s space)) (same m)
-      ∙ cells_alike (move_at netlist word m) s other word (held s space) (fits_other m) (fits m) (alike m) ∙ sym (a.cells space)
+      b.cells space ∙ ap (λ (k : TransferModel). cells_moved k s other (held s space)) (same m)
+      ∙ cells_alike (transfer_at netlist word m) s other word (held s space) (fits_other m) (fits m) (alike m) ∙ sym (a.cells space)
 
   next_same : b.next ≡ a.next
   next_same =

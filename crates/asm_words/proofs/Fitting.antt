@@ -3,13 +3,13 @@ use Rattle.std.proofs.Common.{◌≡◌, ℕ, ◌-◌, ◌<◌, Bool, true, fals
 use Rattle.std.proofs.lemmas.List.Elements.{All-append, All-cons, All-head, All-tail}
 use Rattle.std.proofs.lemmas.Option.{get_or_from_slice_get, same_Some, slice_get_within}
 use Rattle.std.specs.List.{All, filter, flat_map}
-use Rattle.net_model.specs.Terms.{Term, word, reg, const, read, un, bin, slice, cat, zext, sext, select}
+use Rattle.net_model.specs.Exprs.{ExprModel, word, reg, const, read, un, bin, slice, cat, zext, sext, select}
 use Rattle.sym_expr.specs.declared.pool.Node.{Node}
-use Rattle.sym_expr.specs.Pools.{TermFits, term_at}
-use Rattle.transfer_set.specs.Entries.{IsAddrKnown, ids_move}
-use Rattle.transfer_set.specs.Tables.{Table}
+use Rattle.sym_expr.specs.Pools.{ExprFits, expr_of_id}
+use Rattle.transfer_set.specs.Entries.{IsAddrKnown, ids_transfer}
+use Rattle.transfer_set.specs.Tables.{PatternTable}
 use Rattle.transfer_set.specs.declared.row.Row.{Row}
-use Rattle.asm_words.specs.Slices.{is_other, move_slices, once, slices}
+use Rattle.asm_words.specs.Slices.{is_other, transfer_slices, once, slices}
 use Rattle.asm_words.specs.Tables.{HasExprs}
 use Rattle.asm_words.specs.Inner.Given.{SliceFits, row_slices}
 use Rattle.asm_words.specs.declared.slices.Slice.{Slice}
@@ -20,7 +20,7 @@ none = λ i d h. absurd (omega (arith, h))
 one : (s : Slice) → SliceFits s → All SliceFits (s ∷ [])
 one s h = All-cons SliceFits s [] h none
 
-pub slices_fit : (t : Term) → TermFits t → All SliceFits (slices t)
+pub slices_fit : (t : ExprModel) → ExprFits t → All SliceFits (slices t)
 slices_fit (word w) f = one (record { hi = w - 1; lo = 0 }) (record { order = omega arith; within = omega (arith, f.0, f.1) })
 slices_fit (reg r w) f = none
 slices_fit (const w v) f = none
@@ -46,14 +46,14 @@ slices_fit (select c a b) f =
 
 -- ---- of rows
 
-module _ (pool : List Node) (table : Table) (has : HasExprs pool table) where
+module _ (pool : List Node) (table : PatternTable) (has : HasExprs pool table) where
   -- what a row's ids are
   pub expr_told : (n : ℕ) (addr : Option ℕ) (value : ℕ) → ◌≡◌ {A = Option (Option ℕ × ℕ)} (Some (addr, value)) (option_map (λ (row : Row). (row.addr, row.value)) (slice_get table.rows n)) →
-      IsAddrKnown (length pool) addr × (value < length pool) × (row_slices pool (slice_get table.rows n) ≡ move_slices (ids_move pool addr value))
+      IsAddrKnown (length pool) addr × (value < length pool) × (row_slices pool (slice_get table.rows n) ≡ transfer_slices (ids_transfer pool addr value))
   expr_told n addr value e = by (slice_get table.rows n) refl e
     where
       by : (o : Option Row) → slice_get table.rows n ≡ o → ◌≡◌ {A = Option (Option ℕ × ℕ)} (Some (addr, value)) (option_map (λ (row : Row). (row.addr, row.value)) o) →
-          IsAddrKnown (length pool) addr × (value < length pool) × (row_slices pool o ≡ move_slices (ids_move pool addr value))
+          IsAddrKnown (length pool) addr × (value < length pool) × (row_slices pool o ≡ transfer_slices (ids_transfer pool addr value))
       by None at e = cc
       by (Some row) at e =
           let within = slice_get_within table.rows n row at in
@@ -63,14 +63,14 @@ module _ (pool : List Node) (table : Table) (has : HasExprs pool table) where
           let v : value ≡ row.value = ap (λ (p : Option ℕ × ℕ). p.1) same in (
             subst (IsAddrKnown (length pool)) (sym a) (subst (λ (r : Row). IsAddrKnown (length pool) r.addr) here (has.addrs n row within)),
             subst (λ (i : ℕ). i < length pool) (sym v) (subst (λ (r : Row). r.value < length pool) here (has.values n row within)),
-            (λ j. move_slices (ids_move pool (sym a j) (sym v j))),
+            (λ j. transfer_slices (ids_transfer pool (sym a j) (sym v j))),
           )
 
-module _ (pool : List Node) (table : Table) (has : HasExprs pool table) (fits : (id : ℕ) → id < length pool → TermFits (term_at pool id)) where
-  ids_fit : (addr : Option ℕ) (value : ℕ) → IsAddrKnown (length pool) addr → value < length pool → All SliceFits (move_slices (ids_move pool addr value))
-  ids_fit None value a v = slices_fit (term_at pool value) (fits value v)
+module _ (pool : List Node) (table : PatternTable) (has : HasExprs pool table) (fits : (id : ℕ) → id < length pool → ExprFits (expr_of_id pool id)) where
+  ids_fit : (addr : Option ℕ) (value : ℕ) → IsAddrKnown (length pool) addr → value < length pool → All SliceFits (transfer_slices (ids_transfer pool addr value))
+  ids_fit None value a v = slices_fit (expr_of_id pool value) (fits value v)
   ids_fit (Some addr) value a v =
-      All-append SliceFits (slices (term_at pool addr)) (slices (term_at pool value)) (slices_fit (term_at pool addr) (fits addr a)) (slices_fit (term_at pool value) (fits value v))
+      All-append SliceFits (slices (expr_of_id pool addr)) (slices (expr_of_id pool value)) (slices_fit (expr_of_id pool addr) (fits addr a)) (slices_fit (expr_of_id pool value) (fits value v))
 
   row_fits : (n : ℕ) (o : Option Row) → slice_get table.rows n ≡ o → All SliceFits (row_slices pool o)
   row_fits n None e = none

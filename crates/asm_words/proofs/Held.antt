@@ -10,7 +10,7 @@ use Rattle.net_model.specs.Transfers.{IsClean, Keeps}
 use Rattle.sym_expr.specs.declared.pool.Node.{Node}
 use Rattle.transfer_set.specs.Ready.{IsReady}
 use Rattle.transfer_set.specs.Rows.{row_pattern, row_patterns}
-use Rattle.transfer_set.specs.Tables.{Table}
+use Rattle.transfer_set.specs.Tables.{PatternTable}
 use Rattle.transfer_set.specs.declared.row.Row.{Row}
 use Rattle.transfer_set.proofs.ReadyLaws.{keep_set_at, row_set_at}
 use Rattle.nop_synth.specs.Wanted.{all_hold, option_list, row_set}
@@ -24,7 +24,7 @@ some_at [] i lt e = absurd (omega (arith, lt))
 some_at (x ∷ xs) zero lt e = cc
 some_at (x ∷ xs) (suc i) lt e = some_at xs i (omega (arith, lt)) e
 
-module _ (netlist : Netlist) (book : Diagrams) (pool : List Node) (table : Table) (ready : IsReady netlist book pool table) (empty : (word : ℕ) → has_word book 0 word ≡ false) where
+module _ (netlist : Netlist) (book : Diagrams) (pool : List Node) (table : PatternTable) (ready : IsReady netlist book pool table) (empty : (word : ℕ) → has_word book 0 word ≡ false) where
   abbrev patterns : List Pattern
   patterns = row_patterns pool table.rows
 
@@ -114,7 +114,7 @@ module _ (netlist : Netlist) (book : Diagrams) (pool : List Node) (table : Table
 
 -- ---- one storage further
 
-pub kept_more : (table : Table) (numbers : List ℕ) (count : ℕ) (front sets more : List ℕ) → sets ≡ front ++ kept_sets table numbers count → more ≡ sets ++ kept_set table numbers count → more ≡ front ++ kept_sets table numbers (count + 1)
+pub kept_more : (table : PatternTable) (numbers : List ℕ) (count : ℕ) (front sets more : List ℕ) → sets ≡ front ++ kept_sets table numbers count → more ≡ sets ++ kept_set table numbers count → more ≡ front ++ kept_sets table numbers (count + 1)
 unfolding kept_sets
 kept_more table numbers count front sets more e f =
     f ∙ ap (λ (xs : List ℕ). xs ++ kept_set table numbers count) e ∙ append_assoc front (kept_sets table numbers count) (kept_set table numbers count)

@@ -4,13 +4,13 @@ use Rattle.std.proofs.lemmas.Bool.{eq-eqb, eqb-true, true≢false}
 use Rattle.std.specs.List.{AllByRecursion}
 use Rattle.net_model.specs.declared.hardware.Netlist.{Netlist}
 use Rattle.net_model.specs.Patterns.{IsPattern, Pattern}
-use Rattle.net_model.specs.Terms.{Move, keep, write, write_at}
-use Rattle.net_model.specs.Transfers.{move_at}
+use Rattle.net_model.specs.Exprs.{TransferModel, keep, write, write_at}
+use Rattle.net_model.specs.Transfers.{transfer_at}
 use Rattle.asm_text.specs.declared.line.Item.{Item}
 use Rattle.asm_words.specs.Asked.{DoesLine, Gives, HasItem, is_named, is_of}
 use Rattle.asm_words.specs.Laws.{HasAll}
 use Rattle.asm_words.specs.Shown.{ShowsLine, item_of}
-use Rattle.asm_words.specs.Slices.{line_slices, move_slices, once, pattern_slices}
+use Rattle.asm_words.specs.Slices.{line_slices, transfer_slices, once, pattern_slices}
 use Rattle.asm_words.specs.declared.slices.Slice.{Slice}
 use Rattle.asm_words.proofs.Alike.{AllAlike, all_left, all_right, once_enough}
 
@@ -36,7 +36,7 @@ named_at patterns (m ∷ ms) id (suc k) n lt e h = or_second _ _ (named_at patte
 module _ (netlist : Netlist) (patterns : List Pattern) (all : HasAll netlist patterns) (word : ℕ) (numbers : List ℕ) (items : List Item) (shown : ShowsLine netlist patterns word numbers items) where
   -- a storage that the line doesn't name keeps
 
-  changing : (id : ℕ) (move : Move) → move_at netlist word id ≡ move → (move ≡ keep → ⊥) → is_named patterns numbers id ≡ false → ⊥
+  changing : (id : ℕ) (move : TransferModel) → transfer_at netlist word id ≡ move → (move ≡ keep → ⊥) → is_named patterns numbers id ≡ false → ⊥
   changing id move e change out =
       let p : Pattern = record { storage = id; move = move } in
       let is : IsPattern netlist p = record { changes = change; word = word; given = record { clean = shown.clean; gives = e } } in
@@ -46,10 +46,10 @@ module _ (netlist : Netlist) (patterns : List Pattern) (all : HasAll netlist pat
       let of : is_of id (slice_get patterns in_all.0) ≡ true = ap (is_of id) here ∙ eq-eqb id id refl in
       true≢false (sym (named_at patterns numbers id listed.0 in_all.0 listed.1 listed.2 of) ∙ out)
 
-  pub unnamed_keeps : (id : ℕ) → is_named patterns numbers id ≡ false → move_at netlist word id ≡ keep
-  unnamed_keeps id out = by (move_at netlist word id) refl
+  pub unnamed_keeps : (id : ℕ) → is_named patterns numbers id ≡ false → transfer_at netlist word id ≡ keep
+  unnamed_keeps id out = by (transfer_at netlist word id) refl
     where
-      by : (move : Move) → move_at netlist word id ≡ move → move_at netlist word id ≡ keep
+      by : (move : TransferModel) → transfer_at netlist word id ≡ move → transfer_at netlist word id ≡ keep
       by keep e = e
       by (write v) e = absurd (changing id (write v) e (λ q. cc) out)
       by (write_at a v) e = absurd (changing id (write_at a v) e (λ q. cc) out)
@@ -72,8 +72,8 @@ module _ (netlist : Netlist) (patterns : List Pattern) (all : HasAll netlist pat
   module _ (other : ℕ) (does : DoesLine netlist patterns numbers items other) where
     -- what is told of a storage: both words give it one transfer, and are alike in its slices
     pub record Same (id : ℕ) : Type 0 where
-      pub move : move_at netlist other id ≡ move_at netlist word id
-      pub alike : AllAlike other word (move_slices (move_at netlist word id))
+      pub move : transfer_at netlist other id ≡ transfer_at netlist word id
+      pub alike : AllAlike other word (transfer_slices (transfer_at netlist word id))
 
     alike_items : (ss : List Slice) → AllByRecursion (HasItem other) (map (item_of word) ss) → AllAlike other word ss
     alike_items [] h = tt
@@ -97,7 +97,7 @@ module _ (netlist : Netlist) (patterns : List Pattern) (all : HasAll netlist pat
             step : (t : Bool) → (pattern.storage == id) ≡ t → (t || is_named patterns ns id) ≡ true → Same id
             step true s e =
                 let same : pattern.storage ≡ id = eqb-true pattern.storage id s in
-                subst Same same (record { move = q ∙ sym p; alike = subst (λ (m : Move). AllAlike other word (move_slices m)) (sym p) a })
+                subst Same same (record { move = q ∙ sym p; alike = subst (λ (m : TransferModel). AllAlike other word (transfer_slices m)) (sym p) a })
             step false s e = rest e
 
     pub same_at : (id : ℕ) → Same id
@@ -109,5 +109,5 @@ module _ (netlist : Netlist) (patterns : List Pattern) (all : HasAll netlist pat
             let kept = unnamed_keeps id e in
             record {
               move = does.keeps id e ∙ sym kept;
-              alike = subst (λ (m : Move). AllAlike other word (move_slices m)) (sym kept) tt;
+              alike = subst (λ (m : TransferModel). AllAlike other word (transfer_slices m)) (sym kept) tt;
             }

@@ -14,7 +14,7 @@ use Rattle.net_model.specs.Transfers.{IsClean}
 use Rattle.sym_expr.specs.declared.pool.Node.{Node}
 use Rattle.transfer_set.specs.Ready.{IsReady}
 use Rattle.transfer_set.specs.Rows.{row_pattern, row_patterns}
-use Rattle.transfer_set.specs.Tables.{Table}
+use Rattle.transfer_set.specs.Tables.{PatternTable}
 use Rattle.transfer_set.specs.declared.row.Row.{Row}
 use Rattle.transfer_set.proofs.ReadyLaws.{row_set_at}
 use Rattle.asm_text.specs.declared.line.Item.{Item}
@@ -53,7 +53,7 @@ ascend book (row ∷ rows) k word = by (has_word book row.set word) (ascend book
         (All-weaker (λ (n : ℕ). k + 1 ≤ n) (λ (n : ℕ). k < n) (λ n l. omega (arith, l)) (numbers_in book rows (k + 1) word) (low book rows (k + 1) word)) h
     by false h = h
 
-module _ (netlist : Netlist) (book : Diagrams) (pool : List Node) (table : Table) (ready : IsReady netlist book pool table) (word : ℕ) (lt : word < 2 ^ book.bits) where
+module _ (netlist : Netlist) (book : Diagrams) (pool : List Node) (table : PatternTable) (ready : IsReady netlist book pool table) (word : ℕ) (lt : word < 2 ^ book.bits) where
   -- rows that stand in the table from a place on
   abbrev Stand : List Row → ℕ → Type 0
   Stand rows k = (i : ℕ) → slice_get rows i ≡ slice_get table.rows (k + i)

@@ -5,12 +5,12 @@ use Rattle.std.proofs.lemmas.Option.{get_or_from_slice_get, slice_get_past, slic
 use Rattle.std.specs.List.{All}
 use Rattle.bit_bdd.specs.Diagrams.{Diagrams, has_word}
 use Rattle.net_model.specs.declared.hardware.Netlist.{Netlist}
-use Rattle.net_model.specs.Terms.{keep}
-use Rattle.net_model.specs.Transfers.{move_at, transfer_of}
+use Rattle.net_model.specs.Exprs.{keep}
+use Rattle.net_model.specs.Transfers.{transfer_at, transfer_of}
 use Rattle.sym_expr.specs.declared.pool.Node.{Node}
 use Rattle.transfer_set.specs.Ready.{IsReady}
 use Rattle.transfer_set.specs.Rows.{row_patterns}
-use Rattle.transfer_set.specs.Tables.{Table}
+use Rattle.transfer_set.specs.Tables.{PatternTable}
 use Rattle.transfer_set.specs.declared.row.Row.{Row}
 use Rattle.nop_synth.specs.declared.meet.FieldValue.{FieldValue}
 use Rattle.nop_synth.specs.Wanted.{AllBelow, all_hold, has_fields, option_list, row_set}
@@ -26,7 +26,7 @@ use Rattle.asm_words.proofs.Held as sets
 
 -- ---- the sets are the book's
 
-module _ (book : Diagrams) (table : Table) (has : HasSets book table) (some : 0 < length book.nodes) where
+module _ (book : Diagrams) (table : PatternTable) (has : HasSets book table) (some : 0 < length book.nodes) where
   row_below : (n : ℕ) (o : Option Row) → slice_get table.rows n ≡ o → row_set o < length book.nodes
   row_below n None e = some
   row_below n (Some row) e =
@@ -57,10 +57,10 @@ module _ (book : Diagrams) (table : Table) (has : HasSets book table) (some : 0 
 
 -- ---- what they hold
 
-past_keeps : (netlist : Netlist) (word storage : ℕ) → length netlist.storages ≤ storage → move_at netlist word storage ≡ keep
+past_keeps : (netlist : Netlist) (word storage : ℕ) → length netlist.storages ≤ storage → transfer_at netlist word storage ≡ keep
 past_keeps netlist word storage h = ap (transfer_of netlist word storage) (slice_get_past netlist.storages storage h)
 
-module _ (netlist : Netlist) (book : Diagrams) (pool : List Node) (table : Table) (ready : IsReady netlist book pool table) (empty : (word : ℕ) → has_word book 0 word ≡ false) (numbers : List ℕ) (items : List Item) (count : ℕ) (some : 0 < count) (long : length table.keeps ≡ count) (fits : All (ItemFits book.bits) items) (word : ℕ) (lt : word < 2 ^ book.bits) where
+module _ (netlist : Netlist) (book : Diagrams) (pool : List Node) (table : PatternTable) (ready : IsReady netlist book pool table) (empty : (word : ℕ) → has_word book 0 word ≡ false) (numbers : List ℕ) (items : List Item) (count : ℕ) (some : 0 < count) (long : length table.keeps ≡ count) (fits : All (ItemFits book.bits) items) (word : ℕ) (lt : word < 2 ^ book.bits) where
   does : all_hold book (line_sets table numbers count) word ≡ true → has_fields (item_fields items) word ≡ true → DoesLine netlist (row_patterns pool table.rows) numbers items word
   does h f =
       let p = hold_parts book (map (number_set table) numbers) (kept_sets table numbers count) word h in
@@ -68,7 +68,7 @@ module _ (netlist : Netlist) (book : Diagrams) (pool : List Node) (table : Table
         clean = clean netlist book pool table ready empty numbers count word lt some (sym long) h;
         gives = gives netlist book pool table ready empty numbers word lt p.0;
         keeps = λ storage out.
-            elim (cases_lt storage count) as (λ _. move_at netlist word storage ≡ keep) [
+            elim (cases_lt storage count) as (λ _. transfer_at netlist word storage ≡ keep) [
               | inl u ↦ (keeps netlist book pool table ready empty numbers count word storage lt p.1 u (omega (arith, u, long)) (sym (named netlist book pool table ready empty numbers storage) ∙ out)).keeps
               | inr u ↦ past_keeps netlist word storage (omega (arith, u, long, ready.patterns.storages))
             ];

@@ -5,16 +5,16 @@ use Rattle.net_model.specs.declared.hardware.Space.TheVariants.{Memory as InMemo
 use Rattle.net_model.specs.Nets.{code_bits}
 use Rattle.rec_bits.specs.declared.operator.Op2.TheVariants.{Add}
 use Rattle.net_model.specs.Patterns.{Pattern}
-use Rattle.net_model.specs.Terms.{word, reg, const, read, bin, slice, Move, keep, write}
-use Rattle.net_model.specs.Transfers.{move_at}
+use Rattle.net_model.specs.Exprs.{word, reg, const, read, bin, slice, TransferModel, keep, write}
+use Rattle.net_model.specs.Transfers.{transfer_at}
 use Rattle.net_model.specs.Worked.{a16}
 use Rattle.asm_text.specs.declared.line.Item.{Item}
 use Rattle.asm_words.specs.Asked.{DoesLine, is_named}
 use Rattle.asm_words.specs.Shown.{item_of}
-use Rattle.asm_words.specs.Slices.{line_slices, move_slices, once}
+use Rattle.asm_words.specs.Slices.{line_slices, transfer_slices, once}
 
 -- three of its patterns: the program counter steps, or is set, or the accumulator takes a cell
-abbrev pub pattern : ℕ → Move → Pattern
+abbrev pub pattern : ℕ → TransferModel → Pattern
 pattern storage move = record { storage = storage; move = move }
 
 abbrev pub patterns : List Pattern
@@ -40,7 +40,7 @@ loads = record {
     below zero h = omega arith
     below (suc code) h = absurd (omega (arith, h))
 
-    others : (storage : ℕ) → is_named patterns (0 ∷ 2 ∷ []) storage ≡ false → move_at a16 259 storage ≡ keep
+    others : (storage : ℕ) → is_named patterns (0 ∷ 2 ∷ []) storage ≡ false → transfer_at a16 259 storage ≡ keep
     others zero e = absurd cc
     others (suc zero) e = absurd cc
     others (suc (suc zero)) e = refl
@@ -48,7 +48,7 @@ loads = record {
 
 -- it isn't a word of the line that only steps: the accumulator, which isn't named, doesn't keep
 pub loads_more : DoesLine a16 patterns (0 ∷ []) [] 259 → ⊥
-loads_more h = absurd (let e : move_at a16 259 1 ≡ keep = h.keeps 1 refl in cc)
+loads_more h = absurd (let e : transfer_at a16 259 1 ≡ keep = h.keeps 1 refl in cc)
 
 -- nor of the line with another cell's bits
 pub loads_other : DoesLine a16 patterns (0 ∷ 2 ∷ []) (item 7 0 4 ∷ []) 259 → ⊥
@@ -60,7 +60,7 @@ loads_other h = absurd (let e : ◌≡◌ {A = ℕ} 3 4 = h.bits.0 in cc)
 pub two_slices : once (line_slices patterns (0 ∷ 1 ∷ 2 ∷ [])) ≡ record { hi = 7; lo = 0 } ∷ []
 two_slices = refl
 
-pub whole_word : once (move_slices (write (bin Add (word 12) (slice (bin Add (word 12) (word 12)) 3 0))))
+pub whole_word : once (transfer_slices (write (bin Add (word 12) (slice (bin Add (word 12) (word 12)) 3 0))))
     ≡ record { hi = 11; lo = 0 } ∷ []
 whole_word = refl
 

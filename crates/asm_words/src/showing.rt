@@ -5,7 +5,7 @@ ghost use Rattle.std.specs.List.{flat_map};
 ghost use Rattle.bit_bdd.specs.Diagrams.{has_word};
 ghost use Rattle.net_model.specs.declared.hardware.Netlist.{Netlist};
 ghost use Rattle.net_model.specs.Transfers.{IsClean};
-ghost use Rattle.sym_expr.specs.Pools.{term_at};
+ghost use Rattle.sym_expr.specs.Pools.{expr_of_id};
 ghost use Rattle.transfer_set.specs.Ready.{IsReady};
 ghost use Rattle.transfer_set.specs.Rows.{row_patterns};
 ghost use Rattle.asm_words.specs.Shown.{IsLineOf, item_of};
@@ -34,7 +34,7 @@ fn add_slice(found: &mut Items<Slice>, slice: Slice) -> Result<(), NoMemory>
 // Adds the slices of the instruction word in an expression.
 fn add_slices(pool: &Pool, found: &mut Items<Slice>, expr: ExprId) -> Result<(), NoMemory>
     requires { expr < length pool.now }
-    ensures { OnOk result (found.new ≡ with_slices found.old (slices (term_at pool.now expr))) }
+    ensures { OnOk result (found.new ≡ with_slices found.old (slices (expr_of_id pool.now expr))) }
 {
     match pool.node(expr) {
         Node::Word(width) => add_slice(

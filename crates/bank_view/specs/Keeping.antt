@@ -1,4 +1,5 @@
--- What a netlist with a bank keeps.
+-- What a netlist with a bank keeps. A netlist of the edition with a bank that keeps N1 to N4, N6
+-- and N11 (`HasBanks`), or all rules (`KeepsBanks`).
 use Rattle.std.specs.Prelude.{ℕ, List, IsTrue}
 use Rattle.net_model.specs.declared.hardware.Netlist.{Netlist}
 use Rattle.net_model.specs.Editions.{is_banked}

@@ -1,5 +1,12 @@
 -- The view V(N) of a netlist of two data memories: one memory of the cells of both, in which those
--- of the bank stand behind the others.
+-- of the bank stand behind the others (`view_of`). Each net of the netlist is there in its order;
+-- before a read stands the net that widens its address by a bit, and for the bank the constant 2^k
+-- and their sum. Behind the nets of the memory's item stand its widened address, the constant 1
+-- for each write without a `when`, and what joins the writes: a bus of the two values, one of the
+-- two addresses, and the `or` of the enables; behind those of the bank's item its address. The
+-- memory has the cells of both and takes the joined write, the bank is no storage there, storages
+-- behind it have a number less, and the edition is one that no text has. A state is *joined*
+-- (`join_state`) where the bank's cells stand behind the memory's.
 use Rattle.std.specs.Prelude.{ℕ, zero, suc, ◌+◌, ◌-◌, ◌^◌, ◌==◌, nat_lt, if◌then◌else◌, Bool, true, false, List, [], ◌∷◌, ◌++◌, length, map, option_map, Option, Some, None, slice_get}
 use Rattle.std.specs.List.{remove, flat_map}
 use Rattle.rec_bits.specs.declared.operator.Op2.TheVariants.{Add, Or}

@@ -1,7 +1,7 @@
 //! The layout: temporary cells, and then the variables.
 
 ghost use Rattle.std.specs.Prelude.{◌≡◌, ◌+◌, ◌*◌, ◌^◌, ◌<◌, ◌≤◌, IfOk, IfErr, length};
-ghost use Rattle.src_model.specs.Written.{listing_of};
+ghost use Rattle.src_model.specs.Written.{model_of_program};
 ghost use Rattle.src_model.specs.Sizes.{longest};
 ghost use Rattle.src_model.specs.Meaning.{cells_in, cell_count};
 ghost use Rattle.code_model.specs.Places.{places_from, Apart};
@@ -67,10 +67,10 @@ fn places(alloc: Global, first: u32, vars: &[Var]) -> Result<Items<Place>, NoMem
 /// fewer than 2^32 variables. It is refused exactly where it needs more cells than there are.
 pub fn bind(alloc: Global, typed: &Typed, words: u32) -> Result<Places, BindFault>
     requires few { length typed.now.program.vars < 2 ^ 32 }
-    ensures places { IfOk result (λ places. places ≡ layout_of typed.now.width (listing_of typed.now.program)) }
+    ensures places { IfOk result (λ places. places ≡ layout_of typed.now.width (model_of_program typed.now.program)) }
     ensures apart { IfOk result (λ places. Apart places.temps places.list words) }
-    ensures enough { IfOk result (λ places. need_of typed.now.width (listing_of typed.now.program) ≤ words) }
-    ensures refused { IfErr result (IsBindFault (need_of typed.now.width (listing_of typed.now.program)) words) }
+    ensures enough { IfOk result (λ places. need_of typed.now.width (model_of_program typed.now.program) ≤ words) }
+    ensures refused { IfErr result (IsBindFault (need_of typed.now.width (model_of_program typed.now.program)) words) }
 {
     let vars = typed.program().vars.as_slice();
     let temps = typed.temps();

@@ -1,4 +1,9 @@
--- What a book says: its number of bits, and its nodes, where a node's place is its id.
+-- What a book says: its number of bits, and its nodes, where a node's place is its id. A point
+-- gives each bit of a word a value. A book is its number of bits and the list of its nodes; an id
+-- is a place in the list. Ids 0 and 1 are the empty set and the set of all words; any other node
+-- is a bit with one id for 0 and one for 1, and a word lies in its set where it lies in that of
+-- the id for the bit's value. One book *extends* another where it has the same bits and the
+-- other's nodes in their places.
 use Rattle.std.specs.Prelude.{◌≡◌, ◌↔◌, ℕ, ◌^◌, bit_or, bit_xor, ◌<◌, ◌≤◌, ◌==◌, Bool, true, false, if◌then◌else◌, List, [], ◌∷◌, ◌++◌, length, reverse}
 use Rattle.std.specs.Int.{bit_at}
 use Rattle.bit_bdd.specs.declared.Node.{Node}

@@ -1,4 +1,6 @@
--- The finished operations that a book remembers.
+-- The finished operations that a book remembers. What a book keeps, in no public clause: children
+-- stand before their parents and ask lower bits, no node has two equal children, no two nodes are
+-- equal, and each finished operation in the table is right.
 use Rattle.std.specs.Prelude.{◌≡◌, ℕ, ◌<◌, ◌≤◌, List, length, All}
 use Rattle.bit_bdd.specs.declared.Node.{Node}
 use Rattle.bit_bdd.specs.declared.Operation.{Operation}

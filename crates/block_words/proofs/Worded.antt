@@ -7,11 +7,11 @@ use Rattle.net_model.specs.declared.hardware.Netlist.{Netlist}
 use Rattle.net_model.specs.declared.hardware.Space.{Space}
 use Rattle.net_model.specs.declared.hardware.Space.TheVariants.{Memory as InMemory, File as InFile}
 use Rattle.net_model.specs.Nets.{IsRegister, file_place, place_in}
-use Rattle.net_model.specs.Transfers.{memory_move, space_move}
+use Rattle.net_model.specs.Transfers.{memory_transfer, space_transfer}
 use Rattle.net_model.proofs.Spaces.{by_space}
-use Rattle.net_model.specs.Fields.{move_fields}
+use Rattle.net_model.specs.Fields.{transfer_fields}
 use Rattle.net_model.specs.Patterns.{IsPattern, IsWordOf, Pattern}
-use Rattle.net_model.specs.Terms.{Move, keep, write, write_at}
+use Rattle.net_model.specs.Exprs.{TransferModel, keep, write, write_at}
 use Rattle.net_model.proofs.Storages.{array_no_register, writes_register}
 use Rattle.form_model.specs.declared.forms.Step.{Step}
 use Rattle.form_model.specs.Effects.{same_space, space_in, Operation, is_store, operation_of, operation_or_none, writes}
@@ -39,7 +39,7 @@ of_pattern netlist patterns x o = ap (λ (p : Option Pattern). operation_or_none
 not_array : (netlist : Netlist) (p : Pattern) (space : Space) → IsPattern netlist p → is_store p.move ≡ false → p.storage ≢ place_in space netlist.storages
 not_array netlist p space is e = by p.move refl e
   where
-    by : (m : Move) → p.move ≡ m → is_store m ≡ false → p.storage ≢ place_in space netlist.storages
+    by : (m : TransferModel) → p.move ≡ m → is_store m ≡ false → p.storage ≢ place_in space netlist.storages
     by keep em s = absurd (is.changes em)
     by (write_at a v) em s = absurd (true≢false s)
     by (write v) em s = λ k.
@@ -80,18 +80,18 @@ spared d c live s r e h =
     ]
 
 module _ (netlist : Netlist) (patterns : List Pattern) where
-  does : (x : Step) (o : IsOfPattern netlist patterns x) (w : ℕ) → IsWordOf netlist o.pattern w → bit_and w (move_fields o.pattern.move) ≡ x.setting → Does netlist w (operation_in netlist patterns x)
+  does : (x : Step) (o : IsOfPattern netlist patterns x) (w : ℕ) → IsWordOf netlist o.pattern w → bit_and w (transfer_fields o.pattern.move) ≡ x.setting → Does netlist w (operation_in netlist patterns x)
   does x o w given bits = subst (Does netlist w) (of_pattern netlist patterns x o) (record { changes = o.is.changes; gives = given.gives; space = refl; setting = bits })
 
   -- a word that changes nothing but the clobbers fits the step alone, where they spare what is live
-  fits_alone : (x : Step) (c live : Regs) (h : IsWorded netlist patterns x c) (w : ℕ) → bit_and w (move_fields h.of.pattern.move) ≡ x.setting → KeepsBut netlist h.of.pattern h.mask w
+  fits_alone : (x : Step) (c live : Regs) (h : IsWorded netlist patterns x c) (w : ℕ) → bit_and w (transfer_fields h.of.pattern.move) ≡ x.setting → KeepsBut netlist h.of.pattern h.mask w
       → ((r : ℕ) → c r ≡ true → writes (operation_in netlist patterns x) r ≡ false → live r ≡ false) → FitsGroup netlist (operation_in netlist patterns) w (x ∷ []) live
   fits_alone x c live h w bits k s = record {
     clean = k.given.clean;
     does = (does x h.of w k.given bits, tt);
     steps = k.steps;
     cells = λ space e.
-        by_space (λ z. h.of.pattern.storage ≢ place_in z netlist.storages → space_move netlist z w ≡ keep) k.memory k.file space
+        by_space (λ z. h.of.pattern.storage ≢ place_in z netlist.storages → space_transfer netlist z w ≡ keep) k.memory k.file space
         (away netlist h.of.pattern space h.of.is x.setting (ap (stores_in space) (of_pattern netlist patterns x h.of) ∙ or_no (stores_in space (operation_in netlist patterns x)) e));
     registers = λ r reg l e. k.registers r reg
         (no_bit h.mask r (sym (ap (λ (z : Regs). z r) h.same) ∙ spared (operation_in netlist patterns x) c live s r l (or_no (writes (operation_in netlist patterns x) r) e)));
@@ -104,7 +104,7 @@ module _ (netlist : Netlist) (patterns : List Pattern) where
       ((w.0, fits_alone x (c x) (live_before (operation_in netlist patterns) (singles xs) after) f.0 w.0 w.1 w.2 s.0), have_words c xs after f.1 s.1)
 
   -- a word of a step's pattern with its setting that keeps the memory
-  pub jump_fits : (x : Step) (o : IsOfPattern netlist patterns x) (w : ℕ) → IsWordOf netlist o.pattern w → bit_and w (move_fields o.pattern.move) ≡ x.setting → memory_move netlist w ≡ keep
+  pub jump_fits : (x : Step) (o : IsOfPattern netlist patterns x) (w : ℕ) → IsWordOf netlist o.pattern w → bit_and w (transfer_fields o.pattern.move) ≡ x.setting → memory_transfer netlist w ≡ keep
       → FitsJump netlist w (operation_in netlist patterns x)
   jump_fits x o w given bits memory = record { clean = given.clean; does = does x o w given bits; memory = memory }
 

@@ -1,7 +1,7 @@
 -- Steps of patterns that have words for every setting.
 use Rattle.std.specs.Prelude.{◌≡◌, ℕ, List, [], ◌∷◌, slice_get, Some}
 use Rattle.net_model.specs.declared.hardware.Netlist.{Netlist}
-use Rattle.net_model.specs.Fields.{move_fields}
+use Rattle.net_model.specs.Fields.{transfer_fields}
 use Rattle.net_model.specs.Patterns.{IsPattern, Pattern}
 use Rattle.form_model.specs.declared.forms.Step.{Step}
 use Rattle.form_model.specs.Live.{Regs, regs_of}
@@ -13,7 +13,7 @@ pub record IsOfPattern (netlist : Netlist) (patterns : List Pattern) (step : Ste
   pub pattern : Pattern
   pub at : slice_get patterns step.pattern ≡ Some pattern
   pub is : IsPattern netlist pattern
-  pub setting : IsSetting (move_fields pattern.move) step.setting
+  pub setting : IsSetting (transfer_fields pattern.move) step.setting
 
 -- and for each setting some word does the pattern's transfer, steps, and changes nothing that code
 -- sees but these clobbers

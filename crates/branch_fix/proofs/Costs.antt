@@ -2,7 +2,7 @@
 use Rattle.std.proofs.Common.{ℕ, zero, suc, ◌≡◌, ◌≤◌, ◌+◌, Bool, true, false, if◌then◌else◌, List, [], ◌∷◌, ◌++◌, length, refl, sym, ◌∙◌, ap, subst, arith, slice_index}
 use Rattle.src_model.specs.declared.program.Cmp.{Cmp}
 use Rattle.src_model.specs.declared.program.Cmp.TheVariants.{Ne}
-use Rattle.src_model.specs.Written.{Act, assign, choice, while, count, Acts, no_acts, act, Otherwise, without, otherwise, Listing, acts_of}
+use Rattle.src_model.specs.Written.{StmtModel, assign, choice, while, count, StmtsModel, no_acts, act, ElseModel, without, otherwise, ProgramModel, stmts_of}
 use Rattle.src_model.specs.Sizes.{statements, statements_in, statements_else}
 use Rattle.form_model.specs.declared.flow.Flow.{Flow}
 use Rattle.form_model.specs.declared.flow.Flow.TheVariants.{Assign, Test, Jump, End}
@@ -78,9 +78,9 @@ asked_cost costs cmp tree yes_to no_to rest = by (holds_at_one cmp)
     by false = refl
 
 mutual
-  act_cost : (costs : List ℕ) (a : Act) (tree at : ℕ) → flow_cost costs (flow_of a tree at) ≡ span costs tree (statements a)
-  act_cost costs (assign place e) tree at = refl
-  act_cost costs (choice test taken other) tree at =
+  stmt_cost : (costs : List ℕ) (a : StmtModel) (tree at : ℕ) → flow_cost costs (flow_of a tree at) ≡ span costs tree (statements a)
+  stmt_cost costs (assign place e) tree at = refl
+  stmt_cost costs (choice test taken other) tree at =
       let q = asked_cost costs test.cmp tree (at + 1) (else_entry other (at + 1 + places_in taken)) (flow_in taken (tree + 1) (at + 1) ++ flow_else other (tree + 1 + statements_in taken) (at + 1 + places_in taken)) in
       let p = cost_append costs (flow_in taken (tree + 1) (at + 1)) (flow_else other (tree + 1 + statements_in taken) (at + 1 + places_in taken)) in
       let t = in_cost costs taken (tree + 1) (at + 1) in
@@ -88,13 +88,13 @@ mutual
       let s = span_one costs tree (statements_in taken + statements_else other) (1 + statements_in taken + statements_else other) (omega arith) in
       let u = span_plus costs (tree + 1) (statements_in taken) (statements_else other) (statements_in taken + statements_else other) refl in
       omega (arith, q, p, t, o, s, u)
-  act_cost costs (while test body) tree at =
+  stmt_cost costs (while test body) tree at =
       let q = asked_cost costs test.cmp tree (at + 1) (at + 1 + places_in body + 1) (flow_in body (tree + 1) (at + 1) ++ Jump at ∷ []) in
       let p = cost_append costs (flow_in body (tree + 1) (at + 1)) (Jump at ∷ []) in
       let t = in_cost costs body (tree + 1) (at + 1) in
       let s = span_one costs tree (statements_in body) (1 + statements_in body) refl in
       omega (arith, q, p, t, s)
-  act_cost costs (count counter from_at from to body) tree at =
+  stmt_cost costs (count counter from_at from to body) tree at =
       let back : List Flow = Assign (tree + 2 + statements_in body) ∷ (Jump (at + 1) ∷ []) in
       let q = asked_cost costs Ne (tree + 1) (at + 2) (at + 2 + places_in body + 2) (flow_in body (tree + 2) (at + 2) ++ back) in
       let p = cost_append costs (flow_in body (tree + 2) (at + 2)) back in
@@ -107,16 +107,16 @@ mutual
       let z2 = ap (λ n. slice_index costs n) (let y : tree + 1 + 1 + statements_in body ≡ tree + 2 + statements_in body = omega arith in y) in
       omega (arith, q, p, t, s1, s2, u, v, z1, z2)
 
-  in_cost : (costs : List ℕ) (list : Acts) (tree at : ℕ) → flow_cost costs (flow_in list tree at) ≡ span costs tree (statements_in list)
+  in_cost : (costs : List ℕ) (list : StmtsModel) (tree at : ℕ) → flow_cost costs (flow_in list tree at) ≡ span costs tree (statements_in list)
   in_cost costs no_acts tree at = refl
   in_cost costs (act a rest) tree at =
       let p = cost_append costs (flow_of a tree at) (flow_in rest (tree + statements a) (at + places_for a)) in
-      let t = act_cost costs a tree at in
+      let t = stmt_cost costs a tree at in
       let o = in_cost costs rest (tree + statements a) (at + places_for a) in
       let u = span_plus costs tree (statements a) (statements_in rest) (statements a + statements_in rest) refl in
       omega (arith, p, t, o, u)
 
-  else_cost : (costs : List ℕ) (o : Otherwise) (tree at : ℕ) → flow_cost costs (flow_else o tree at) ≡ span costs tree (statements_else o)
+  else_cost : (costs : List ℕ) (o : ElseModel) (tree at : ℕ) → flow_cost costs (flow_else o tree at) ≡ span costs tree (statements_else o)
   else_cost costs without tree at = refl
   else_cost costs (otherwise body) tree at = in_cost costs body tree (at + 1)
 
@@ -142,12 +142,12 @@ span_all before (c ∷ costs) N e =
     more (b ∷ before) c costs = ap (λ xs. b ∷ xs) (more before c costs)
 
 -- the blocks of a program cost together what its trees cost
-pub program_costs : (l : Listing) (costs : List ℕ) → length costs ≡ statements_in (acts_of l.body)
+pub program_costs : (l : ProgramModel) (costs : List ℕ) → length costs ≡ statements_in (stmts_of l.body)
     → sum_of (block_costs (program_flow l) costs (program_flow l) 0) ≡ sum_of costs
 program_costs l costs e =
     let b = block_sum (program_flow l) costs (program_flow l) 0 in
-    let p = cost_append costs (flow_in (acts_of l.body) 0 0) (End ∷ []) in
-    let t = in_cost costs (acts_of l.body) 0 0 in
+    let p = cost_append costs (flow_in (stmts_of l.body) 0 0) (End ∷ []) in
+    let t = in_cost costs (stmts_of l.body) 0 0 in
     let s = ap (span costs 0) (sym e) in
     let a = span_all [] costs 0 refl in
     omega (arith, b, p, t, s, a)
@@ -158,7 +158,7 @@ within_sum (s ∷ sizes) [] h = absurd h
 within_sum (s ∷ sizes) (c ∷ costs) h = let r = within_sum sizes costs h.1 in omega (arith, h.0, r)
 
 -- what `lay_out` asks of the bound
-pub bound_is : (l : Listing) (costs sizes : List ℕ) → length costs ≡ statements_in (acts_of l.body)
+pub bound_is : (l : ProgramModel) (costs sizes : List ℕ) → length costs ≡ statements_in (stmts_of l.body)
     → SizesWithin sizes (block_costs (program_flow l) costs (program_flow l) 0)
     → sum_of sizes + control_words (program_flow l) ≤ bound_of (program_flow l) costs
 bound_is l costs sizes e w =
@@ -183,51 +183,51 @@ asked_control cmp tree yes_to no_to rest = by (holds_at_one cmp)
     by false = refl
 
 mutual
-  act_control : (a : Act) (tree at : ℕ) → control_words (flow_of a tree at) ≡ control_of a
-  act_control (assign place e) tree at = refl
-  act_control (choice test taken other) tree at =
+  stmt_control : (a : StmtModel) (tree at : ℕ) → control_words (flow_of a tree at) ≡ control_of a
+  stmt_control (assign place e) tree at = refl
+  stmt_control (choice test taken other) tree at =
       let q = asked_control test.cmp tree (at + 1) (else_entry other (at + 1 + places_in taken)) (flow_in taken (tree + 1) (at + 1) ++ flow_else other (tree + 1 + statements_in taken) (at + 1 + places_in taken)) in
       let p = control_append (flow_in taken (tree + 1) (at + 1)) (flow_else other (tree + 1 + statements_in taken) (at + 1 + places_in taken)) in
-      let t = acts_control taken (tree + 1) (at + 1) in
+      let t = stmts_control taken (tree + 1) (at + 1) in
       let o = else_control other (tree + 1 + statements_in taken) (at + 1 + places_in taken) in
       omega (arith, q, p, t, o)
-  act_control (while test body) tree at =
+  stmt_control (while test body) tree at =
       let q = asked_control test.cmp tree (at + 1) (at + 1 + places_in body + 1) (flow_in body (tree + 1) (at + 1) ++ Jump at ∷ []) in
       let p = control_append (flow_in body (tree + 1) (at + 1)) (Jump at ∷ []) in
-      let t = acts_control body (tree + 1) (at + 1) in
+      let t = stmts_control body (tree + 1) (at + 1) in
       omega (arith, q, p, t)
-  act_control (count counter from_at from to body) tree at =
+  stmt_control (count counter from_at from to body) tree at =
       let back : List Flow = Assign (tree + 2 + statements_in body) ∷ (Jump (at + 1) ∷ []) in
       let q = asked_control Ne (tree + 1) (at + 2) (at + 2 + places_in body + 2) (flow_in body (tree + 2) (at + 2) ++ back) in
       let p = control_append (flow_in body (tree + 2) (at + 2)) back in
-      let t = acts_control body (tree + 2) (at + 2) in
+      let t = stmts_control body (tree + 2) (at + 2) in
       omega (arith, q, p, t)
 
-  acts_control : (list : Acts) (tree at : ℕ) → control_words (flow_in list tree at) ≡ control_in list
-  acts_control no_acts tree at = refl
-  acts_control (act a rest) tree at =
+  stmts_control : (list : StmtsModel) (tree at : ℕ) → control_words (flow_in list tree at) ≡ control_in list
+  stmts_control no_acts tree at = refl
+  stmts_control (act a rest) tree at =
       let p = control_append (flow_of a tree at) (flow_in rest (tree + statements a) (at + places_for a)) in
-      let t = act_control a tree at in
-      let o = acts_control rest (tree + statements a) (at + places_for a) in
+      let t = stmt_control a tree at in
+      let o = stmts_control rest (tree + statements a) (at + places_for a) in
       omega (arith, p, t, o)
 
-  else_control : (o : Otherwise) (tree at : ℕ) → control_words (flow_else o tree at) ≡ control_else o
+  else_control : (o : ElseModel) (tree at : ℕ) → control_words (flow_else o tree at) ≡ control_else o
   else_control without tree at = refl
-  else_control (otherwise body) tree at = let h = acts_control body tree (at + 1) in omega (arith, h)
+  else_control (otherwise body) tree at = let h = stmts_control body tree (at + 1) in omega (arith, h)
 
 -- the bound of a program's flow is that of its statements
-pub program_words : (l : Listing) (costs : List ℕ) → bound_of (program_flow l) costs ≡ program_bound l costs
+pub program_words : (l : ProgramModel) (costs : List ℕ) → bound_of (program_flow l) costs ≡ program_bound l costs
 program_words l costs =
-    let p = control_append (flow_in (acts_of l.body) 0 0) (End ∷ []) in
-    let t = acts_control (acts_of l.body) 0 0 in
+    let p = control_append (flow_in (stmts_of l.body) 0 0) (End ∷ []) in
+    let t = stmts_control (stmts_of l.body) 0 0 in
     omega (arith, p, t)
 
 -- ---- flows some tests of which are turned
 
-pub turned_words : (l : Listing) (turned : Turns) (costs : List ℕ) → bound_of (turned_flow turned (program_flow l)) costs ≡ program_bound l costs
+pub turned_words : (l : ProgramModel) (turned : Turns) (costs : List ℕ) → bound_of (turned_flow turned (program_flow l)) costs ≡ program_bound l costs
 turned_words l turned costs = ap (λ n. sum_of costs + n) (turned_control turned (program_flow l)) ∙ program_words l costs
 
-pub turned_bound : (l : Listing) (turned : Turns) (costs sizes : List ℕ) → length costs ≡ statements_in (acts_of l.body)
+pub turned_bound : (l : ProgramModel) (turned : Turns) (costs sizes : List ℕ) → length costs ≡ statements_in (stmts_of l.body)
     → SizesWithin sizes (block_costs (turned_flow turned (program_flow l)) costs (turned_flow turned (program_flow l)) 0)
     → sum_of sizes + control_words (turned_flow turned (program_flow l)) ≤ bound_of (turned_flow turned (program_flow l)) costs
 turned_bound l turned costs sizes e h =

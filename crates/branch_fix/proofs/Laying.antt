@@ -3,27 +3,27 @@
 use Rattle.std.proofs.Common.{ℕ, zero, suc, ◌≡◌, ◌≤◌, ◌+◌, Bool, true, false, if◌then◌else◌, List, [], ◌∷◌, ◌++◌, length, refl, sym, ◌∙◌, ap, subst, arith, slice_get, slice_index, drop, append_assoc, add-one, Option, Some}
 use Rattle.form_model.specs.declared.flow.Flow.{Flow}
 use Rattle.form_model.specs.declared.flow.Flow.TheVariants.{Assign, Test as Tested, Jump as Jumped, End as Ended}
-use Rattle.form_model.specs.Rules.{Rule}
+use Rattle.form_model.specs.Forms.{FormModel}
 use Rattle.src_trees.specs.Blocks.{continues}
-use Rattle.branch_fix.specs.declared.part.Fork.{Fork}
-use Rattle.branch_fix.specs.declared.part.Part.{Part}
-use Rattle.branch_fix.specs.declared.part.Part.TheVariants.{Block, Inner, Test, Jump, End}
-use Rattle.branch_fix.specs.Parts.{rule_at_one, branch_or_zero, fork_to, fork_of, place_blocks, place_tests, blocks_before, tests_before, part_for, place_part, parts_from, parts_of, branch_words, room, starts, address, FitsPart, PartsFit, total}
+use Rattle.branch_fix.specs.declared.part.BranchedTest.{BranchedTest}
+use Rattle.branch_fix.specs.declared.part.LayoutPart.{LayoutPart}
+use Rattle.branch_fix.specs.declared.part.LayoutPart.TheVariants.{Block, Inner, Test, Jump, End}
+use Rattle.branch_fix.specs.Parts.{form_at_one, branch_or_zero, fork_to, fork_of, place_blocks, place_tests, blocks_before, tests_before, part_for, place_part, parts_from, parts_of, branch_words, room, starts, address, FitsPart, PartsFit, total}
 use Rattle.branch_fix.specs.Rounds.{widened, widened_part, widened_from, round, rounds, IsFixpoint}
 use Rattle.branch_fix.specs.Bounds.{control_words, sum_of}
 
 -- ---- the parts fit the flow
 
-fork_fits : (rules : List Rule) (flow : List Flow) (tree block words : ℕ) (branch : ℕ × ℕ) (at one none : ℕ)
+fork_fits : (rules : List FormModel) (flow : List Flow) (tree block words : ℕ) (branch : ℕ × ℕ) (at one none : ℕ)
     → FitsPart rules flow at (Tested tree one none) (fork_of rules tree block words branch at one none)
-fork_fits rules flow tree block words branch at one none = by (rule_at_one (slice_get rules branch.0)) refl
+fork_fits rules flow tree block words branch at one none = by (form_at_one (slice_get rules branch.0)) refl
   where
-    by : (w : Bool) → rule_at_one (slice_get rules branch.0) ≡ w
+    by : (w : Bool) → form_at_one (slice_get rules branch.0) ≡ w
         → FitsPart rules flow at (Tested tree one none) (if w then fork_to tree block words branch.0 branch.1 at one none else fork_to tree block words branch.0 branch.1 at none one)
     by true e = (refl, refl, sym (ap (λ b. if b then one else none) e), sym (ap (λ b. if b then none else one) e))
     by false e = (refl, refl, sym (ap (λ b. if b then one else none) e), sym (ap (λ b. if b then none else one) e))
 
-part_fits : (rules : List Rule) (flow : List Flow) (sizes : List ℕ) (forks : List (ℕ × ℕ)) (f : Flow) (at block test : ℕ)
+part_fits : (rules : List FormModel) (flow : List Flow) (sizes : List ℕ) (forks : List (ℕ × ℕ)) (f : Flow) (at block test : ℕ)
     → FitsPart rules flow at f (part_for rules flow sizes forks f at block test)
 part_fits rules flow sizes forks (Assign tree) at block test = by (continues flow at) refl
   where
@@ -34,51 +34,51 @@ part_fits rules flow sizes forks (Tested tree one none) at block test = fork_fit
 part_fits rules flow sizes forks (Jumped to) at block test = refl
 part_fits rules flow sizes forks Ended at block test = tt
 
-pub parts_fit : (rules : List Rule) (flow : List Flow) (sizes : List ℕ) (forks : List (ℕ × ℕ)) (rest : List Flow) (at : ℕ)
+pub parts_fit : (rules : List FormModel) (flow : List Flow) (sizes : List ℕ) (forks : List (ℕ × ℕ)) (rest : List Flow) (at : ℕ)
     → PartsFit rules flow at rest (parts_from rules flow sizes forks rest at)
 parts_fit rules flow sizes forks [] at = tt
 parts_fit rules flow sizes forks (f ∷ rest) at =
     (part_fits rules flow sizes forks f at (blocks_before flow at) (tests_before flow at), parts_fit rules flow sizes forks rest (at + 1))
 
-widened_fit : (rules : List Rule) (flow : List Flow) (addresses : List ℕ) (at : ℕ) (rest : List Flow) (parts : List Part) (a : ℕ)
+widened_fit : (rules : List FormModel) (flow : List Flow) (addresses : List ℕ) (at : ℕ) (rest : List Flow) (parts : List LayoutPart) (a : ℕ)
     → PartsFit rules flow at rest parts → PartsFit rules flow at rest (widened_from rules addresses a parts)
 widened_fit rules flow addresses at [] [] a h = tt
 widened_fit rules flow addresses at [] (p ∷ parts) a h = absurd h
 widened_fit rules flow addresses at (f ∷ rest) [] a h = absurd h
 widened_fit rules flow addresses at (f ∷ rest) (p ∷ parts) a h = (by f p h.0, widened_fit rules flow addresses (at + 1) rest parts (a + room p) h.1)
   where
-    forked : (f : Flow) (k : Fork) → FitsPart rules flow at f (Test k) → FitsPart rules flow at f (Test (widened rules addresses a k))
+    forked : (f : Flow) (k : BranchedTest) → FitsPart rules flow at f (Test k) → FitsPart rules flow at f (Test (widened rules addresses a k))
     forked (Assign tree) k g = absurd g
     forked (Tested tree one none) k g = g
     forked (Jumped to) k g = absurd g
     forked Ended k g = absurd g
 
-    by : (f : Flow) (p : Part) → FitsPart rules flow at f p → FitsPart rules flow at f (widened_part rules addresses a p)
+    by : (f : Flow) (p : LayoutPart) → FitsPart rules flow at f p → FitsPart rules flow at f (widened_part rules addresses a p)
     by f (Block block words) g = g
     by f Inner g = g
     by f (Test k) g = forked f k g
     by f (Jump to) g = g
     by f End g = g
 
-pub rounds_fit : (rules : List Rule) (flow : List Flow) (n : ℕ) (parts : List Part) → PartsFit rules flow 0 flow parts
+pub rounds_fit : (rules : List FormModel) (flow : List Flow) (n : ℕ) (parts : List LayoutPart) → PartsFit rules flow 0 flow parts
     → PartsFit rules flow 0 flow (rounds rules n parts)
 rounds_fit rules flow zero parts h = h
 rounds_fit rules flow (suc n) parts h = rounds_fit rules flow n (round rules parts) (widened_fit rules flow (starts parts) 0 flow parts 0 h)
 
 -- the parts that rounds settle on fit the flow
-pub settled_fit : (rules : List Rule) (flow : List Flow) (sizes : List ℕ) (forks : List (ℕ × ℕ)) (parts : List Part)
+pub settled_fit : (rules : List FormModel) (flow : List Flow) (sizes : List ℕ) (forks : List (ℕ × ℕ)) (parts : List LayoutPart)
     → IsFixpoint rules (parts_of rules flow sizes forks) parts → PartsFit rules flow 0 flow parts
 settled_fit rules flow sizes forks parts s = subst (PartsFit rules flow 0 flow) (sym s.made) (rounds_fit rules flow s.count (parts_of rules flow sizes forks) (parts_fit rules flow sizes forks flow 0))
 
 -- ---- how many words there are
 
-pub address_total : (parts : List Part) (N : ℕ) → N ≡ length parts → address parts N ≡ total parts
+pub address_total : (parts : List LayoutPart) (N : ℕ) → N ≡ length parts → address parts N ≡ total parts
 address_total [] N e = refl
 address_total (p ∷ parts) zero e = absurd (omega arith)
 address_total (p ∷ parts) (suc N) e = let h = address_total parts N (omega arith) in omega (arith, h)
 
 -- the words of blocks alone
-abbrev pub block_words : List Part → ℕ
+abbrev pub block_words : List LayoutPart → ℕ
 block_words [] = 0
 block_words (Block block words ∷ parts) = words + block_words parts
 block_words (Test f ∷ parts) = f.words + block_words parts
@@ -92,7 +92,7 @@ few_words false true = omega arith
 few_words true false = omega arith
 few_words false false = omega arith
 
-pub total_le : (rules : List Rule) (flow : List Flow) (at : ℕ) (rest : List Flow) (parts : List Part) → PartsFit rules flow at rest parts
+pub total_le : (rules : List FormModel) (flow : List Flow) (at : ℕ) (rest : List Flow) (parts : List LayoutPart) → PartsFit rules flow at rest parts
     → total parts ≤ block_words parts + control_words rest
 total_le rules flow at [] [] h = omega arith
 total_le rules flow at [] (p ∷ parts) h = absurd h
@@ -128,9 +128,9 @@ sum_drop [] k = let n = nothing (k + 1) in omega (arith, n)
 sum_drop (n ∷ sizes) zero = omega arith
 sum_drop (n ∷ sizes) (suc k) = subst (λ j. slice_index sizes k + sum_of (drop j (n ∷ sizes)) ≤ sum_of (drop k sizes)) (let z : suc (k + 1) ≡ suc k + 1 = omega arith in z) (sum_drop sizes k)
 
-fork_words : (rules : List Rule) (tree block words : ℕ) (branch : ℕ × ℕ) (at one none : ℕ) (parts : List Part)
+fork_words : (rules : List FormModel) (tree block words : ℕ) (branch : ℕ × ℕ) (at one none : ℕ) (parts : List LayoutPart)
     → block_words (fork_of rules tree block words branch at one none ∷ parts) ≡ words + block_words parts
-fork_words rules tree block words branch at one none parts = by (rule_at_one (slice_get rules branch.0))
+fork_words rules tree block words branch at one none parts = by (form_at_one (slice_get rules branch.0))
   where
     by : (w : Bool)
         → block_words ((if w then fork_to tree block words branch.0 branch.1 at one none else fork_to tree block words branch.0 branch.1 at none one) ∷ parts) ≡ words + block_words parts
@@ -144,8 +144,8 @@ blocks_next flow at f here = ap (blocks_before flow) (add-one at) ∙ ap (λ (o 
 pub tests_next : (flow : List Flow) (at : ℕ) (f : Flow) → slice_get flow at ≡ Some f → tests_before flow (at + 1) ≡ tests_before flow at + place_tests (Some f)
 tests_next flow at f here = ap (tests_before flow) (add-one at) ∙ ap (λ (o : Option Flow). tests_before flow at + place_tests o) here
 
-module _ (rules : List Rule) (flow : List Flow) (sizes : List ℕ) (forks : List (ℕ × ℕ)) where
-  one_le : (f : Flow) (at N : ℕ) (parts : List Part) → N ≡ blocks_before flow at + place_blocks (Some f) (continues flow at)
+module _ (rules : List FormModel) (flow : List Flow) (sizes : List ℕ) (forks : List (ℕ × ℕ)) where
+  one_le : (f : Flow) (at N : ℕ) (parts : List LayoutPart) → N ≡ blocks_before flow at + place_blocks (Some f) (continues flow at)
       → block_words parts ≤ sum_of (drop N sizes) → block_words (place_part rules flow sizes forks f at ∷ parts) ≤ sum_of (drop (blocks_before flow at) sizes)
   one_le (Assign tree) at N parts next le = by (continues flow at) next
     where
@@ -168,7 +168,7 @@ module _ (rules : List Rule) (flow : List Flow) (sizes : List ℕ) (forks : List
       one_le f at (blocks_before flow (at + 1)) (parts_from rules flow sizes forks rest (at + 1)) (blocks_next flow at f here)
       (blocks_le rest (at + 1) (λ j. stand (suc j) ∙ ap (slice_get flow) (let z : at + suc j ≡ at + 1 + j = omega arith in z)))
 
-widened_words : (rules : List Rule) (addresses : List ℕ) (a : ℕ) (parts : List Part)
+widened_words : (rules : List FormModel) (addresses : List ℕ) (a : ℕ) (parts : List LayoutPart)
     → block_words (widened_from rules addresses a parts) ≡ block_words parts
 widened_words rules addresses a [] = refl
 widened_words rules addresses a (Block block words ∷ parts) = ap (λ n. words + n) (widened_words rules addresses (a + words) parts)
@@ -177,12 +177,12 @@ widened_words rules addresses a (Test f ∷ parts) = ap (λ n. f.words + n) (wid
 widened_words rules addresses a (Jump to ∷ parts) = widened_words rules addresses (a + 1) parts
 widened_words rules addresses a (End ∷ parts) = widened_words rules addresses (a + 1) parts
 
-rounds_words : (rules : List Rule) (n : ℕ) (parts : List Part) → block_words (rounds rules n parts) ≡ block_words parts
+rounds_words : (rules : List FormModel) (n : ℕ) (parts : List LayoutPart) → block_words (rounds rules n parts) ≡ block_words parts
 rounds_words rules zero parts = refl
 rounds_words rules (suc n) parts = rounds_words rules n (round rules parts) ∙ widened_words rules (starts parts) 0 parts
 
 -- after any rounds the words are at most the bound
-pub laid_le : (rules : List Rule) (flow : List Flow) (sizes : List ℕ) (forks : List (ℕ × ℕ)) (n : ℕ)
+pub laid_le : (rules : List FormModel) (flow : List Flow) (sizes : List ℕ) (forks : List (ℕ × ℕ)) (n : ℕ)
     → total (rounds rules n (parts_of rules flow sizes forks)) ≤ sum_of sizes + control_words flow
 laid_le rules flow sizes forks n =
     let f = rounds_fit rules flow n (parts_of rules flow sizes forks) (parts_fit rules flow sizes forks flow 0) in
@@ -194,7 +194,7 @@ laid_le rules flow sizes forks n =
 -- ---- the parts, one after the other
 
 -- one part more
-pub made_more : (rules : List Rule) (flow : List Flow) (sizes : List ℕ) (forks : List (ℕ × ℕ)) (f : Flow) (left rest : List Flow) (at block test : ℕ) (parts new whole : List Part) (part : Part)
+pub made_more : (rules : List FormModel) (flow : List Flow) (sizes : List ℕ) (forks : List (ℕ × ℕ)) (f : Flow) (left rest : List Flow) (at block test : ℕ) (parts new whole : List LayoutPart) (part : LayoutPart)
     → left ≡ f ∷ rest → part ≡ part_for rules flow sizes forks f at block test → block ≡ blocks_before flow at → test ≡ tests_before flow at
     → new ≡ parts ++ part ∷ [] → parts ++ parts_from rules flow sizes forks left at ≡ whole
     → new ++ parts_from rules flow sizes forks rest (at + 1) ≡ whole
@@ -202,6 +202,6 @@ made_more rules flow sizes forks f left rest at block test parts new whole part 
     let pe : part ≡ place_part rules flow sizes forks f at = p ∙ (λ j. part_for rules flow sizes forks f at (b j) (t j)) in
     ap (λ xs. xs ++ parts_from rules flow sizes forks rest (at + 1)) n
     ∙ append_assoc parts (part ∷ []) _
-    ∙ ap (λ (x : Part). parts ++ (x ∷ parts_from rules flow sizes forks rest (at + 1))) pe
+    ∙ ap (λ (x : LayoutPart). parts ++ (x ∷ parts_from rules flow sizes forks rest (at + 1))) pe
     ∙ ap (λ l. parts ++ parts_from rules flow sizes forks l at) (sym is)
     ∙ h

@@ -3,23 +3,23 @@ use Rattle.std.proofs.Common.{ℕ, ◌≡◌, ◌≤◌, ◌+◌, Bool, true, fa
 use Rattle.code_model.specs.declared.image.Mark.{Mark}
 use Rattle.form_model.specs.declared.flow.Flow.{Flow}
 use Rattle.form_model.specs.declared.flow.Flow.TheVariants.{Assign, Test as Tested, Jump as Jumped, End as Ended}
-use Rattle.form_model.specs.Rules.{Rule}
-use Rattle.branch_fix.specs.declared.part.Part.{Part}
-use Rattle.branch_fix.specs.declared.part.Part.TheVariants.{Block, Inner, Test, Jump, End}
+use Rattle.form_model.specs.Forms.{FormModel}
+use Rattle.branch_fix.specs.declared.part.LayoutPart.{LayoutPart}
+use Rattle.branch_fix.specs.declared.part.LayoutPart.TheVariants.{Block, Inner, Test, Jump, End}
 use Rattle.branch_fix.specs.Parts.{branch_words, room, marks_from, total, FitsPart, PartsFit}
 use Rattle.branch_fix.specs.Marked.{labels, Ascend, AreMarked}
 
 abbrev label_of : Mark → Option ℕ
 label_of mark = mark.label
 
-each_label : (rules : List Rule) (flow : List Flow) (at : ℕ) (rest : List Flow) (parts : List Part) (a : ℕ) → PartsFit rules flow at rest parts
+each_label : (rules : List FormModel) (flow : List Flow) (at : ℕ) (rest : List Flow) (parts : List LayoutPart) (a : ℕ) → PartsFit rules flow at rest parts
     → map (λ (mark : Mark). mark.label) (marks_from a parts) ≡ labels rest
 each_label rules flow at [] [] a h = refl
 each_label rules flow at [] (p ∷ parts) a h = absurd h
 each_label rules flow at (f ∷ rest) [] a h = absurd h
 each_label rules flow at (f ∷ rest) (p ∷ parts) a h = by f p h.0 (each_label rules flow (at + 1) rest parts (a + room p) h.1)
   where
-    by : (f : Flow) (p : Part) → FitsPart rules flow at f p → map (λ (mark : Mark). mark.label) (marks_from (a + room p) parts) ≡ labels rest
+    by : (f : Flow) (p : LayoutPart) → FitsPart rules flow at f p → map (λ (mark : Mark). mark.label) (marks_from (a + room p) parts) ≡ labels rest
         → map (λ (mark : Mark). mark.label) (marks_from a (p ∷ parts)) ≡ labels (f ∷ rest)
     by (Assign tree) (Block block words) g k = k
     by (Assign tree) Inner g k = k
@@ -52,7 +52,7 @@ some_words false true = omega arith
 some_words true false = omega arith
 some_words false false = omega arith
 
-ascending : (a end : ℕ) (parts : List Part) → a + total parts ≤ end → Ascend a (marks_from a parts) end
+ascending : (a end : ℕ) (parts : List LayoutPart) → a + total parts ≤ end → Ascend a (marks_from a parts) end
 ascending a end [] le = omega arith
 ascending a end (Block block words ∷ parts) le = less a (a + words) end (marks_from (a + words) parts) (omega arith) (ascending (a + words) end parts (omega arith))
 ascending a end (Inner ∷ parts) le = less a (a + 0) end (marks_from (a + 0) parts) (omega arith) (ascending (a + 0) end parts (omega arith))
@@ -62,6 +62,6 @@ ascending a end (Test f ∷ parts) le =
 ascending a end (Jump to ∷ parts) le = less a (a + 1) end (marks_from (a + 1) parts) (omega arith) (ascending (a + 1) end parts (omega arith))
 ascending a end (End ∷ parts) le = (omega arith, ascending (a + 1) end parts (omega arith))
 
-pub are_marked : (rules : List Rule) (flow : List Flow) (parts : List Part) → PartsFit rules flow 0 flow parts
+pub are_marked : (rules : List FormModel) (flow : List Flow) (parts : List LayoutPart) → PartsFit rules flow 0 flow parts
     → AreMarked flow (total parts) (marks_from 0 parts)
 are_marked rules flow parts h = record { each = each_label rules flow 0 flow parts 0 h; apart = ascending 0 (total parts) parts (omega arith) }

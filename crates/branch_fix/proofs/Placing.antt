@@ -9,15 +9,15 @@ use Rattle.code_model.specs.Machine.{IsCalm}
 use Rattle.code_model.proofs.Flowing.{reaches_on, reaches_one}
 use Rattle.form_model.specs.declared.flow.Flow.{Flow}
 use Rattle.form_model.specs.declared.flow.Flow.TheVariants.{Assign, Test as Tested, Jump as Jumped, End as Ended}
-use Rattle.form_model.specs.Rules.{Rule}
-use Rattle.src_trees.specs.Lowered.{Work}
+use Rattle.form_model.specs.Forms.{FormModel}
+use Rattle.src_trees.specs.Lowered.{JobModel}
 use Rattle.src_trees.specs.Doing.{Lies}
 use Rattle.src_trees.specs.Blocks.{is_assign, continues, IsAssignBlock, jobs_at}
 use Rattle.src_trees.specs.Placed.{Comes, DoesJobs, Decides, DoesTest, JumpComes, IsPlaced}
-use Rattle.branch_fix.specs.declared.part.Fork.{Fork}
-use Rattle.branch_fix.specs.declared.part.Part.{Part}
-use Rattle.branch_fix.specs.declared.part.Part.TheVariants.{Block, Inner, Test, Jump, End}
-use Rattle.branch_fix.specs.Parts.{rule_at_one, branch_words, room, address, marks_from, FitsPart}
+use Rattle.branch_fix.specs.declared.part.BranchedTest.{BranchedTest}
+use Rattle.branch_fix.specs.declared.part.LayoutPart.{LayoutPart}
+use Rattle.branch_fix.specs.declared.part.LayoutPart.TheVariants.{Block, Inner, Test, Jump, End}
+use Rattle.branch_fix.specs.Parts.{form_at_one, branch_words, room, address, marks_from, FitsPart}
 use Rattle.branch_fix.specs.Made.{DoesBlock, DoesFork, TailGoes, IsMade}
 use Rattle.branch_fix.specs.Inner.Flowing.{IsFlow}
 use Rattle.branch_fix.proofs.Addresses.{address_next, address_rises, address_first, own_label, first_mark, inner_mark, part_at, end_mark, flow_end}
@@ -64,18 +64,18 @@ module _ (netlist : Netlist) (image : Image) where
   tail_other true false p to other s b free comes here = stay_tail s other 0 (subst (λ a. IsCalm netlist a s) (comes refl refl) here)
   tail_other false false p to other s b free comes here = jump_tail s (p + 1) other b (free (p + 1) (omega arith) (omega arith)) here
 
-  module _ (temps : ℕ) (rules : List Rule) (flow : List Flow) (jobs : List Work) (parts : List Part) (end : ℕ) (is_flow : IsFlow flow end) (made : IsMade netlist image temps rules flow jobs parts) where
+  module _ (temps : ℕ) (rules : List FormModel) (flow : List Flow) (jobs : List JobModel) (parts : List LayoutPart) (end : ℕ) (is_flow : IsFlow flow end) (made : IsMade netlist image temps rules flow jobs parts) where
     label_is : (a : ℕ) → label_at image.marks a ≡ label_at (marks_from 0 parts) a
     label_is a = ap (λ ms. label_at ms a) made.marks
 
-    free : (k : ℕ) (p : Part) → slice_get parts k ≡ Some p → (a : ℕ) → address parts k < a → a < address parts k + room p
+    free : (k : ℕ) (p : LayoutPart) → slice_get parts k ≡ Some p → (a : ℕ) → address parts k < a → a < address parts k + room p
         → label_at image.marks a ≡ None
     free k p e a low high = label_is a ∙ inner_mark 0 parts k p a e (omega arith) (omega arith)
 
-    own : (k : ℕ) (p : Part) → slice_get parts k ≡ Some p → 1 ≤ room p → label_at image.marks (address parts k) ≡ own_label p
+    own : (k : ℕ) (p : LayoutPart) → slice_get parts k ≡ Some p → 1 ≤ room p → label_at image.marks (address parts k) ≡ own_label p
     own k p e some = label_is (address parts k) ∙ ap (label_at (marks_from 0 parts)) (let z : address parts k ≡ 0 + address parts k = omega arith in z) ∙ first_mark 0 parts k p e some
 
-    part_of : (k : ℕ) (f : Flow) → slice_get flow k ≡ Some f → (p : Part) × (slice_get parts k ≡ Some p) × FitsPart rules flow k f p
+    part_of : (k : ℕ) (f : Flow) → slice_get flow k ≡ Some f → (p : LayoutPart) × (slice_get parts k ≡ Some p) × FitsPart rules flow k f p
     part_of k f e = part_at rules flow 0 flow parts k k f made.fit e (omega arith)
 
     -- ---- jumps
@@ -83,7 +83,7 @@ module _ (netlist : Netlist) (image : Image) where
     jump_part : (k to : ℕ) → slice_get flow k ≡ Some (Jumped to) → slice_get parts k ≡ Some (Jump to)
     jump_part k to e = by (part_of k (Jumped to) e)
       where
-        by : (p : Part) × (slice_get parts k ≡ Some p) × FitsPart rules flow k (Jumped to) p → slice_get parts k ≡ Some (Jump to)
+        by : (p : LayoutPart) × (slice_get parts k ≡ Some p) × FitsPart rules flow k (Jumped to) p → slice_get parts k ≡ Some (Jump to)
         by (Block block words, g, h) = absurd h
         by (Inner, g, h) = absurd h
         by (Test f, g, h) = absurd h
@@ -113,7 +113,7 @@ module _ (netlist : Netlist) (image : Image) where
     inner_part : (k tree : ℕ) → slice_get flow k ≡ Some (Assign tree) → continues flow k ≡ true → slice_get parts k ≡ Some Inner
     inner_part k tree e c = by (part_of k (Assign tree) e)
       where
-        by : (p : Part) × (slice_get parts k ≡ Some p) × FitsPart rules flow k (Assign tree) p → slice_get parts k ≡ Some Inner
+        by : (p : LayoutPart) × (slice_get parts k ≡ Some p) × FitsPart rules flow k (Assign tree) p → slice_get parts k ≡ Some Inner
         by (Block block words, g, h) = absurd (cc (c, h))
         by (Inner, g, h) = g
         by (Test f, g, h) = absurd h
@@ -124,7 +124,7 @@ module _ (netlist : Netlist) (image : Image) where
         → (block : ℕ) × (words : ℕ) × (slice_get parts k ≡ Some (Block block words))
     block_part k tree e c = by (part_of k (Assign tree) e)
       where
-        by : (p : Part) × (slice_get parts k ≡ Some p) × FitsPart rules flow k (Assign tree) p
+        by : (p : LayoutPart) × (slice_get parts k ≡ Some p) × FitsPart rules flow k (Assign tree) p
             → (block : ℕ) × (words : ℕ) × (slice_get parts k ≡ Some (Block block words))
         by (Block block words, g, h) = (block, words, g)
         by (Inner, g, h) = absurd (cc (c, h))
@@ -132,7 +132,7 @@ module _ (netlist : Netlist) (image : Image) where
         by (Jump place, g, h) = absurd h
         by (End, g, h) = absurd h
 
-    block_end : (at n words : ℕ) (p : Part) → slice_get parts at ≡ Some p → room p ≡ words → IsAssignBlock flow at n → (j N : ℕ) → j < n → N ≡ at + j + 1
+    block_end : (at n words : ℕ) (p : LayoutPart) → slice_get parts at ≡ Some p → room p ≡ words → IsAssignBlock flow at n → (j N : ℕ) → j < n → N ≡ at + j + 1
         → address parts N ≡ address parts at + words
     block_end at n words p e r b zero N lt is =
         let a = address_next parts at p e in
@@ -179,7 +179,7 @@ module _ (netlist : Netlist) (image : Image) where
 
     -- ---- tests
 
-    fork_decides : (at : ℕ) (f : Fork) (job : Work) (w : Bool) (to other : ℕ) → slice_get parts at ≡ Some (Test f)
+    fork_decides : (at : ℕ) (f : BranchedTest) (job : JobModel) (w : Bool) (to other : ℕ) → slice_get parts at ≡ Some (Test f)
         → (d : DoesFork netlist image temps job w f (address parts at) to other)
         → (f.next ≡ true → f.long ≡ false → address parts at + f.words + 1 ≡ other) → (s : State) → IsCalm netlist (address parts at) s
         → Lies temps s.cells job
@@ -232,12 +232,12 @@ module _ (netlist : Netlist) (image : Image) where
         by_zero true u fr q = tail_other f.next f.long (address parts at + f.words) to other u d.behind fr comes q
         by_zero false u fr q = tail_to f.next f.long (address parts at + f.words) to other u d.behind fr q
 
-    test_does : (at tree when_one when_zero : ℕ) → slice_get flow at ≡ Some (Tested tree when_one when_zero) → (job : Work)
+    test_does : (at tree when_one when_zero : ℕ) → slice_get flow at ≡ Some (Tested tree when_one when_zero) → (job : JobModel)
         → slice_get jobs tree ≡ Some job
         → DoesTest netlist image temps tree job (address parts at) (address parts when_one) (address parts when_zero)
     test_does at tree when_one when_zero e job at_jobs = by (part_of at (Tested tree when_one when_zero) e)
       where
-        by : (p : Part) × (slice_get parts at ≡ Some p) × FitsPart rules flow at (Tested tree when_one when_zero) p
+        by : (p : LayoutPart) × (slice_get parts at ≡ Some p) × FitsPart rules flow at (Tested tree when_one when_zero) p
             → DoesTest netlist image temps tree job (address parts at) (address parts when_one) (address parts when_zero)
         by (Block block words, g, h) = absurd h
         by (Inner, g, h) = absurd h
@@ -247,8 +247,8 @@ module _ (netlist : Netlist) (image : Image) where
             let d = made.forks at f g job (ap (slice_get jobs) h.0 ∙ at_jobs) in
             let next_at = address_next parts at (Test f) g in
             let comes = λ (n : f.next ≡ true) (l : f.long ≡ false). next_comes f g h.1 n l in
-            let one_is : (if rule_at_one (slice_get rules f.form) then address parts f.to else address parts f.other) ≡ address parts when_one = pick_one (rule_at_one (slice_get rules f.form)) f h.2 h.3 in
-            let zero_is : (if rule_at_one (slice_get rules f.form) then address parts f.other else address parts f.to) ≡ address parts when_zero = pick_zero (rule_at_one (slice_get rules f.form)) f h.2 h.3 in
+            let one_is : (if form_at_one (slice_get rules f.form) then address parts f.to else address parts f.other) ≡ address parts when_one = pick_one (form_at_one (slice_get rules f.form)) f h.2 h.3 in
+            let zero_is : (if form_at_one (slice_get rules f.form) then address parts f.other else address parts f.to) ≡ address parts when_zero = pick_zero (form_at_one (slice_get rules f.form)) f h.2 h.3 in
             let ahead = is_flow.ahead at tree when_one when_zero e in
             let up_one = address_rises parts (at + 1) when_one (omega (arith, ahead)) in
             let up_zero = address_rises parts (at + 1) when_zero (omega (arith, ahead)) in
@@ -263,11 +263,11 @@ module _ (netlist : Netlist) (image : Image) where
               asks = λ s here lies.
                   subst (λ t. Decides netlist image temps t d.operands.used (address parts when_one) (address parts when_zero) (f.words + tail_words f.next f.long) s) h.0
                   (subst (λ a. Decides netlist image temps f.tree d.operands.used a (address parts when_zero) (f.words + tail_words f.next f.long) s) one_is
-                  (subst (λ a. Decides netlist image temps f.tree d.operands.used (if rule_at_one (slice_get rules f.form) then address parts f.to else address parts f.other) a (f.words + tail_words f.next f.long) s) zero_is
-                  (fork_decides at f job (rule_at_one (slice_get rules f.form)) (address parts f.to) (address parts f.other) g d comes s here lies)));
+                  (subst (λ a. Decides netlist image temps f.tree d.operands.used (if form_at_one (slice_get rules f.form) then address parts f.to else address parts f.other) a (f.words + tail_words f.next f.long) s) zero_is
+                  (fork_decides at f job (form_at_one (slice_get rules f.form)) (address parts f.to) (address parts f.other) g d comes s here lies)));
             }
           where
-            next_comes : (f : Fork) → slice_get parts at ≡ Some (Test f) → f.next ≡ (f.other == at + 1) → f.next ≡ true → f.long ≡ false
+            next_comes : (f : BranchedTest) → slice_get parts at ≡ Some (Test f) → f.next ≡ (f.other == at + 1) → f.next ≡ true → f.long ≡ false
                 → address parts at + f.words + 1 ≡ address parts f.other
             next_comes f g n is l =
                 let s : f.other ≡ at + 1 = eqb-true f.other (at + 1) (sym n ∙ is) in
@@ -275,12 +275,12 @@ module _ (netlist : Netlist) (image : Image) where
                 let one : branch_words f.next f.long ≡ 1 = (λ j. branch_words (is j) (l j)) in
                 omega (arith, ap (address parts) s, a, one)
 
-            pick_one : (w : Bool) (f : Fork) → f.to ≡ (if w then when_one else when_zero) → f.other ≡ (if w then when_zero else when_one)
+            pick_one : (w : Bool) (f : BranchedTest) → f.to ≡ (if w then when_one else when_zero) → f.other ≡ (if w then when_zero else when_one)
                 → (if w then address parts f.to else address parts f.other) ≡ address parts when_one
             pick_one true f x y = ap (address parts) x
             pick_one false f x y = ap (address parts) y
 
-            pick_zero : (w : Bool) (f : Fork) → f.to ≡ (if w then when_one else when_zero) → f.other ≡ (if w then when_zero else when_one)
+            pick_zero : (w : Bool) (f : BranchedTest) → f.to ≡ (if w then when_one else when_zero) → f.other ≡ (if w then when_zero else when_one)
                 → (if w then address parts f.other else address parts f.to) ≡ address parts when_zero
             pick_zero true f x y = ap (address parts) y
             pick_zero false f x y = ap (address parts) x
@@ -290,7 +290,7 @@ module _ (netlist : Netlist) (image : Image) where
     end_part : (k : ℕ) → slice_get flow k ≡ Some Ended → slice_get parts k ≡ Some End
     end_part k e = by (part_of k Ended e)
       where
-        by : (p : Part) × (slice_get parts k ≡ Some p) × FitsPart rules flow k Ended p → slice_get parts k ≡ Some End
+        by : (p : LayoutPart) × (slice_get parts k ≡ Some p) × FitsPart rules flow k Ended p → slice_get parts k ≡ Some End
         by (Block block words, g, h) = absurd h
         by (Inner, g, h) = absurd h
         by (Test f, g, h) = absurd h

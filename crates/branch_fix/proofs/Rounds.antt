@@ -1,12 +1,12 @@
 -- Rounds: each makes more tests three words, or changes nothing.
 use Rattle.std.proofs.Common.{ℕ, zero, suc, ◌≡◌, ◌≤◌, ◌<◌, ◌+◌, ◌-◌, Bool, true, false, ◌||◌, not, if◌then◌else◌, List, [], ◌∷◌, length, refl, ◌∙◌, ap, arith, slice_get, slice_index, nat_le, sym, subst, Some}
 use Rattle.std.proofs.lemmas.Bool.Decides.{nat_tests}
-use Rattle.form_model.specs.Rules.{Rule}
-use Rattle.branch_fix.specs.declared.part.Fork.{Fork}
-use Rattle.branch_fix.specs.declared.part.Part.{Part}
-use Rattle.branch_fix.specs.declared.part.Part.TheVariants.{Block, Inner, Test, Jump, End}
+use Rattle.form_model.specs.Forms.{FormModel}
+use Rattle.branch_fix.specs.declared.part.BranchedTest.{BranchedTest}
+use Rattle.branch_fix.specs.declared.part.LayoutPart.{LayoutPart}
+use Rattle.branch_fix.specs.declared.part.LayoutPart.TheVariants.{Block, Inner, Test, Jump, End}
 use Rattle.branch_fix.specs.Parts.{room, starts, address}
-use Rattle.branch_fix.specs.Rounds.{rule_shows, widened_part, widened_from, round, rounds, IsRound, IsFixpoint, is_long, long_tests}
+use Rattle.branch_fix.specs.Rounds.{form_shows, widened_part, widened_from, round, rounds, IsRound, IsFixpoint, is_long, long_tests}
 
 -- a test is more than it was, or the same
 abbrev bit : Bool → ℕ
@@ -17,11 +17,11 @@ bit_is : (b : Bool) → bit b ≡ (if b then 1 else 0)
 bit_is true = refl
 bit_is false = refl
 
-part_more : (rules : List Rule) (addresses : List ℕ) (at : ℕ) (p : Part)
+part_more : (rules : List FormModel) (addresses : List ℕ) (at : ℕ) (p : LayoutPart)
     → (if is_long p then 1 else 0) ≤ (if is_long (widened_part rules addresses at p) then 1 else 0)
 part_more rules addresses at (Block block words) = omega arith
 part_more rules addresses at Inner = omega arith
-part_more rules addresses at (Test f) = by f.long (rule_shows (slice_get rules f.form) (at + f.words) (slice_index addresses f.to))
+part_more rules addresses at (Test f) = by f.long (form_shows (slice_get rules f.form) (at + f.words) (slice_index addresses f.to))
   where
     by : (b c : Bool) → (if b then 1 else 0) ≤ (if b || not c then 1 else 0)
     by true c = omega arith
@@ -30,11 +30,11 @@ part_more rules addresses at (Test f) = by f.long (rule_shows (slice_get rules f
 part_more rules addresses at (Jump to) = omega arith
 part_more rules addresses at End = omega arith
 
-part_same : (rules : List Rule) (addresses : List ℕ) (at : ℕ) (p : Part) → bit (is_long (widened_part rules addresses at p)) ≡ bit (is_long p)
+part_same : (rules : List FormModel) (addresses : List ℕ) (at : ℕ) (p : LayoutPart) → bit (is_long (widened_part rules addresses at p)) ≡ bit (is_long p)
     → widened_part rules addresses at p ≡ p
 part_same rules addresses at (Block block words) e = refl
 part_same rules addresses at Inner e = refl
-part_same rules addresses at (Test f) e = ap (λ l. Test (record f { long = l })) (by f.long (rule_shows (slice_get rules f.form) (at + f.words) (slice_index addresses f.to)) e)
+part_same rules addresses at (Test f) e = ap (λ l. Test (record f { long = l })) (by f.long (form_shows (slice_get rules f.form) (at + f.words) (slice_index addresses f.to)) e)
   where
     by : (b c : Bool) → bit (b || not c) ≡ bit b → (b || not c) ≡ b
     by true c e = refl
@@ -43,12 +43,12 @@ part_same rules addresses at (Test f) e = ap (λ l. Test (record f { long = l })
 part_same rules addresses at (Jump to) e = refl
 part_same rules addresses at End e = refl
 
-pub more_long : (rules : List Rule) (addresses : List ℕ) (at : ℕ) (parts : List Part)
+pub more_long : (rules : List FormModel) (addresses : List ℕ) (at : ℕ) (parts : List LayoutPart)
     → long_tests parts ≤ long_tests (widened_from rules addresses at parts)
 more_long rules addresses at [] = omega arith
 more_long rules addresses at (p ∷ parts) = let a = part_more rules addresses at p in let b = more_long rules addresses (at + room p) parts in omega (arith, a, b)
 
-same_long : (rules : List Rule) (addresses : List ℕ) (at : ℕ) (parts : List Part)
+same_long : (rules : List FormModel) (addresses : List ℕ) (at : ℕ) (parts : List LayoutPart)
     → long_tests (widened_from rules addresses at parts) ≡ long_tests parts → widened_from rules addresses at parts ≡ parts
 same_long rules addresses at [] e = refl
 same_long rules addresses at (p ∷ parts) e =
@@ -60,11 +60,11 @@ same_long rules addresses at (p ∷ parts) e =
     let y = same_long rules addresses (at + room p) parts (omega (arith, a, b, e)) in
     (λ j. x j ∷ y j)
 
-widened_length : (rules : List Rule) (addresses : List ℕ) (at : ℕ) (parts : List Part) → length (widened_from rules addresses at parts) ≡ length parts
+widened_length : (rules : List FormModel) (addresses : List ℕ) (at : ℕ) (parts : List LayoutPart) → length (widened_from rules addresses at parts) ≡ length parts
 widened_length rules addresses at [] = refl
 widened_length rules addresses at (p ∷ parts) = let h = widened_length rules addresses (at + room p) parts in omega (arith, h)
 
-pub long_few : (parts : List Part) → long_tests parts ≤ length parts
+pub long_few : (parts : List LayoutPart) → long_tests parts ≤ length parts
 long_few [] = omega arith
 long_few (p ∷ parts) = let h = long_few parts in let k = one (is_long p) in omega (arith, h, k)
   where
@@ -72,19 +72,19 @@ long_few (p ∷ parts) = let h = long_few parts in let k = one (is_long p) in om
     one true = omega arith
     one false = omega arith
 
-round_last : (rules : List Rule) (n : ℕ) (first : List Part) → round rules (rounds rules n first) ≡ rounds rules n (round rules first)
+round_last : (rules : List FormModel) (n : ℕ) (first : List LayoutPart) → round rules (rounds rules n first) ≡ rounds rules n (round rules first)
 round_last rules zero first = refl
 round_last rules (suc n) first = round_last rules n (round rules first)
 
 -- ---- the loop
 
-pub first_round : (rules : List Rule) (first : List Part) → IsRound rules first first
+pub first_round : (rules : List FormModel) (first : List LayoutPart) → IsRound rules first first
 first_round rules first = record { count = 0; made = refl }
 
-pub next_round : (rules : List Rule) (first parts next : List Part) → IsRound rules first parts → next ≡ round rules parts → IsRound rules first next
+pub next_round : (rules : List FormModel) (first parts next : List LayoutPart) → IsRound rules first parts → next ≡ round rules parts → IsRound rules first next
 next_round rules first parts next r e = record { count = suc r.count; made = e ∙ ap (round rules) r.made ∙ round_last rules r.count first }
 
-pub last_round : (rules : List Rule) (first parts next : List Part) (m n : ℕ) → IsRound rules first parts → next ≡ round rules parts
+pub last_round : (rules : List FormModel) (first parts next : List LayoutPart) (m n : ℕ) → IsRound rules first parts → next ≡ round rules parts
     → m ≡ long_tests next → n ≡ long_tests parts → m ≡ n → IsFixpoint rules first parts
 last_round rules first parts next m n r e p q same = record {
   count = r.count;
@@ -92,7 +92,7 @@ last_round rules first parts next m n r e p q same = record {
   still = same_long rules (starts parts) 0 parts (let a = ap long_tests e in omega (arith, a, p, q, same));
 }
 
-pub falls : (rules : List Rule) (parts next : List Part) (m n : ℕ) → next ≡ round rules parts → m ≡ long_tests next → n ≡ long_tests parts
+pub falls : (rules : List FormModel) (parts next : List LayoutPart) (m n : ℕ) → next ≡ round rules parts → m ≡ long_tests next → n ≡ long_tests parts
     → (m ≡ n → ⊥) → length next - long_tests next < length parts - long_tests parts
 falls rules parts next m n e p q ne =
     let a = ap long_tests e in
@@ -104,7 +104,7 @@ falls rules parts next m n e p q ne =
 
 -- ---- what a round leaves
 
-widened_at : (rules : List Rule) (addresses : List ℕ) (at : ℕ) (parts : List Part) (k : ℕ) (p : Part) (n : ℕ) → slice_get parts k ≡ Some p
+widened_at : (rules : List FormModel) (addresses : List ℕ) (at : ℕ) (parts : List LayoutPart) (k : ℕ) (p : LayoutPart) (n : ℕ) → slice_get parts k ≡ Some p
     → n ≡ at + address parts k
     → slice_get (widened_from rules addresses at parts) k ≡ Some (widened_part rules addresses n p)
 widened_at rules addresses at [] k p n e z = absurd (cc e)
@@ -112,20 +112,20 @@ widened_at rules addresses at (q ∷ parts) zero p n e z =
     let same : at ≡ n = omega (arith, z) in
     subst (λ a. Some (widened_part rules addresses at q) ≡ Some (widened_part rules addresses a p)) same (ap (λ r. Some (widened_part rules addresses at r)) (one q p e))
   where
-    one : (q p : Part) → Some q ≡ Some p → q ≡ p
+    one : (q p : LayoutPart) → Some q ≡ Some p → q ≡ p
     one q p e = cc
 widened_at rules addresses at (q ∷ parts) (suc k) p n e z = widened_at rules addresses (at + room q) parts k p n e (omega (arith, z))
 
 -- a test that is not three words, and stays so, shows its distance
-pub still_shows : (rules : List Rule) (addresses : List ℕ) (parts : List Part) (k : ℕ) (f : Fork) → slice_get parts k ≡ Some (Test f)
+pub still_shows : (rules : List FormModel) (addresses : List ℕ) (parts : List LayoutPart) (k : ℕ) (f : BranchedTest) → slice_get parts k ≡ Some (Test f)
     → widened_from rules addresses 0 parts ≡ parts → f.long ≡ false
-    → rule_shows (slice_get rules f.form) (address parts k + f.words) (slice_index addresses f.to) ≡ true
+    → form_shows (slice_get rules f.form) (address parts k + f.words) (slice_index addresses f.to) ≡ true
 still_shows rules addresses parts k f e still short =
     let w : slice_get (widened_from rules addresses 0 parts) k ≡ Some (widened_part rules addresses (address parts k) (Test f)) = widened_at rules addresses 0 parts k (Test f) (address parts k) e (omega arith) in
-    let long : (f.long || not (rule_shows (slice_get rules f.form) (address parts k + f.words) (slice_index addresses f.to))) ≡ f.long = tests _ f (sym w ∙ ap (λ ps. slice_get ps k) still ∙ e) in
+    let long : (f.long || not (form_shows (slice_get rules f.form) (address parts k + f.words) (slice_index addresses f.to))) ≡ f.long = tests _ f (sym w ∙ ap (λ ps. slice_get ps k) still ∙ e) in
     by f.long _ long short
   where
-    tests : (g f : Fork) → Some (Test g) ≡ Some (Test f) → g.long ≡ f.long
+    tests : (g f : BranchedTest) → Some (Test g) ≡ Some (Test f) → g.long ≡ f.long
     tests g f e = cc
 
     by : (l b : Bool) → (l || not b) ≡ l → l ≡ false → b ≡ true
@@ -134,29 +134,29 @@ still_shows rules addresses parts k f e still short =
     by false false e s = absurd (cc e)
 
 -- a test that is not three words shows its distance
-pub settled_shows : (rules : List Rule) (first parts : List Part) (k : ℕ) (f : Fork) → IsFixpoint rules first parts → slice_get parts k ≡ Some (Test f)
+pub settled_shows : (rules : List FormModel) (first parts : List LayoutPart) (k : ℕ) (f : BranchedTest) → IsFixpoint rules first parts → slice_get parts k ≡ Some (Test f)
     → f.long ≡ false
-    → rule_shows (slice_get rules f.form) (address parts k + f.words) (slice_index (starts parts) f.to) ≡ true
+    → form_shows (slice_get rules f.form) (address parts k + f.words) (slice_index (starts parts) f.to) ≡ true
 settled_shows rules first parts k f s e short = still_shows rules (starts parts) parts k f e s.still short
 
 -- ---- the parts that rounds settle on are one list
 
-still_rounds : (rules : List Rule) (k : ℕ) (parts : List Part) → round rules parts ≡ parts → rounds rules k parts ≡ parts
+still_rounds : (rules : List FormModel) (k : ℕ) (parts : List LayoutPart) → round rules parts ≡ parts → rounds rules k parts ≡ parts
 still_rounds rules zero parts e = refl
 still_rounds rules (suc k) parts e = ap (rounds rules k) e ∙ still_rounds rules k parts e
 
-rounds_plus : (rules : List Rule) (m k N : ℕ) (parts : List Part) → N ≡ m + k → rounds rules N parts ≡ rounds rules k (rounds rules m parts)
+rounds_plus : (rules : List FormModel) (m k N : ℕ) (parts : List LayoutPart) → N ≡ m + k → rounds rules N parts ≡ rounds rules k (rounds rules m parts)
 rounds_plus rules zero k N parts e = let f : N ≡ k = omega arith in ap (λ n. rounds rules n parts) f
 rounds_plus rules (suc m) k zero parts e = absurd (omega arith)
 rounds_plus rules (suc m) k (suc N) parts e = rounds_plus rules m k N (round rules parts) (omega arith)
 
-settled_first : (rules : List Rule) (first a b : List Part) (s : IsFixpoint rules first a) (t : IsFixpoint rules first b) → s.count ≤ t.count → a ≡ b
+settled_first : (rules : List FormModel) (first a b : List LayoutPart) (s : IsFixpoint rules first a) (t : IsFixpoint rules first b) → s.count ≤ t.count → a ≡ b
 settled_first rules first a b s t le =
     let k : ℕ = t.count - s.count in
     let p : rounds rules t.count first ≡ rounds rules (t.count - s.count) (rounds rules s.count first) = rounds_plus rules s.count (t.count - s.count) t.count first (omega arith) in
     sym (t.made ∙ p ∙ ap (rounds rules (t.count - s.count)) (sym s.made) ∙ still_rounds rules (t.count - s.count) a s.still)
 
-pub settled_once : (rules : List Rule) (first a b : List Part) → IsFixpoint rules first a → IsFixpoint rules first b → a ≡ b
+pub settled_once : (rules : List FormModel) (first a b : List LayoutPart) → IsFixpoint rules first a → IsFixpoint rules first b → a ≡ b
 settled_once rules first a b s t = by (nat_le s.count t.count) refl
   where
     by : (x : Bool) → nat_le s.count t.count ≡ x → a ≡ b

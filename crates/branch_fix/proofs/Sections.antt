@@ -5,7 +5,7 @@ use Rattle.net_model.specs.declared.hardware.Netlist.{Netlist}
 use Rattle.net_model.specs.declared.states.State.{State}
 use Rattle.code_model.specs.declared.image.Image.{Image}
 use Rattle.code_model.specs.Machine.{IsAt}
-use Rattle.src_trees.specs.Lowered.{Work}
+use Rattle.src_trees.specs.Lowered.{JobModel}
 use Rattle.src_trees.specs.Doing.{AllLie, all_done, done}
 use Rattle.src_trees.proofs.Behind.{Alike, all_done_behind, all_lie_behind}
 use Rattle.src_trees.proofs.Parts.{all_done_length}
@@ -13,15 +13,15 @@ use Rattle.branch_fix.specs.Made.{Walks, DoesBlock}
 use Rattle.branch_fix.specs.Sections.{DoesIn, PutsMode, Section, section_room, DoesSection, section_jobs, sections_room, DoSections}
 use Rattle.branch_fix.proofs.Walking.{walks_end}
 
-all_done_both : (xs ys : List Work) (cells : List ℕ) → all_done (xs ++ ys) cells ≡ all_done ys (all_done xs cells)
+all_done_both : (xs ys : List JobModel) (cells : List ℕ) → all_done (xs ++ ys) cells ≡ all_done ys (all_done xs cells)
 all_done_both [] ys cells = refl
 all_done_both (x ∷ xs) ys cells = all_done_both xs ys (done x cells)
 
-all_lie_first : (at : ℕ) (xs ys : List Work) (cells : List ℕ) → AllLie at cells (xs ++ ys) → AllLie at cells xs
+all_lie_first : (at : ℕ) (xs ys : List JobModel) (cells : List ℕ) → AllLie at cells (xs ++ ys) → AllLie at cells xs
 all_lie_first at [] ys cells h = tt
 all_lie_first at (x ∷ xs) ys cells h = (h.0, all_lie_first at xs ys (done x cells) h.1)
 
-all_lie_later : (at : ℕ) (xs ys : List Work) (cells : List ℕ) → AllLie at cells (xs ++ ys) → AllLie at (all_done xs cells) ys
+all_lie_later : (at : ℕ) (xs ys : List JobModel) (cells : List ℕ) → AllLie at cells (xs ++ ys) → AllLie at (all_done xs cells) ys
 all_lie_later at [] ys cells h = h
 all_lie_later at (x ∷ xs) ys cells h = all_lie_later at xs ys (done x cells) h.1
 
@@ -39,7 +39,7 @@ module _ (netlist : Netlist) (image : Image) where
     -- ---- one section
 
     -- an assignment between its mode words is one from mode 0 to mode 0
-    alone_does : (v : ℕ) (jobs : List Work) (at n : ℕ) → PutsMode netlist image 0 v at → DoesIn netlist image temps v jobs (at + 1) n → PutsMode netlist image v 0 (at + 1 + n)
+    alone_does : (v : ℕ) (jobs : List JobModel) (at n : ℕ) → PutsMode netlist image 0 v at → DoesIn netlist image temps v jobs (at + 1) n → PutsMode netlist image v 0 (at + 1 + n)
         → DoesIn netlist image temps 0 jobs at (n + 2)
     alone_does v jobs at n p d q = record {
       walks = λ s here mode lie.
@@ -54,13 +54,13 @@ module _ (netlist : Netlist) (image : Image) where
           (b.0, subst (λ (k : ℕ). Walks netlist image at s k b.0) e all, b.3, ap (drop temps) b.4 ∙ w.3 ∙ ap (λ cells. drop temps (all_done jobs cells)) a.4));
     }
 
-    section_does : (v : ℕ) (jobs : List Work) (at n : ℕ) → DoesSection netlist image temps v jobs at n → DoesIn netlist image temps 0 jobs at (section_room v n)
+    section_does : (v : ℕ) (jobs : List JobModel) (at n : ℕ) → DoesSection netlist image temps v jobs at n → DoesIn netlist image temps 0 jobs at (section_room v n)
     section_does zero jobs at n h = h
     section_does (suc v) jobs at n h = alone_does (suc v) jobs at n h.0 h.1 h.2
 
     -- ---- two of them
 
-    both_do : (xs ys : List Work) (at n m : ℕ) → DoesIn netlist image temps 0 xs at n → DoesIn netlist image temps 0 ys (at + n) m → DoesIn netlist image temps 0 (xs ++ ys) at (n + m)
+    both_do : (xs ys : List JobModel) (at n m : ℕ) → DoesIn netlist image temps 0 xs at n → DoesIn netlist image temps 0 ys (at + n) m → DoesIn netlist image temps 0 (xs ++ ys) at (n + m)
     both_do xs ys at n m d e = record {
       walks = λ s here mode lie.
           (let a = d.walks s here mode (all_lie_first temps xs ys s.cells lie) in

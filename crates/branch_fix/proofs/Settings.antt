@@ -3,11 +3,11 @@ use Rattle.std.proofs.Common.{ℕ, ◌≡◌, ◌≤◌, ◌<◌, ◌+◌, ◌-�
 use Rattle.std.proofs.lemmas.Nat.{pow_pos, mod_below}
 use Rattle.std.proofs.Math.Nat.{mod-eq_of_lt, add-mul-mod_self_left}
 use Rattle.net_model.specs.declared.states.State.{State}
-use Rattle.net_model.specs.Terms.{Term, term_width}
+use Rattle.net_model.specs.Exprs.{ExprModel, expr_width}
 use Rattle.net_model.specs.Meaning.{mean}
 use Rattle.form_model.specs.Shapes.{shape_setting, shows}
 use Rattle.form_model.proofs.SettingLaws.{setting_means}
-use Rattle.form_model.specs.Rules.{Rule, absolute, relative}
+use Rattle.form_model.specs.Forms.{FormModel, absolute, relative}
 use Rattle.branch_fix.specs.Items.{jump_step, target_setting}
 use Rattle.branch_fix.specs.Rounds.{difference, distance, target_shows}
 use Rattle.branch_fix.proofs.Distances.{split}
@@ -36,24 +36,24 @@ distance_leads width from to le lt =
 
 -- ---- the bits of a target
 
-shown_means : (shape : Term) (s : State) (v : ℕ) → shows shape v ≡ true → mean shape s (unwrap_or (shape_setting shape v) 0) ≡ v
+shown_means : (shape : ExprModel) (s : State) (v : ℕ) → shows shape v ≡ true → mean shape s (unwrap_or (shape_setting shape v) 0) ≡ v
 shown_means shape s v e = by (shape_setting shape v) refl e
   where
     by : (o : Option ℕ) → shape_setting shape v ≡ o → is_some o ≡ true → mean shape s (unwrap_or o 0) ≡ v
     by None q h = absurd (cc h)
     by (Some b) q h = setting_means shape s v b q
 
-pub jumps_lead : (rule : Rule) (s : State) (to : ℕ) → shows rule.value to ≡ true → mean rule.value s (jump_step (Some rule) to).setting ≡ to
+pub jumps_lead : (rule : FormModel) (s : State) (to : ℕ) → shows rule.value to ≡ true → mean rule.value s (jump_step (Some rule) to).setting ≡ to
 jumps_lead rule s to e = shown_means rule.value s to e
 
-pub absolute_leads : (shape : Term) (s : State) (from to : ℕ) (long : Bool) → shows shape to ≡ true
+pub absolute_leads : (shape : ExprModel) (s : State) (from to : ℕ) (long : Bool) → shows shape to ≡ true
     → mean shape s (target_setting (absolute shape) from to long) ≡ to
 absolute_leads shape s from to long e = shown_means shape s to e
 
-pub relative_leads : (shape : Term) (s : State) (from to : ℕ) → term_width shape ≤ 64 → to < 2 ^ term_width shape →
-    target_shows (relative shape) from to ≡ true → (from + mean shape s (target_setting (relative shape) from to false)) % 2 ^ term_width shape ≡ to
+pub relative_leads : (shape : ExprModel) (s : State) (from to : ℕ) → expr_width shape ≤ 64 → to < 2 ^ expr_width shape →
+    target_shows (relative shape) from to ≡ true → (from + mean shape s (target_setting (relative shape) from to false)) % 2 ^ expr_width shape ≡ to
 relative_leads shape s from to narrow within e =
-    ap (λ n. (from + n) % 2 ^ term_width shape) (shown_means shape s (distance (term_width shape) from to) e) ∙ distance_leads (term_width shape) from to narrow within
+    ap (λ n. (from + n) % 2 ^ expr_width shape) (shown_means shape s (distance (expr_width shape) from to) e) ∙ distance_leads (expr_width shape) from to narrow within
 
-pub long_leads : (shape : Term) (s : State) (from to : ℕ) → shows shape 2 ≡ true → mean shape s (target_setting (relative shape) from to true) ≡ 2
+pub long_leads : (shape : ExprModel) (s : State) (from to : ℕ) → shows shape 2 ≡ true → mean shape s (target_setting (relative shape) from to true) ≡ 2
 long_leads shape s from to e = shown_means shape s 2 e

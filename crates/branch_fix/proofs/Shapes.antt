@@ -3,7 +3,7 @@ use Rattle.std.proofs.Common.{ℕ, zero, suc, ◌≡◌, ◌≤◌, ◌<◌, ◌
 use Rattle.std.proofs.lemmas.List.{length-append}
 use Rattle.src_model.specs.declared.program.Cmp.{Cmp}
 use Rattle.src_model.specs.declared.program.Cmp.TheVariants.{Ne}
-use Rattle.src_model.specs.Written.{Act, assign, choice, while, count, Acts, no_acts, act, Otherwise, without, otherwise, Listing, acts_of}
+use Rattle.src_model.specs.Written.{StmtModel, assign, choice, while, count, StmtsModel, no_acts, act, ElseModel, without, otherwise, ProgramModel, stmts_of}
 use Rattle.src_model.specs.Sizes.{statements, statements_in}
 use Rattle.form_model.specs.declared.flow.Flow.{Flow}
 use Rattle.form_model.specs.declared.flow.Flow.TheVariants.{Assign, Test, Jump, End}
@@ -35,12 +35,12 @@ asked_goes cmp tree at yes_to no_to rest l k g = by (holds_at_one cmp)
     by true = (l, k, g)
     by false = (k, l, g)
 
-entry_later : (o : Otherwise) (at : ℕ) → at ≤ else_entry o at
+entry_later : (o : ElseModel) (at : ℕ) → at ≤ else_entry o at
 entry_later without at = omega arith
 entry_later (otherwise list) at = omega arith
 
 mutual
-  flow_goes : (a : Act) (tree at : ℕ) → Goes at (flow_of a tree at)
+  flow_goes : (a : StmtModel) (tree at : ℕ) → Goes at (flow_of a tree at)
   flow_goes (assign place e) tree at = tt
   flow_goes (choice test taken other) tree at =
       let n = in_length taken (tree + 1) (at + 1) in
@@ -59,13 +59,13 @@ mutual
       (subst (λ k. Goes k (flow_in body (tree + 2) (at + 2) ++ back)) (let z : at + 2 ≡ at + 1 + 1 = omega arith in z)
       (goes_on (at + 2) (at + 2 + places_in body) (flow_in body (tree + 2) (at + 2)) back (omega (arith, n)) (in_goes body (tree + 2) (at + 2)) tt))
 
-  in_goes : (list : Acts) (tree at : ℕ) → Goes at (flow_in list tree at)
+  in_goes : (list : StmtsModel) (tree at : ℕ) → Goes at (flow_in list tree at)
   in_goes no_acts tree at = tt
   in_goes (act a rest) tree at =
       let n = flow_length a tree at in
       goes_on at (at + places_for a) (flow_of a tree at) (flow_in rest (tree + statements a) (at + places_for a)) (omega (arith, n)) (flow_goes a tree at) (in_goes rest (tree + statements a) (at + places_for a))
 
-  else_goes : (o : Otherwise) (tree at : ℕ) → Goes at (flow_else o tree at)
+  else_goes : (o : ElseModel) (tree at : ℕ) → Goes at (flow_else o tree at)
   else_goes without tree at = tt
   else_goes (otherwise body) tree at = in_goes body tree (at + 1)
 
@@ -96,13 +96,13 @@ goes_end at (Jump to ∷ xs) zero g e = absurd (cc e)
 goes_end at (Jump to ∷ xs) (suc k) g e = let h = goes_end (at + 1) xs k g e in omega (arith, h)
 goes_end at (End ∷ xs) k g e = absurd g
 
-pub program_is_flow : (l : Listing) → IsFlow (program_flow l) (places_in (acts_of l.body))
+pub program_is_flow : (l : ProgramModel) → IsFlow (program_flow l) (places_in (stmts_of l.body))
 program_is_flow l =
-    let n = in_length (acts_of l.body) 0 0 in
-    let g = in_goes (acts_of l.body) 0 0 in
+    let n = in_length (stmts_of l.body) 0 0 in
+    let g = in_goes (stmts_of l.body) 0 0 in
     record {
-      long = omega (arith, n, length-append (flow_in (acts_of l.body) 0 0) (End ∷ []));
-      last = (stand_right (program_flow l) 0 (places_in (acts_of l.body)) (flow_in (acts_of l.body) 0 0) (End ∷ []) (omega (arith, n)) (stand_all (program_flow l))).0;
-      only = λ k e. let h = goes_end 0 (flow_in (acts_of l.body) 0 0) k g e in omega (arith, h, n);
-      ahead = λ k tree one none e. goes_ahead 0 (flow_in (acts_of l.body) 0 0) k k tree one none g e (omega arith);
+      long = omega (arith, n, length-append (flow_in (stmts_of l.body) 0 0) (End ∷ []));
+      last = (stand_right (program_flow l) 0 (places_in (stmts_of l.body)) (flow_in (stmts_of l.body) 0 0) (End ∷ []) (omega (arith, n)) (stand_all (program_flow l))).0;
+      only = λ k e. let h = goes_end 0 (flow_in (stmts_of l.body) 0 0) k g e in omega (arith, h, n);
+      ahead = λ k tree one none e. goes_ahead 0 (flow_in (stmts_of l.body) 0 0) k k tree one none g e (omega arith);
     }

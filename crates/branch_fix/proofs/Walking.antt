@@ -3,7 +3,7 @@ use Rattle.std.proofs.Common.{ℕ, zero, suc, ◌≡◌, ◌≤◌, ◌<◌, ◌
 use Rattle.net_model.specs.declared.hardware.Space.TheVariants.{Memory as InMemory}
 use Rattle.net_model.specs.declared.hardware.Netlist.{Netlist}
 use Rattle.net_model.specs.declared.states.State.{State}
-use Rattle.net_model.specs.Terms.{Term}
+use Rattle.net_model.specs.Exprs.{ExprModel}
 use Rattle.net_model.specs.Meaning.{mean}
 use Rattle.net_model.specs.Nets.{counter_of}
 use Rattle.net_model.specs.Clock.{clock, Next, counter_in}
@@ -112,7 +112,7 @@ module _ (netlist : Netlist) (image : Image) where
     not_chosen : (v x y : ℕ) → v ≡ 0 → (if v == 1 then x else y) ≡ y
     not_chosen v x y e = rw e refl
 
-    pub branches : (condition : Term) (when_one : Bool) (at to : ℕ) → DoesBranch base netlist.special (image_word image at) condition when_one at to
+    pub branches : (condition : ExprModel) (when_one : Bool) (at to : ℕ) → DoesBranch base netlist.special (image_word image at) condition when_one at to
         → BranchesTo netlist image (image_word image at) condition at (if when_one then to else at + 1) (if when_one then at + 1 else to)
     branches condition when_one at to does = record {
       branches = λ s here.

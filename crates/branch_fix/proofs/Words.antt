@@ -1,11 +1,11 @@
 -- The words of parts, one after the other.
 use Rattle.std.proofs.Common.{ℕ, zero, suc, ◌≡◌, ◌<◌, ◌+◌, ◌-◌, Bool, true, false, List, [], ◌∷◌, ◌++◌, length, refl, sym, ◌∙◌, ap, arith, append_assoc, Option, slice_index}
 use Rattle.std.proofs.lemmas.List.{length-append}
-use Rattle.form_model.specs.Rules.{Rule}
+use Rattle.form_model.specs.Forms.{FormModel}
 use Rattle.branch_fix.specs.declared.laid.Item.{Item}
 use Rattle.branch_fix.specs.declared.laid.Item.TheVariants.{Group}
-use Rattle.branch_fix.specs.declared.part.Part.{Part}
-use Rattle.branch_fix.specs.declared.part.Part.TheVariants.{Block, Inner, Test, Jump, End}
+use Rattle.branch_fix.specs.declared.part.LayoutPart.{LayoutPart}
+use Rattle.branch_fix.specs.declared.part.LayoutPart.TheVariants.{Block, Inner, Test, Jump, End}
 use Rattle.branch_fix.specs.Parts.{branch_words, room, total}
 use Rattle.branch_fix.specs.Items.{groups, behind, part_items, items_from}
 
@@ -26,13 +26,13 @@ pub groups_length : (block at n : ℕ) → length (groups block at n) ≡ n
 groups_length block at zero = refl
 groups_length block at (suc n) = let h = groups_length block (at + 1) n in omega (arith, h)
 
-behind_length : (jump : Option Rule) (next long : Bool) (to other : ℕ) → length (behind jump next long to other) + 1 ≡ branch_words next long
+behind_length : (jump : Option FormModel) (next long : Bool) (to other : ℕ) → length (behind jump next long to other) + 1 ≡ branch_words next long
 behind_length jump true true to other = refl
 behind_length jump false true to other = refl
 behind_length jump true false to other = refl
 behind_length jump false false to other = refl
 
-pub part_length : (rules : List Rule) (jump : Option Rule) (addresses : List ℕ) (at : ℕ) (p : Part)
+pub part_length : (rules : List FormModel) (jump : Option FormModel) (addresses : List ℕ) (at : ℕ) (p : LayoutPart)
     → length (part_items rules jump addresses at p) ≡ room p
 part_length rules jump addresses at (Block block words) = groups_length block 0 words
 part_length rules jump addresses at Inner = refl
@@ -43,7 +43,7 @@ part_length rules jump addresses at (Test f) =
 part_length rules jump addresses at (Jump to) = refl
 part_length rules jump addresses at End = refl
 
-pub items_length : (rules : List Rule) (jump : Option Rule) (addresses : List ℕ) (at : ℕ) (parts : List Part)
+pub items_length : (rules : List FormModel) (jump : Option FormModel) (addresses : List ℕ) (at : ℕ) (parts : List LayoutPart)
     → length (items_from rules jump addresses at parts) ≡ total parts
 items_length rules jump addresses at [] = refl
 items_length rules jump addresses at (p ∷ parts) =

@@ -1,6 +1,7 @@
--- How many words a program has at most.
+-- How many words a program has at most, its *bound*: the costs of its trees, three words for each
+-- test, one for each jump back of a loop and for each `else`, and the end; the same of a flow.
 use Rattle.std.specs.Prelude.{ℕ, ◌+◌, List, [], ◌∷◌}
-use Rattle.src_model.specs.Written.{Act, assign, choice, while, count, Acts, no_acts, act, Otherwise, without, otherwise, Listing, acts_of}
+use Rattle.src_model.specs.Written.{StmtModel, assign, choice, while, count, StmtsModel, no_acts, act, ElseModel, without, otherwise, ProgramModel, stmts_of}
 use Rattle.form_model.specs.declared.flow.Flow.{Flow}
 use Rattle.form_model.specs.declared.flow.Flow.TheVariants.{Assign, Test, Jump, End}
 
@@ -27,20 +28,20 @@ bound_of flow costs = sum_of costs + control_words flow
 -- part
 
 abbrev mutual
-  pub control_of : Act → ℕ
+  pub control_of : StmtModel → ℕ
   control_of (assign place e) = 0
   control_of (choice test taken other) = 3 + control_in taken + control_else other
   control_of (while test body) = 3 + control_in body + 1
   control_of (count counter at from to body) = 3 + control_in body + 1
 
-  pub control_in : Acts → ℕ
+  pub control_in : StmtsModel → ℕ
   control_in no_acts = 0
   control_in (act a rest) = control_of a + control_in rest
 
-  pub control_else : Otherwise → ℕ
+  pub control_else : ElseModel → ℕ
   control_else without = 0
   control_else (otherwise body) = 1 + control_in body
 
 -- the bound of a program's words: the costs of all its trees, those words, and the end
-abbrev pub program_bound : Listing → List ℕ → ℕ
-program_bound l costs = sum_of costs + control_in (acts_of l.body) + 1
+abbrev pub program_bound : ProgramModel → List ℕ → ℕ
+program_bound l costs = sum_of costs + control_in (stmts_of l.body) + 1

@@ -1,16 +1,19 @@
--- The words of code that is laid out.
+-- The words of code that is laid out: a block's groups; for a test those of its operands, the
+-- branch word with the bits of its condition and of its target, and the jumps behind it, which of
+-- a long branch are to the other target and then to its own; for a jump and for the end a word of
+-- the first jump form whose reach is the greatest.
 use Rattle.std.specs.Prelude.{ℕ, zero, suc, ◌+◌, ◌==◌, bit_or, unwrap_or, Bool, true, false, if◌then◌else◌, List, [], ◌∷◌, ◌++◌, Option, Some, None, slice_get, slice_index}
 use Rattle.std.specs.Borrow.{Bor}
-use Rattle.net_model.specs.Terms.{term_width}
+use Rattle.net_model.specs.Exprs.{expr_width}
 use Rattle.form_model.specs.declared.forms.Form.{Form}
-use Rattle.form_model.specs.Rules.{rule_of}
+use Rattle.form_model.specs.Forms.{model_of_form}
 use Rattle.form_model.specs.declared.forms.Step.{Step}
 use Rattle.form_model.specs.Shapes.{shape_setting}
-use Rattle.form_model.specs.Rules.{Rule, BranchTarget, absolute, relative, Kind, jumps, branches}
+use Rattle.form_model.specs.Forms.{FormModel, TargetModel, absolute, relative, GoalModel, jumps, branches}
 use Rattle.branch_fix.specs.declared.laid.Item.{Item}
 use Rattle.branch_fix.specs.declared.laid.Item.TheVariants.{Group, Jump as Word}
-use Rattle.branch_fix.specs.declared.part.Part.{Part}
-use Rattle.branch_fix.specs.declared.part.Part.TheVariants.{Block, Inner, Test, Jump, End}
+use Rattle.branch_fix.specs.declared.part.LayoutPart.{LayoutPart}
+use Rattle.branch_fix.specs.declared.part.LayoutPart.TheVariants.{Block, Inner, Test, Jump, End}
 use Rattle.branch_fix.specs.Parts.{room}
 use Rattle.branch_fix.specs.Rounds.{distance}
 
@@ -21,51 +24,51 @@ groups block at (suc n) = Group block at ∷ groups block (at + 1) n
 
 -- ---- jumps
 
-abbrev pub reaches : Kind → ℕ → Bool
+abbrev pub reaches : GoalModel → ℕ → Bool
 reaches (jumps r) reach = r == reach
 reaches _ reach = false
 
 -- the first jump form of this reach
-abbrev pub jump_form : List Rule → ℕ → Option Rule
+abbrev pub jump_form : List FormModel → ℕ → Option FormModel
 jump_form [] reach = None
 jump_form (rule ∷ rules) reach = if reaches rule.goal reach then Some rule else jump_form rules reach
 
 -- a word of a form whose target has this value
-abbrev pub jump_step : Option Rule → ℕ → Step
+abbrev pub jump_step : Option FormModel → ℕ → Step
 jump_step None to = record { pattern = 0; setting = 0 }
 jump_step (Some rule) to = record { pattern = rule.pattern; setting = unwrap_or (shape_setting rule.value to) 0 }
 
 -- a form that is looked at, if there is one
-abbrev pub rule_in : Option (Bor Form) → Option Rule
-rule_in None = None
-rule_in (Some form) = Some (rule_of form.now)
+abbrev pub form_in : Option (Bor Form) → Option FormModel
+form_in None = None
+form_in (Some form) = Some (model_of_form form.now)
 
 -- ---- branches
 
-abbrev pub target_setting : BranchTarget → ℕ → ℕ → Bool → ℕ
+abbrev pub target_setting : TargetModel → ℕ → ℕ → Bool → ℕ
 target_setting (absolute shape) from to long = unwrap_or (shape_setting shape to) 0
 target_setting (relative shape) from to true = unwrap_or (shape_setting shape 2) 0
-target_setting (relative shape) from to false = unwrap_or (shape_setting shape (distance (term_width shape) from to)) 0
+target_setting (relative shape) from to false = unwrap_or (shape_setting shape (distance (expr_width shape) from to)) 0
 
-abbrev pub kind_setting : Kind → ℕ → ℕ → Bool → ℕ
-kind_setting (branches when_one target) from to long = target_setting target from to long
-kind_setting _ from to long = 0
+abbrev pub goal_setting : GoalModel → ℕ → ℕ → Bool → ℕ
+goal_setting (branches when_one target) from to long = target_setting target from to long
+goal_setting _ from to long = 0
 
 -- the branch word at an address: the bits of its condition and those of its target
-abbrev pub branch_step : Option Rule → ℕ → ℕ → ℕ → Bool → Step
+abbrev pub branch_step : Option FormModel → ℕ → ℕ → ℕ → Bool → Step
 branch_step None setting from to long = record { pattern = 0; setting = 0 }
 branch_step (Some rule) setting from to long =
-    record { pattern = rule.pattern; setting = bit_or setting (kind_setting rule.goal from to long) }
+    record { pattern = rule.pattern; setting = bit_or setting (goal_setting rule.goal from to long) }
 
 -- the words behind it
-abbrev pub behind : Option Rule → Bool → Bool → ℕ → ℕ → List Item
+abbrev pub behind : Option FormModel → Bool → Bool → ℕ → ℕ → List Item
 behind jump next true to other = Word (jump_step jump other) ∷ (Word (jump_step jump to) ∷ [])
 behind jump true false to other = []
 behind jump false false to other = Word (jump_step jump other) ∷ []
 
 -- ---- all words
 
-abbrev pub part_items : List Rule → Option Rule → List ℕ → ℕ → Part → List Item
+abbrev pub part_items : List FormModel → Option FormModel → List ℕ → ℕ → LayoutPart → List Item
 part_items rules jump addresses at (Block block words) = groups block 0 words
 part_items rules jump addresses at Inner = []
 part_items rules jump addresses at (Test f) =
@@ -75,7 +78,7 @@ part_items rules jump addresses at (Test f) =
 part_items rules jump addresses at (Jump to) = Word (jump_step jump (slice_index addresses to)) ∷ []
 part_items rules jump addresses at End = Word (jump_step jump at) ∷ []
 
-abbrev pub items_from : List Rule → Option Rule → List ℕ → ℕ → List Part → List Item
+abbrev pub items_from : List FormModel → Option FormModel → List ℕ → ℕ → List LayoutPart → List Item
 items_from rules jump addresses at [] = []
 items_from rules jump addresses at (p ∷ parts) =
     part_items rules jump addresses at p ++ items_from rules jump addresses (at + room p) parts

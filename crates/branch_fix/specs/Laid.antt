@@ -2,11 +2,11 @@
 use Rattle.std.specs.Prelude.{ℕ, ◌≡◌, ◌≤◌, ◌<◌, List, length}
 use Rattle.form_model.specs.declared.flow.Flow.{Flow}
 use Rattle.form_model.specs.declared.forms.Forms.{Forms}
-use Rattle.form_model.specs.Rules.{Rule, rules_of}
+use Rattle.form_model.specs.Forms.{FormModel, models_of_forms}
 use Rattle.branch_fix.specs.declared.laid.Laid.{Laid}
 use Rattle.branch_fix.specs.declared.fault.LayFault.{LayFault}
 use Rattle.branch_fix.specs.declared.fault.LayFault.TheVariants.{NoReach, ImageFull, Memory}
-use Rattle.branch_fix.specs.declared.part.Part.{Part}
+use Rattle.branch_fix.specs.declared.part.LayoutPart.{LayoutPart}
 use Rattle.branch_fix.specs.Parts.{parts_of, starts, marks_from, total}
 use Rattle.branch_fix.specs.Rounds.{IsFixpoint}
 use Rattle.branch_fix.specs.Items.{jump_form, items_from}
@@ -19,7 +19,7 @@ pub record Outline : Type 0 where
   pub flow : List Flow
   pub sizes : List ℕ
   pub branches : List (ℕ × ℕ)
-  pub rules : List Rule
+  pub rules : List FormModel
   pub reach : ℕ
   pub words : ℕ
   pub bound : ℕ
@@ -30,20 +30,20 @@ outline flow sizes branches forms words bound =
       flow = flow;
       sizes = sizes;
       branches = branches;
-      rules = rules_of forms.list.items;
+      rules = models_of_forms forms.list.items;
       reach = forms.reach;
       words = words;
       bound = bound;
     }
 
 -- its parts when rounds have changed the branches
-abbrev pub ArePartsOf : Outline → List Part → Type 0
+abbrev pub ArePartsOf : Outline → List LayoutPart → Type 0
 ArePartsOf o parts = IsFixpoint o.rules (parts_of o.rules o.flow o.sizes o.branches) parts
 
 -- the words and the marks of the parts; no jump has to reach further than jumps do, and there are
 -- as many words as the code has
 pub record IsLaid (o : Outline) (laid : Laid) : Type 0 where
-  pub parts : List Part
+  pub parts : List LayoutPart
   pub settled : ArePartsOf o parts
   pub items : laid.items ≡ items_from o.rules (jump_form o.rules o.reach) (starts parts) 0 parts
   pub long : length laid.items ≡ total parts
@@ -55,7 +55,7 @@ pub record IsLaid (o : Outline) (laid : Laid) : Type 0 where
 
 -- the code of so many words is longer than there are words
 pub record IsImageFull (o : Outline) (len : ℕ) : Type 0 where
-  pub parts : List Part
+  pub parts : List LayoutPart
   pub settled : ArePartsOf o parts
   pub long : len ≡ total parts
   pub above : o.words < len

@@ -1,29 +1,34 @@
 -- The parts of a flow: what stands at each of its places, how many words that is, and where these
--- stand.
+-- stand. A *part* stands for each place of a flow: a block of assignments with its words, an
+-- assignment inside a block, a test with its operands' words and its branch (*fork*), a jump, the
+-- end. A branch is one word, followed by a jump to the other target unless that comes next; or it
+-- is three words. Addresses, the number of words and the marks follow from the parts. Which of a
+-- test's two targets is the branch's, its form says. Each part is that of its place: blocks and
+-- tests have the number of those before them.
 use Rattle.std.specs.Prelude.{ℕ, zero, suc, ◌+◌, ◌==◌, ◌≡◌, Bool, true, false, if◌then◌else◌, List, [], ◌∷◌, ◌++◌, length, map, Option, Some, None, slice_get, slice_index}
 use Rattle.std.specs.List.{range_with_len}
 use Rattle.code_model.specs.declared.image.Mark.{Mark}
 use Rattle.form_model.specs.declared.flow.Flow.{Flow}
 use Rattle.form_model.specs.declared.flow.Flow.TheVariants.{Assign, Test as Tested, Jump as Jumped, End as Ended}
-use Rattle.form_model.specs.Rules.{Rule, Kind, branches}
+use Rattle.form_model.specs.Forms.{FormModel, GoalModel, branches}
 use Rattle.src_trees.specs.Blocks.{continues}
-use Rattle.branch_fix.specs.declared.part.Part.{Part}
-use Rattle.branch_fix.specs.declared.part.Part.TheVariants.{Block, Inner, Test, Jump, End}
+use Rattle.branch_fix.specs.declared.part.LayoutPart.{LayoutPart}
+use Rattle.branch_fix.specs.declared.part.LayoutPart.TheVariants.{Block, Inner, Test, Jump, End}
 
 -- ---- what stands at a place
 
 -- whether a branch form goes to its target where its condition is 1
-abbrev pub kind_at_one : Kind → Bool
-kind_at_one (branches when_one to) = when_one
-kind_at_one _ = true
+abbrev pub goal_at_one : GoalModel → Bool
+goal_at_one (branches when_one to) = when_one
+goal_at_one _ = true
 
-abbrev pub rule_at_one : Option Rule → Bool
-rule_at_one None = true
-rule_at_one (Some rule) = kind_at_one rule.goal
+abbrev pub form_at_one : Option FormModel → Bool
+form_at_one None = true
+form_at_one (Some rule) = goal_at_one rule.goal
 
 -- a test at a place, with its branch form and setting, where the form tells which of the two
 -- targets is the branch's
-abbrev pub fork_to : ℕ → ℕ → ℕ → ℕ → ℕ → ℕ → ℕ → ℕ → Part
+abbrev pub fork_to : ℕ → ℕ → ℕ → ℕ → ℕ → ℕ → ℕ → ℕ → LayoutPart
 fork_to tree block words form setting at to other =
     Test (record {
       tree = tree;
@@ -42,9 +47,9 @@ abbrev pub branch_or_zero : Option (ℕ × ℕ) → ℕ × ℕ
 branch_or_zero None = (0, 0)
 branch_or_zero (Some branch) = branch
 
-abbrev pub fork_of : List Rule → ℕ → ℕ → ℕ → ℕ × ℕ → ℕ → ℕ → ℕ → Part
+abbrev pub fork_of : List FormModel → ℕ → ℕ → ℕ → ℕ × ℕ → ℕ → ℕ → ℕ → LayoutPart
 fork_of rules tree block words branch at when_one when_zero =
-    if rule_at_one (slice_get rules branch.0) then fork_to tree block words branch.0 branch.1 at when_one when_zero
+    if form_at_one (slice_get rules branch.0) then fork_to tree block words branch.0 branch.1 at when_one when_zero
     else fork_to tree block words branch.0 branch.1 at when_zero when_one
 
 -- ---- blocks and tests are numbered in the order of the flow
@@ -76,7 +81,7 @@ tests_before flow (suc at) = tests_before flow at + place_tests (slice_get flow 
 -- ---- parts
 
 -- the part of a place, with so many blocks and tests before it
-abbrev pub part_for : List Rule → List Flow → List ℕ → List (ℕ × ℕ) → Flow → ℕ → ℕ → ℕ → Part
+abbrev pub part_for : List FormModel → List Flow → List ℕ → List (ℕ × ℕ) → Flow → ℕ → ℕ → ℕ → LayoutPart
 part_for rules flow sizes forks (Assign tree) at block test =
     if continues flow at then Inner else Block block (slice_index sizes block)
 part_for rules flow sizes forks (Tested tree when_one when_zero) at block test =
@@ -84,17 +89,17 @@ part_for rules flow sizes forks (Tested tree when_one when_zero) at block test =
 part_for rules flow sizes forks (Jumped to) at block test = Jump to
 part_for rules flow sizes forks Ended at block test = End
 
-abbrev pub place_part : List Rule → List Flow → List ℕ → List (ℕ × ℕ) → Flow → ℕ → Part
+abbrev pub place_part : List FormModel → List Flow → List ℕ → List (ℕ × ℕ) → Flow → ℕ → LayoutPart
 place_part rules flow sizes forks f at =
     part_for rules flow sizes forks f at (blocks_before flow at) (tests_before flow at)
 
 -- those of the places from one on, and of all
-abbrev pub parts_from : List Rule → List Flow → List ℕ → List (ℕ × ℕ) → List Flow → ℕ → List Part
+abbrev pub parts_from : List FormModel → List Flow → List ℕ → List (ℕ × ℕ) → List Flow → ℕ → List LayoutPart
 parts_from rules flow sizes forks [] at = []
 parts_from rules flow sizes forks (f ∷ rest) at =
     place_part rules flow sizes forks f at ∷ parts_from rules flow sizes forks rest (at + 1)
 
-abbrev pub parts_of : List Rule → List Flow → List ℕ → List (ℕ × ℕ) → List Part
+abbrev pub parts_of : List FormModel → List Flow → List ℕ → List (ℕ × ℕ) → List LayoutPart
 parts_of rules flow sizes forks = parts_from rules flow sizes forks flow 0
 
 -- ---- words and addresses
@@ -104,7 +109,7 @@ parts_of rules flow sizes forks = parts_from rules flow sizes forks flow 0
 abbrev pub branch_words : Bool → Bool → ℕ
 branch_words next long = if long then 3 else if next then 1 else 2
 
-abbrev pub room : Part → ℕ
+abbrev pub room : LayoutPart → ℕ
 room (Block block words) = words
 room Inner = 0
 room (Test f) = f.words + branch_words f.next f.long
@@ -112,48 +117,48 @@ room (Jump to) = 1
 room End = 1
 
 -- the address of a place: the words of all parts before it
-abbrev pub address : List Part → ℕ → ℕ
+abbrev pub address : List LayoutPart → ℕ → ℕ
 address [] at = 0
 address (p ∷ parts) zero = 0
 address (p ∷ parts) (suc at) = room p + address parts at
 
 -- the addresses of all places, and of the end behind them
-abbrev pub starts : List Part → List ℕ
+abbrev pub starts : List LayoutPart → List ℕ
 starts parts = map (address parts) (range_with_len 0 (length parts + 1))
 
 -- the number of words
-abbrev pub total : List Part → ℕ
+abbrev pub total : List LayoutPart → ℕ
 total [] = 0
 total (p ∷ parts) = room p + total parts
 
 -- ---- marks: the first word of each test's code, and the end
 
-abbrev pub own_marks : ℕ → Part → List Mark
+abbrev pub own_marks : ℕ → LayoutPart → List Mark
 own_marks at (Block block words) = []
 own_marks at Inner = []
 own_marks at (Test f) = record { address = at; label = Some f.tree } ∷ []
 own_marks at (Jump to) = []
 own_marks at End = record { address = at; label = None } ∷ []
 
-abbrev pub marks_from : ℕ → List Part → List Mark
+abbrev pub marks_from : ℕ → List LayoutPart → List Mark
 marks_from at [] = []
 marks_from at (p ∷ parts) = own_marks at p ++ marks_from (at + room p) parts
 
 -- ---- the parts of a flow, each by what it is
 
 -- a part stands for a place of the flow
-abbrev pub FitsPart : List Rule → List Flow → ℕ → Flow → Part → Type 0
+abbrev pub FitsPart : List FormModel → List Flow → ℕ → Flow → LayoutPart → Type 0
 FitsPart rules flow at (Assign tree) (Block block words) = continues flow at ≡ false
 FitsPart rules flow at (Assign tree) Inner = continues flow at ≡ true
 FitsPart rules flow at (Tested tree when_one when_zero) (Test f) =
     (f.tree ≡ tree) × (f.next ≡ (f.other == at + 1))
-    × (f.to ≡ (if rule_at_one (slice_get rules f.form) then when_one else when_zero))
-    × (f.other ≡ (if rule_at_one (slice_get rules f.form) then when_zero else when_one))
+    × (f.to ≡ (if form_at_one (slice_get rules f.form) then when_one else when_zero))
+    × (f.other ≡ (if form_at_one (slice_get rules f.form) then when_zero else when_one))
 FitsPart rules flow at (Jumped to) (Jump place) = place ≡ to
 FitsPart rules flow at Ended End = Unit {0}
 FitsPart rules flow at _ _ = ⊥
 
-abbrev pub PartsFit : List Rule → List Flow → ℕ → List Flow → List Part → Type 0
+abbrev pub PartsFit : List FormModel → List Flow → ℕ → List Flow → List LayoutPart → Type 0
 PartsFit rules flow at [] [] = Unit {0}
 PartsFit rules flow at (f ∷ rest) (p ∷ parts) = FitsPart rules flow at f p × PartsFit rules flow (at + 1) rest parts
 PartsFit rules flow at _ _ = ⊥

@@ -1,11 +1,14 @@
--- Relative branches that don't show their distance become three words, in rounds.
+-- Relative branches that don't show their distance become three words, in *rounds*: a branch that
+-- has become three words stays so, and rounds are repeated until one changes nothing. A distance
+-- is the difference of two addresses modulo the program counter's width, which the target's shape
+-- has.
 use Rattle.std.specs.Prelude.{ℕ, zero, suc, ◌+◌, ◌-◌, ◌%◌, ◌^◌, ◌≡◌, min, Bool, true, false, not, ◌||◌, if◌then◌else◌, List, [], ◌∷◌, Option, Some, None, slice_get, slice_index}
-use Rattle.net_model.specs.Terms.{term_width}
+use Rattle.net_model.specs.Exprs.{expr_width}
 use Rattle.form_model.specs.Shapes.{shows}
-use Rattle.form_model.specs.Rules.{Rule, BranchTarget, absolute, relative, Kind, branches}
-use Rattle.branch_fix.specs.declared.part.Fork.{Fork}
-use Rattle.branch_fix.specs.declared.part.Part.{Part}
-use Rattle.branch_fix.specs.declared.part.Part.TheVariants.{Block, Inner, Test, Jump, End}
+use Rattle.form_model.specs.Forms.{FormModel, TargetModel, absolute, relative, GoalModel, branches}
+use Rattle.branch_fix.specs.declared.part.BranchedTest.{BranchedTest}
+use Rattle.branch_fix.specs.declared.part.LayoutPart.{LayoutPart}
+use Rattle.branch_fix.specs.declared.part.LayoutPart.TheVariants.{Block, Inner, Test, Jump, End}
 use Rattle.branch_fix.specs.Parts.{room, starts}
 
 -- the difference of two numbers, modulo a width
@@ -18,64 +21,64 @@ abbrev pub distance : ℕ → ℕ → ℕ → ℕ
 distance width from to = difference (min width 64) from to
 
 -- whether a branch form shows its target; an absolute one shows each address that is reached
-abbrev pub target_shows : BranchTarget → ℕ → ℕ → Bool
+abbrev pub target_shows : TargetModel → ℕ → ℕ → Bool
 target_shows (absolute shape) from to = true
-target_shows (relative shape) from to = shows shape (distance (term_width shape) from to)
+target_shows (relative shape) from to = shows shape (distance (expr_width shape) from to)
 
-abbrev pub kind_shows : Kind → ℕ → ℕ → Bool
-kind_shows (branches when_one target) from to = target_shows target from to
-kind_shows _ from to = true
+abbrev pub goal_shows : GoalModel → ℕ → ℕ → Bool
+goal_shows (branches when_one target) from to = target_shows target from to
+goal_shows _ from to = true
 
-abbrev pub rule_shows : Option Rule → ℕ → ℕ → Bool
-rule_shows None from to = true
-rule_shows (Some rule) from to = kind_shows rule.goal from to
+abbrev pub form_shows : Option FormModel → ℕ → ℕ → Bool
+form_shows None from to = true
+form_shows (Some rule) from to = goal_shows rule.goal from to
 
 -- in a round each relative branch that doesn't show its distance becomes three words, and stays so
-abbrev pub widened : List Rule → List ℕ → ℕ → Fork → Fork
+abbrev pub widened : List FormModel → List ℕ → ℕ → BranchedTest → BranchedTest
 widened rules addresses at f = record f {
   long = f.long
-      || not (rule_shows (slice_get rules f.form) (at + f.words) (slice_index addresses f.to));
+      || not (form_shows (slice_get rules f.form) (at + f.words) (slice_index addresses f.to));
 }
 
 -- part by part
-abbrev pub widened_part : List Rule → List ℕ → ℕ → Part → Part
+abbrev pub widened_part : List FormModel → List ℕ → ℕ → LayoutPart → LayoutPart
 widened_part rules addresses at (Block block words) = Block block words
 widened_part rules addresses at Inner = Inner
 widened_part rules addresses at (Test f) = Test (widened rules addresses at f)
 widened_part rules addresses at (Jump to) = Jump to
 widened_part rules addresses at End = End
 
-abbrev pub widened_from : List Rule → List ℕ → ℕ → List Part → List Part
+abbrev pub widened_from : List FormModel → List ℕ → ℕ → List LayoutPart → List LayoutPart
 widened_from rules addresses at [] = []
 widened_from rules addresses at (p ∷ parts) =
     widened_part rules addresses at p ∷ widened_from rules addresses (at + room p) parts
 
-abbrev pub round : List Rule → List Part → List Part
+abbrev pub round : List FormModel → List LayoutPart → List LayoutPart
 round rules parts = widened_from rules (starts parts) 0 parts
 
-abbrev pub rounds : List Rule → ℕ → List Part → List Part
+abbrev pub rounds : List FormModel → ℕ → List LayoutPart → List LayoutPart
 rounds rules zero parts = parts
 rounds rules (suc n) parts = rounds rules n (round rules parts)
 
 -- what some rounds make of parts
-pub record IsRound (rules : List Rule) (first parts : List Part) : Type 0 where
+pub record IsRound (rules : List FormModel) (first parts : List LayoutPart) : Type 0 where
   pub count : ℕ
   pub made : parts ≡ rounds rules count first
 
 -- rounds are repeated until one changes nothing
-pub record IsFixpoint (rules : List Rule) (first last : List Part) : Type 0 where
+pub record IsFixpoint (rules : List FormModel) (first last : List LayoutPart) : Type 0 where
   pub count : ℕ
   pub made : last ≡ rounds rules count first
   pub still : round rules last ≡ last
 
 -- how many tests are three words
-abbrev pub is_long : Part → Bool
+abbrev pub is_long : LayoutPart → Bool
 is_long (Test f) = f.long
 is_long (Block block words) = false
 is_long Inner = false
 is_long (Jump to) = false
 is_long End = false
 
-abbrev pub long_tests : List Part → ℕ
+abbrev pub long_tests : List LayoutPart → ℕ
 long_tests [] = 0
 long_tests (p ∷ parts) = (if is_long p then 1 else 0) + long_tests parts

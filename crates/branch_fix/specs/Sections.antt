@@ -8,13 +8,13 @@ use Rattle.code_model.specs.declared.image.Image.{Image}
 use Rattle.code_model.specs.Places.{words_of}
 use Rattle.code_model.specs.Machine.{IsAt}
 use Rattle.net_model.specs.Fixed.{mode_in}
-use Rattle.src_trees.specs.Lowered.{Work}
+use Rattle.src_trees.specs.Lowered.{JobModel}
 use Rattle.src_trees.specs.Doing.{AllLie, all_done}
 use Rattle.branch_fix.specs.Made.{Walks}
 
 -- so many words from an address on do jobs in a mode, and leave the mode as it is
 pub record DoesIn (netlist : Netlist) (image : Image) (temps v : ℕ)
-    (jobs : List Work) (at n : ℕ) : Type 0 where
+    (jobs : List JobModel) (at n : ℕ) : Type 0 where
   pub walks : (s : State) → IsAt netlist at s → mode_in netlist.special s ≡ v → AllLie temps s.cells jobs →
       (t : State) × Walks netlist image at s n t × (mode_in netlist.special t ≡ v)
       × (drop temps t.cells ≡ drop temps (all_done jobs s.cells))
@@ -28,7 +28,7 @@ pub record PutsMode (netlist : Netlist) (image : Image) (from to at : ℕ) : Typ
 -- jobs of one mode, and how many words their groups have
 pub record Section : Type 0 where
   pub mode : ℕ
-  pub jobs : List Work
+  pub jobs : List JobModel
   pub words : ℕ
 
 -- those of a mode other than 0 stand between two mode words
@@ -36,7 +36,7 @@ abbrev pub section_room : ℕ → ℕ → ℕ
 section_room zero n = n
 section_room (suc v) n = n + 2
 
-abbrev pub DoesSection : Netlist → Image → ℕ → ℕ → List Work → ℕ → ℕ → Type 0
+abbrev pub DoesSection : Netlist → Image → ℕ → ℕ → List JobModel → ℕ → ℕ → Type 0
 DoesSection netlist image temps zero jobs at n = DoesIn netlist image temps 0 jobs at n
 DoesSection netlist image temps (suc v) jobs at n =
     PutsMode netlist image 0 (suc v) at
@@ -44,7 +44,7 @@ DoesSection netlist image temps (suc v) jobs at n =
     × PutsMode netlist image (suc v) 0 (at + 1 + n)
 
 -- the jobs of sections one after the other, and all their words
-abbrev pub section_jobs : List Section → List Work
+abbrev pub section_jobs : List Section → List JobModel
 section_jobs [] = []
 section_jobs (x ∷ sections) = x.jobs ++ section_jobs sections
 

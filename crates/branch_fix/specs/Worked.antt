@@ -1,15 +1,15 @@
 -- Worked layouts: a loop with an absolute branch, and with relative ones that show their distance
 -- or don't.
 use Rattle.std.specs.Prelude.{ℕ, ◌≡◌, refl, true, false, List, [], ◌∷◌, Some, None}
-use Rattle.net_model.specs.Terms.{Term, word, reg, const, slice, zext, bin}
+use Rattle.net_model.specs.Exprs.{ExprModel, word, reg, const, slice, zext, bin}
 use Rattle.rec_bits.specs.declared.operator.Op2.TheVariants.{Eq as Equal}
 use Rattle.code_model.specs.declared.image.Mark.{Mark}
 use Rattle.form_model.specs.declared.flow.Flow.{Flow}
 use Rattle.form_model.specs.declared.flow.Flow.TheVariants.{Assign, Test, Jump as Jumped, End as Ended}
-use Rattle.form_model.specs.Rules.{Rule, BranchTarget, absolute, relative, jumps, branches}
+use Rattle.form_model.specs.Forms.{FormModel, TargetModel, absolute, relative, jumps, branches}
 use Rattle.branch_fix.specs.declared.laid.Item.{Item}
 use Rattle.branch_fix.specs.declared.laid.Item.TheVariants.{Group, Jump}
-use Rattle.branch_fix.specs.declared.part.Part.TheVariants.{Block, Inner, Test as TestPart, Jump as JumpPart, End as EndPart}
+use Rattle.branch_fix.specs.declared.part.LayoutPart.TheVariants.{Block, Inner, Test as TestPart, Jump as JumpPart, End as EndPart}
 use Rattle.branch_fix.specs.Costs.{block_costs}
 use Rattle.branch_fix.specs.Parts.{parts_of, starts, marks_from, total}
 use Rattle.branch_fix.specs.Rounds.{distance, rounds}
@@ -21,20 +21,20 @@ use Rattle.branch_fix.specs.Items.{jump_form, items_from}
 abbrev flow : List Flow
 flow = Test 0 3 1 ∷ Assign 1 ∷ Jumped 0 ∷ Ended ∷ []
 
-abbrev field : Term
+abbrev field : ExprModel
 field = slice (word 12) 7 0
 
-abbrev narrow : Term
+abbrev narrow : ExprModel
 narrow = zext (slice (word 12) 1 0) 8
 
-abbrev condition : Term
+abbrev condition : ExprModel
 condition = bin Equal (reg 1 16) (const 16 0)
 
-abbrev jump_rule : Rule
-jump_rule = record { pattern = 2; goal = jumps 256; addr = None; value = field; fields = 255; clobbers = 3; tied = None }
+abbrev jump_form_model : FormModel
+jump_form_model = record { pattern = 2; goal = jumps 256; addr = None; value = field; fields = 255; clobbers = 3; tied = None }
 
-abbrev branch_rule : BranchTarget → Rule
-branch_rule target = record {
+abbrev branch_form_model : TargetModel → FormModel
+branch_form_model target = record {
   pattern = 1;
   goal = branches true target;
   addr = None;
@@ -45,17 +45,17 @@ branch_rule target = record {
 }
 
 -- the words of a flow whose branches go so: one for the test, five for the block
-abbrev laid : BranchTarget → ℕ → List Item
-laid target n = items_from (branch_rule target ∷ jump_rule ∷ []) (jump_form (branch_rule target ∷ jump_rule ∷ []) 256)
-    (starts (rounds (branch_rule target ∷ jump_rule ∷ []) n
-    (parts_of (branch_rule target ∷ jump_rule ∷ []) flow (1 ∷ 5 ∷ []) ((0, 0) ∷ [])))) 0
-    (rounds (branch_rule target ∷ jump_rule ∷ []) n
-    (parts_of (branch_rule target ∷ jump_rule ∷ []) flow (1 ∷ 5 ∷ []) ((0, 0) ∷ [])))
+abbrev laid : TargetModel → ℕ → List Item
+laid target n = items_from (branch_form_model target ∷ jump_form_model ∷ []) (jump_form (branch_form_model target ∷ jump_form_model ∷ []) 256)
+    (starts (rounds (branch_form_model target ∷ jump_form_model ∷ []) n
+    (parts_of (branch_form_model target ∷ jump_form_model ∷ []) flow (1 ∷ 5 ∷ []) ((0, 0) ∷ [])))) 0
+    (rounds (branch_form_model target ∷ jump_form_model ∷ []) n
+    (parts_of (branch_form_model target ∷ jump_form_model ∷ []) flow (1 ∷ 5 ∷ []) ((0, 0) ∷ [])))
 
-abbrev marked_at : BranchTarget → ℕ → List Mark
+abbrev marked_at : TargetModel → ℕ → List Mark
 marked_at target n =
-    marks_from 0 (rounds (branch_rule target ∷ jump_rule ∷ []) n
-    (parts_of (branch_rule target ∷ jump_rule ∷ []) flow (1 ∷ 5 ∷ []) ((0, 0) ∷ [])))
+    marks_from 0 (rounds (branch_form_model target ∷ jump_form_model ∷ []) n
+    (parts_of (branch_form_model target ∷ jump_form_model ∷ []) flow (1 ∷ 5 ∷ []) ((0, 0) ∷ [])))
 
 abbrev to_word : ℕ → ℕ → Item
 to_word pattern setting = Jump (record { pattern = pattern; setting = setting })
@@ -97,8 +97,8 @@ no_round e = cc e
 most_words : bound_of flow (1 ∷ 5 ∷ []) ≡ 11
 most_words = refl
 
-far_total : total (rounds (branch_rule (relative narrow) ∷ jump_rule ∷ []) 1
-    (parts_of (branch_rule (relative narrow) ∷ jump_rule ∷ []) flow (1 ∷ 5 ∷ []) ((0, 0) ∷ [])))
+far_total : total (rounds (branch_form_model (relative narrow) ∷ jump_form_model ∷ []) 1
+    (parts_of (branch_form_model (relative narrow) ∷ jump_form_model ∷ []) flow (1 ∷ 5 ∷ []) ((0, 0) ∷ [])))
     ≡ 11
 far_total = refl
 
@@ -107,14 +107,14 @@ far_total = refl
 abbrev forked : List Flow
 forked = Test 0 1 3 ∷ Assign 1 ∷ Jumped 3 ∷ Ended ∷ []
 
-abbrev forked_laid : BranchTarget → List Item
+abbrev forked_laid : TargetModel → List Item
 forked_laid target =
-    items_from (branch_rule target ∷ jump_rule ∷ [])
-    (jump_form (branch_rule target ∷ jump_rule ∷ []) 256)
-    (starts (rounds (branch_rule target ∷ jump_rule ∷ []) 1
-    (parts_of (branch_rule target ∷ jump_rule ∷ []) forked (1 ∷ 1 ∷ []) ((0, 0) ∷ [])))) 0
-    (rounds (branch_rule target ∷ jump_rule ∷ []) 1
-    (parts_of (branch_rule target ∷ jump_rule ∷ []) forked (1 ∷ 1 ∷ []) ((0, 0) ∷ [])))
+    items_from (branch_form_model target ∷ jump_form_model ∷ [])
+    (jump_form (branch_form_model target ∷ jump_form_model ∷ []) 256)
+    (starts (rounds (branch_form_model target ∷ jump_form_model ∷ []) 1
+    (parts_of (branch_form_model target ∷ jump_form_model ∷ []) forked (1 ∷ 1 ∷ []) ((0, 0) ∷ [])))) 0
+    (rounds (branch_form_model target ∷ jump_form_model ∷ []) 1
+    (parts_of (branch_form_model target ∷ jump_form_model ∷ []) forked (1 ∷ 1 ∷ []) ((0, 0) ∷ [])))
 
 forked_words : forked_laid (absolute field)
     ≡ Group 0 0 ∷ to_word 1 3 ∷ to_word 2 5 ∷ Group 1 0 ∷ to_word 2 5 ∷ to_word 2 5 ∷ []

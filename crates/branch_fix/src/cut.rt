@@ -1,28 +1,28 @@
 //! The parts of a flow.
 
 ghost use Rattle.std.specs.Prelude.{◌≡◌, ◌+◌, ◌<◌, ◌≤◌, ◌==◌, ◌^◌, IfOk, MatchOption, None, Some, length, slice_index, slice_get};
-ghost use Rattle.form_model.specs.Rules.{rule_of, rules_of};
+ghost use Rattle.form_model.specs.Forms.{model_of_form, models_of_forms};
 ghost use Rattle.src_trees.specs.Blocks.{continues};
 ghost use Rattle.branch_fix.specs.Entered.{entered_places};
-ghost use Rattle.branch_fix.specs.Parts.{rule_at_one, branch_or_zero, fork_of, part_for, parts_of, place_blocks, place_tests};
+ghost use Rattle.branch_fix.specs.Parts.{form_at_one, branch_or_zero, fork_of, part_for, parts_of, place_blocks, place_tests};
 
 use crate::begun::{continues, entered};
-use crate::part::{Fork, Part};
+use crate::part::{BranchedTest, LayoutPart};
 use form_model::{Flow, Form, Goal};
 use rec_bits::{Items, NoMemory};
 use std::alloc::Global;
 
 /// The form of this number.
 pub fn form_at(forms: &[Form], form: u64) -> Option<&Form>
-    ensures { MatchOption result (slice_get (rules_of forms.now) form ≡ None) (λ found.
-        slice_get (rules_of forms.now) form ≡ Some (rule_of found.now)) }
+    ensures { MatchOption result (slice_get (models_of_forms forms.now) form ≡ None) (λ found.
+        slice_get (models_of_forms forms.now) form ≡ Some (model_of_form found.now)) }
 {
     forms.get(form as usize)
 }
 
 // Whether a branch form goes to its target where its condition is 1.
 fn at_one(forms: &[Form], form: u64) -> bool
-    ensures { result ≡ rule_at_one (slice_get (rules_of forms.now) form) }
+    ensures { result ≡ form_at_one (slice_get (models_of_forms forms.now) form) }
 {
     match forms.get(form as usize) {
         None => true,
@@ -61,9 +61,9 @@ fn fork(
     at: usize,
     when_one: u32,
     when_zero: u32,
-) -> Part
+) -> LayoutPart
     requires { at < 2 ^ 63 }
-    ensures { result ≡ fork_of (rules_of forms.now) tree block words branch at when_one when_zero }
+    ensures { result ≡ fork_of (models_of_forms forms.now) tree block words branch at when_one when_zero }
 {
     let (form, setting) = branch;
     let (to, other) = if at_one(forms, form) {
@@ -71,7 +71,7 @@ fn fork(
     } else {
         (when_zero, when_one)
     };
-    Part::Test(Fork {
+    LayoutPart::Test(BranchedTest {
         tree,
         block,
         words,
@@ -95,17 +95,17 @@ fn part_for(
     at: usize,
     block: u32,
     test: usize,
-) -> Part
+) -> LayoutPart
     requires at { at < length flow.now }
     requires entered { entered.now ≡ entered_places flow.now }
-    ensures { result ≡ part_for (rules_of forms.now) flow.now sizes.now branches.now place at block test }
+    ensures { result ≡ part_for (models_of_forms forms.now) flow.now sizes.now branches.now place at block test }
 {
     match place {
         Flow::Assign(_) => {
             if continues(flow, entered, at) {
-                Part::Inner
+                LayoutPart::Inner
             } else {
-                Part::Block {
+                LayoutPart::Block {
                     block,
                     words: size_at(sizes, block),
                 }
@@ -125,8 +125,8 @@ fn part_for(
             when_one,
             when_zero,
         ),
-        Flow::Jump(to) => Part::Jump(to),
-        Flow::End => Part::End,
+        Flow::Jump(to) => LayoutPart::Jump(to),
+        Flow::End => LayoutPart::End,
     }
 }
 
@@ -169,8 +169,8 @@ pub fn parts(
     flow: &[Flow],
     sizes: &[u32],
     branches: &[(u64, u64)],
-) -> Result<Items<Part>, NoMemory>
-    ensures { IfOk result (λ parts. parts ≡ parts_of (rules_of forms.now) flow.now sizes.now branches.now) }
+) -> Result<Items<LayoutPart>, NoMemory>
+    ensures { IfOk result (λ parts. parts ≡ parts_of (models_of_forms forms.now) flow.now sizes.now branches.now) }
 {
     let entered = entered(alloc, flow)?;
     let mut parts = Items::new(alloc);

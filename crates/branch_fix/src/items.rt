@@ -1,15 +1,15 @@
 //! The words of parts.
 
 ghost use Rattle.std.specs.Prelude.{◌≡◌, ◌+◌, ◌<◌, ◌^◌, ◌++◌, ◌∷◌, [], IfOk, OnOk};
-ghost use Rattle.form_model.specs.Rules.{rules_of};
+ghost use Rattle.form_model.specs.Forms.{models_of_forms};
 ghost use Rattle.branch_fix.specs.declared.laid.Item.TheVariants.{Jump as Word};
-ghost use Rattle.branch_fix.specs.declared.part.Part.TheVariants.{Test};
+ghost use Rattle.branch_fix.specs.declared.part.LayoutPart.TheVariants.{Test};
 ghost use Rattle.branch_fix.specs.Parts.{room, total};
-ghost use Rattle.branch_fix.specs.Items.{behind, groups, items_from, jump_step, part_items, rule_in};
+ghost use Rattle.branch_fix.specs.Items.{behind, groups, items_from, jump_step, part_items, form_in};
 
 use crate::jumps::{branch_step, jump_step};
 use crate::laid::Item;
-use crate::part::{Fork, Part};
+use crate::part::{BranchedTest, LayoutPart};
 use crate::rooms::{address_at, room};
 use form_model::Form;
 use rec_bits::{Items, NoMemory};
@@ -26,7 +26,7 @@ fn push_groups(items: &mut Items<Item>, block: u32, words: u32) -> Result<(), No
 }
 
 fn push_jump(items: &mut Items<Item>, jump: Option<&Form>, to: u64) -> Result<(), NoMemory>
-    ensures { OnOk result (items.new ≡ items.old ++ Word (jump_step (rule_in jump.entry) to) ∷ []) }
+    ensures { OnOk result (items.new ≡ items.old ++ Word (jump_step (form_in jump.entry) to) ∷ []) }
 {
     let step = jump_step(jump, to)?;
     items.push(Item::Jump(step))?;
@@ -42,7 +42,7 @@ fn push_behind(
     to: u64,
     other: u64,
 ) -> Result<(), NoMemory>
-    ensures { OnOk result (items.new ≡ items.old ++ behind (rule_in jump.entry) next long to other) }
+    ensures { OnOk result (items.new ≡ items.old ++ behind (form_in jump.entry) next long to other) }
 {
     if long {
         push_jump(items, jump, other)?;
@@ -60,11 +60,11 @@ fn push_fork(
     jump: Option<&Form>,
     addresses: &[u64],
     at: u64,
-    fork: Fork,
+    fork: BranchedTest,
 ) -> Result<(), NoMemory>
     requires { at + fork.words < 2 ^ 64 }
     ensures { OnOk result (items.new ≡ items.old
-        ++ part_items (rules_of forms.now) (rule_in jump.entry) addresses.now at (Test fork)) }
+        ++ part_items (models_of_forms forms.now) (form_in jump.entry) addresses.now at (Test fork)) }
 {
     let to = address_at(addresses, fork.to);
     let other = address_at(addresses, fork.other);
@@ -81,18 +81,18 @@ fn push_part(
     jump: Option<&Form>,
     addresses: &[u64],
     at: u64,
-    part: Part,
+    part: LayoutPart,
 ) -> Result<(), NoMemory>
     requires { at + room part < 2 ^ 64 }
     ensures { OnOk result (items.new
-        ≡ items.old ++ part_items (rules_of forms.now) (rule_in jump.entry) addresses.now at part) }
+        ≡ items.old ++ part_items (models_of_forms forms.now) (form_in jump.entry) addresses.now at part) }
 {
     match part {
-        Part::Block { block, words } => push_groups(items, block, words),
-        Part::Inner => Ok(()),
-        Part::Test(fork) => push_fork(items, forms, jump, addresses, at, fork),
-        Part::Jump(to) => push_jump(items, jump, address_at(addresses, to)),
-        Part::End => push_jump(items, jump, at),
+        LayoutPart::Block { block, words } => push_groups(items, block, words),
+        LayoutPart::Inner => Ok(()),
+        LayoutPart::Test(fork) => push_fork(items, forms, jump, addresses, at, fork),
+        LayoutPart::Jump(to) => push_jump(items, jump, address_at(addresses, to)),
+        LayoutPart::End => push_jump(items, jump, at),
     }
 }
 
@@ -102,11 +102,11 @@ pub fn items(
     forms: &[Form],
     jump: Option<&Form>,
     addresses: &[u64],
-    parts: &[Part],
+    parts: &[LayoutPart],
 ) -> Result<Items<Item>, NoMemory>
     requires { total parts.now < 2 ^ 64 }
     ensures { IfOk result (λ items.
-        items ≡ items_from (rules_of forms.now) (rule_in jump.entry) addresses.now 0 parts.now) }
+        items ≡ items_from (models_of_forms forms.now) (form_in jump.entry) addresses.now 0 parts.now) }
 {
     let mut items = Items::new(alloc);
     let mut address = 0;

@@ -1,13 +1,13 @@
 //! Jump and branch words.
 
 ghost use Rattle.std.specs.Prelude.{◌≡◌, IfOk, MatchOption, None, Some, bit_or, slice_get, unwrap_or};
-ghost use Rattle.net_model.specs.Terms.{term_of};
-ghost use Rattle.form_model.specs.Rules.{kind_of, rule_of, rules_of};
+ghost use Rattle.net_model.specs.Exprs.{model_of_expr};
+ghost use Rattle.form_model.specs.Forms.{model_of_goal, model_of_form, models_of_forms};
 ghost use Rattle.form_model.specs.Shapes.{shape_setting};
-ghost use Rattle.branch_fix.specs.Items.{branch_step, jump_form, jump_step, kind_setting, reaches, rule_in};
+ghost use Rattle.branch_fix.specs.Items.{branch_step, jump_form, jump_step, goal_setting, reaches, form_in};
 
 use crate::cut::form_at;
-use crate::part::Fork;
+use crate::part::BranchedTest;
 use crate::widen::distance;
 use form_model::{Form, Goal, Step, Target};
 use net_model::Expr;
@@ -15,7 +15,7 @@ use rec_bits::NoMemory;
 use tree_grammar::setting_of;
 
 fn reaches(form: &Form, reach: u64) -> bool
-    ensures { result ≡ reaches (kind_of form.now.goal) reach }
+    ensures { result ≡ reaches (model_of_goal form.now.goal) reach }
 {
     match &form.goal {
         Goal::Jump { reach: own } => *own == reach,
@@ -25,8 +25,8 @@ fn reaches(form: &Form, reach: u64) -> bool
 
 /// The first jump form of this reach.
 pub fn jump_form(forms: &[Form], reach: u64) -> Option<&Form>
-    ensures { MatchOption result (jump_form (rules_of forms.now) reach ≡ None) (λ form.
-        jump_form (rules_of forms.now) reach ≡ Some (rule_of form.now)) }
+    ensures { MatchOption result (jump_form (models_of_forms forms.now) reach ≡ None) (λ form.
+        jump_form (models_of_forms forms.now) reach ≡ Some (model_of_form form.now)) }
 {
     for form in forms {
         if reaches(form, reach) {
@@ -38,7 +38,7 @@ pub fn jump_form(forms: &[Form], reach: u64) -> Option<&Form>
 
 // The bits that give a field shape a value, and none where it doesn't show it.
 fn setting(shape: &Expr, value: u64) -> Result<u64, NoMemory>
-    ensures { IfOk result (λ bits. bits ≡ unwrap_or (shape_setting (term_of shape.now) value) 0) }
+    ensures { IfOk result (λ bits. bits ≡ unwrap_or (shape_setting (model_of_expr shape.now) value) 0) }
 {
     let bits = setting_of(shape, value)?;
     Ok(bits.unwrap_or(0))
@@ -46,7 +46,7 @@ fn setting(shape: &Expr, value: u64) -> Result<u64, NoMemory>
 
 // The bits of a branch form's target; a branch of three words goes two words on.
 fn kind_setting(form: &Form, from: u64, to: u64, long: bool) -> Result<u64, NoMemory>
-    ensures { IfOk result (λ bits. bits ≡ kind_setting (kind_of form.now.goal) from to long) }
+    ensures { IfOk result (λ bits. bits ≡ goal_setting (model_of_goal form.now.goal) from to long) }
 {
     match &form.goal {
         Goal::Branch {
@@ -68,9 +68,9 @@ fn kind_setting(form: &Form, from: u64, to: u64, long: bool) -> Result<u64, NoMe
 }
 
 /// The branch word of a test, from an address to another.
-pub fn branch_step(forms: &[Form], fork: Fork, from: u64, to: u64) -> Result<Step, NoMemory>
+pub fn branch_step(forms: &[Form], fork: BranchedTest, from: u64, to: u64) -> Result<Step, NoMemory>
     ensures { IfOk result (λ step. step
-        ≡ branch_step (slice_get (rules_of forms.now) fork.form) fork.setting from to fork.long) }
+        ≡ branch_step (slice_get (models_of_forms forms.now) fork.form) fork.setting from to fork.long) }
 {
     match form_at(forms, fork.form) {
         None => Ok(Step {
@@ -89,7 +89,7 @@ pub fn branch_step(forms: &[Form], fork: Fork, from: u64, to: u64) -> Result<Ste
 
 /// The jump word to an address.
 pub fn jump_step(jump: Option<&Form>, to: u64) -> Result<Step, NoMemory>
-    ensures { IfOk result (λ step. step ≡ jump_step (rule_in jump.entry) to) }
+    ensures { IfOk result (λ step. step ≡ jump_step (form_in jump.entry) to) }
 {
     match jump {
         None => Ok(Step {

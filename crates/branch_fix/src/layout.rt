@@ -1,7 +1,7 @@
 //! The layout of code.
 
 ghost use Rattle.std.specs.Prelude.{◌≡◌, ◌+◌, ◌<◌, ◌≤◌, ◌^◌, IfOk, IfErr};
-ghost use Rattle.form_model.specs.Rules.{rules_of};
+ghost use Rattle.form_model.specs.Forms.{models_of_forms};
 ghost use Rattle.branch_fix.specs.Parts.{parts_of, starts, marks_from, total};
 ghost use Rattle.branch_fix.specs.Rounds.{IsFixpoint};
 ghost use Rattle.branch_fix.specs.Bounds.{control_words, sum_of};
@@ -14,7 +14,7 @@ use crate::items::items;
 use crate::jumps::jump_form;
 use crate::laid::Laid;
 use crate::marks::marks;
-use crate::part::Part;
+use crate::part::LayoutPart;
 use crate::rooms::{starts, total};
 use crate::widen::settled;
 use form_model::{Flow, Form, Forms};
@@ -22,10 +22,10 @@ use rec_bits::{Items, NoMemory};
 use std::alloc::Global;
 
 // The words and the marks of parts.
-fn lay(alloc: Global, forms: &[Form], reach: u64, parts: &[Part]) -> Result<Laid, NoMemory>
+fn lay(alloc: Global, forms: &[Form], reach: u64, parts: &[LayoutPart]) -> Result<Laid, NoMemory>
     requires { total parts.now < 2 ^ 64 }
     ensures items { IfOk result (λ laid. laid.items
-        ≡ items_from (rules_of forms.now) (jump_form (rules_of forms.now) reach) (starts parts.now) 0 parts.now) }
+        ≡ items_from (models_of_forms forms.now) (jump_form (models_of_forms forms.now) reach) (starts parts.now) 0 parts.now) }
     ensures marks { IfOk result (λ laid. laid.marks ≡ marks_from 0 parts.now) }
 {
     let jump = jump_form(forms, reach);
@@ -42,10 +42,10 @@ fn settled_parts(
     flow: &[Flow],
     sizes: &[u32],
     branches: &[(u64, u64)],
-) -> Result<Items<Part>, NoMemory>
+) -> Result<Items<LayoutPart>, NoMemory>
     requires { sum_of sizes.now + control_words flow.now < 2 ^ 64 }
-    ensures { IfOk result (λ last. IsFixpoint (rules_of forms.now)
-        (parts_of (rules_of forms.now) flow.now sizes.now branches.now) last) }
+    ensures { IfOk result (λ last. IsFixpoint (models_of_forms forms.now)
+        (parts_of (models_of_forms forms.now) flow.now sizes.now branches.now) last) }
 {
     let first = parts(alloc, forms, flow, sizes, branches)?;
     settled(alloc, forms, first)

@@ -3,7 +3,7 @@
 ghost use Rattle.std.specs.Prelude.{◌≡◌, ◌+◌, ◌<◌, ◌^◌, ◌++◌, ◌∷◌, [], IfOk, OnOk};
 ghost use Rattle.branch_fix.specs.Parts.{marks_from, own_marks, room, total};
 
-use crate::part::Part;
+use crate::part::LayoutPart;
 use crate::rooms::room;
 use code_model::Mark;
 use rec_bits::{Items, NoMemory};
@@ -24,19 +24,19 @@ fn push_mark(marks: &mut Items<Mark>, at: u64, label: Option<u32>) -> Result<(),
 }
 
 // Adds the mark of a part at an address, if it has one.
-fn push_own(marks: &mut Items<Mark>, at: u64, part: Part) -> Result<(), NoMemory>
+fn push_own(marks: &mut Items<Mark>, at: u64, part: LayoutPart) -> Result<(), NoMemory>
     requires { at + room part < 2 ^ 64 }
     ensures { OnOk result (marks.new ≡ marks.old ++ own_marks at part) }
 {
     match part {
-        Part::Test(fork) => push_mark(marks, at, Some(fork.tree)),
-        Part::End => push_mark(marks, at, None),
+        LayoutPart::Test(fork) => push_mark(marks, at, Some(fork.tree)),
+        LayoutPart::End => push_mark(marks, at, None),
         _ => Ok(()),
     }
 }
 
 /// The marks of parts.
-pub fn marks(alloc: Global, parts: &[Part]) -> Result<Items<Mark>, NoMemory>
+pub fn marks(alloc: Global, parts: &[LayoutPart]) -> Result<Items<Mark>, NoMemory>
     requires { total parts.now < 2 ^ 64 }
     ensures { IfOk result (λ marks. marks ≡ marks_from 0 parts.now) }
 {

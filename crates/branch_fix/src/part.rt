@@ -2,7 +2,7 @@
 
 /// A test with its branch.
 #[derive(Clone, Copy, PartialEq, Eq)]
-pub struct Fork {
+pub struct BranchedTest {
     /// The number of its tree.
     pub tree: u32,
     /// The number of its operands' block, and the words of that.
@@ -23,13 +23,13 @@ pub struct Fork {
 
 /// What stands at a place of a flow.
 #[derive(Clone, Copy, PartialEq, Eq)]
-pub enum Part {
+pub enum LayoutPart {
     /// A block of assignments that begins here, by its number, with its words.
     Block { block: u32, words: u32 },
     /// An assignment of the block that began before.
     Inner,
     /// A test.
-    Test(Fork),
+    Test(BranchedTest),
     /// A jump to this place.
     Jump(u32),
     /// The end.

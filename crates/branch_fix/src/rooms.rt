@@ -3,7 +3,7 @@
 ghost use Rattle.std.specs.Prelude.{◌≡◌, ◌+◌, ◌<◌, ◌≤◌, ◌^◌, IfOk, slice_index};
 ghost use Rattle.branch_fix.specs.Parts.{branch_words, room, starts, total};
 
-use crate::part::Part;
+use crate::part::LayoutPart;
 use rec_bits::{Items, NoMemory};
 use std::alloc::Global;
 
@@ -22,19 +22,19 @@ fn branch_words(next: bool, long: bool) -> u64
 }
 
 /// The words of a part.
-pub fn room(part: Part) -> u64
+pub fn room(part: LayoutPart) -> u64
     ensures { result ≡ room part }
 {
     match part {
-        Part::Block { words, .. } => u64::from(words),
-        Part::Inner => 0,
-        Part::Test(fork) => u64::from(fork.words) + branch_words(fork.next, fork.long),
-        Part::Jump(_) | Part::End => 1,
+        LayoutPart::Block { words, .. } => u64::from(words),
+        LayoutPart::Inner => 0,
+        LayoutPart::Test(fork) => u64::from(fork.words) + branch_words(fork.next, fork.long),
+        LayoutPart::Jump(_) | LayoutPart::End => 1,
     }
 }
 
 /// The number of words of parts.
-pub fn total(parts: &[Part]) -> u64
+pub fn total(parts: &[LayoutPart]) -> u64
     requires { total parts.now < 2 ^ 64 }
     ensures { result ≡ total parts.now }
 {
@@ -46,7 +46,7 @@ pub fn total(parts: &[Part]) -> u64
 }
 
 /// The addresses of parts, and of the end behind them.
-pub fn starts(alloc: Global, parts: &[Part]) -> Result<Items<u64>, NoMemory>
+pub fn starts(alloc: Global, parts: &[LayoutPart]) -> Result<Items<u64>, NoMemory>
     requires { total parts.now < 2 ^ 64 }
     ensures { IfOk result (λ addresses. addresses ≡ starts parts.now) }
 {

@@ -1,4 +1,5 @@
--- How clocks lead from state to state.
+-- How clocks lead from state to state. A word that keeps the mode; clocks that lead from a state
+-- in mode 0 at one address to such a state at another (`IsCalm` of `Machine`).
 use Rattle.std.specs.Prelude.{ℕ, zero, suc, ◌≡◌, None}
 use Rattle.net_model.specs.declared.hardware.Netlist.{Netlist}
 use Rattle.net_model.specs.declared.states.State.{State}

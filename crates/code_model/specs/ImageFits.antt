@@ -1,4 +1,6 @@
--- When an image fits a netlist.
+-- When an image fits a netlist: names are names, numbers lie below 2^32, marks ascend and none
+-- follows the end, the patterns of a word ascend, and the words are as wide and at most as many as
+-- its code has them.
 use Rattle.std.specs.Prelude.{ℕ, ◌+◌, ◌^◌, ◌<◌, ◌≤◌, ◌≡◌, true, List, [], ◌∷◌, length, Option, Some, None}
 use Rattle.std.specs.List.{AllByRecursion}
 use Rattle.net_model.specs.declared.hardware.Netlist.{Netlist}

@@ -1,4 +1,7 @@
 -- Which bytes are the text of an image that fits a netlist, and where other bytes are at fault.
+-- Bytes are an image's text where they are what is written of it and it fits; otherwise the fault
+-- is at the first line such that those before it begin the text of an image that fits and with it
+-- they don't.
 use Rattle.std.specs.Prelude.{ℕ, ◌≡◌, List, [], ◌∷◌, ◌++◌, length, Some, slice_get}
 use Rattle.std.specs.List.{concat}
 use Rattle.rec_bits.specs.declared.fault.ParseFault.{ParseFault}

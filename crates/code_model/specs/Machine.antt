@@ -1,4 +1,7 @@
--- What a netlist that is clocked on an image's words shows at the marked addresses.
+-- What a netlist that is clocked on an image's words shows at the marked addresses. From a state,
+-- over so many clocks, those states are seen whose program counter is a marked address, with
+-- cycle, label and the store at the places, up to the first at the end mark; it is a clash where a
+-- clock before that clashes.
 use Rattle.std.specs.Prelude.{ℕ, zero, suc, List, [], ◌∷◌, ◌+◌, ◌≡◌, Option, Some, None}
 use Rattle.net_model.specs.declared.hardware.Netlist.{Netlist}
 use Rattle.net_model.specs.declared.states.State.{State}

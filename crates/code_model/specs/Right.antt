@@ -1,4 +1,11 @@
--- When an image is right code: its layout and its trace.
+-- When an image is right code: its layout and its trace. It *traces right* where for every start
+-- state in mode 0 and every m, the trace over m image lengths isn't a clash and its first m
+-- entries are the source's, the first within one image length and each later one within one more
+-- of the one before; each state that is reached at a mark is in mode 0; and from each reached
+-- state at the end mark on, no clock clashes, the store stays and so does the mode. Of a netlist
+-- without a mode register this says nothing of modes, since its mode is always 0. All of it is
+-- said over a function that finds the store in a state (`TracesBy`); that of one memory is the
+-- store at the places (`TracesRight`).
 use Rattle.std.specs.Prelude.{ℕ, List, [], ◌∷◌, ◌+◌, ◌*◌, ◌≡◌, ◌≤◌, length, take, Some}
 use Rattle.net_model.specs.declared.hardware.Netlist.{Netlist}
 use Rattle.net_model.specs.declared.states.State.{State}

@@ -3,7 +3,7 @@ use Rattle.std.proofs.Common.{◌≡◌, ℕ, ◌&&◌, ◌==◌, Bool, true, fa
 use Rattle.std.proofs.lemmas.Bool.{true≢false, eqb-false, ne_eqb, or_from, or_parts, and_from, and_parts}
 use Rattle.net_model.specs.declared.hardware.Space.{Space}
 use Rattle.net_model.specs.declared.hardware.Space.TheVariants.{Memory as InMemory, File as InFile}
-use Rattle.net_model.specs.Terms.{Term, Move, keep, write, write_at}
+use Rattle.net_model.specs.Exprs.{ExprModel, TransferModel, keep, write, write_at}
 use Rattle.net_model.specs.Symbolic.{no_state}
 use Rattle.net_model.specs.Meaning.{mean}
 use Rattle.form_model.specs.Shapes.{is_shape}
@@ -31,28 +31,28 @@ unseen_other false true v w = refl
 unseen_other false false v w = refl
 
 -- a step of these parts
-abbrev pub step : ℕ → Space → Move → ℕ → Operation
+abbrev pub step : ℕ → Space → TransferModel → ℕ → Operation
 step storage space move setting = record { storage = storage; space = space; move = move; setting = setting }
 
-stores_sym : (a b : ℕ) (s t : Space) (c v d w : Term) (i j : ℕ) → same_destination (step a s (write_at c v) i) (step b t (write_at d w) j) ≡ false → same_destination (step b t (write_at d w) j) (step a s (write_at c v) i) ≡ false
+stores_sym : (a b : ℕ) (s t : Space) (c v d w : ExprModel) (i j : ℕ) → same_destination (step a s (write_at c v) i) (step b t (write_at d w) j) ≡ false → same_destination (step b t (write_at d w) j) (step a s (write_at c v) i) ≡ false
 stores_sym a b InMemory InMemory c v d w i j e = absurd (true≢false e)
 stores_sym a b InMemory InFile c v d w i j e = unseen_other (is_shape d) (is_shape c) (mean d no_state j) (mean c no_state i)
 stores_sym a b InFile InMemory c v d w i j e = refl
 stores_sym a b InFile InFile c v d w i j e = seen_sym InFile (is_shape c) (is_shape d) (mean c no_state i) (mean d no_state j) e
 
-move_sym : (a b : ℕ) (s t : Space) (p q : Move) (i j : ℕ) → same_destination (step a s p i) (step b t q j) ≡ false → same_destination (step b t q j) (step a s p i) ≡ false
-move_sym a b s t (write_at c v) (write_at d w) i j e = stores_sym a b s t c v d w i j e
-move_sym a b s t (write_at c v) keep i j e = refl
-move_sym a b s t (write_at c v) (write w) i j e = refl
-move_sym a b s t keep (write_at d w) i j e = refl
-move_sym a b s t (write v) (write_at d w) i j e = refl
-move_sym a b s t keep keep i j e = ne_eqb b a (λ k. eqb-false a b e (sym k))
-move_sym a b s t keep (write w) i j e = ne_eqb b a (λ k. eqb-false a b e (sym k))
-move_sym a b s t (write v) keep i j e = ne_eqb b a (λ k. eqb-false a b e (sym k))
-move_sym a b s t (write v) (write w) i j e = ne_eqb b a (λ k. eqb-false a b e (sym k))
+transfer_sym : (a b : ℕ) (s t : Space) (p q : TransferModel) (i j : ℕ) → same_destination (step a s p i) (step b t q j) ≡ false → same_destination (step b t q j) (step a s p i) ≡ false
+transfer_sym a b s t (write_at c v) (write_at d w) i j e = stores_sym a b s t c v d w i j e
+transfer_sym a b s t (write_at c v) keep i j e = refl
+transfer_sym a b s t (write_at c v) (write w) i j e = refl
+transfer_sym a b s t keep (write_at d w) i j e = refl
+transfer_sym a b s t (write v) (write_at d w) i j e = refl
+transfer_sym a b s t keep keep i j e = ne_eqb b a (λ k. eqb-false a b e (sym k))
+transfer_sym a b s t keep (write w) i j e = ne_eqb b a (λ k. eqb-false a b e (sym k))
+transfer_sym a b s t (write v) keep i j e = ne_eqb b a (λ k. eqb-false a b e (sym k))
+transfer_sym a b s t (write v) (write w) i j e = ne_eqb b a (λ k. eqb-false a b e (sym k))
 
 same_destination_sym : (p q : Operation) → same_destination p q ≡ false → same_destination q p ≡ false
-same_destination_sym p q e = move_sym p.storage q.storage p.space q.space p.move q.move p.setting q.setting e
+same_destination_sym p q e = transfer_sym p.storage q.storage p.space q.space p.move q.move p.setting q.setting e
 
 not_true : (b : Bool) → not b ≡ true → b ≡ false
 not_true true e = absurd (true≢false (sym e))

@@ -6,27 +6,27 @@ use Rattle.net_model.specs.declared.states.State.{State}
 use Rattle.net_model.specs.declared.hardware.Space.{Space}
 use Rattle.net_model.specs.declared.hardware.Space.TheVariants.{Memory as InMemory, File as InFile}
 use Rattle.net_model.specs.MemoryText.{with_cell}
-use Rattle.net_model.specs.Terms.{Term, Move, keep, write, write_at}
+use Rattle.net_model.specs.Exprs.{ExprModel, TransferModel, keep, write, write_at}
 use Rattle.net_model.specs.Meaning.{mean}
-use Rattle.form_model.specs.Effects.{Operation, location_of, term_reads, move_reads, reads, apply_move, apply_operation, apply_all, group_effect, groups_effect, steps_effect, same_destination}
+use Rattle.form_model.specs.Effects.{Operation, location_of, expr_reads, transfer_reads, reads, apply_transfer, apply_operation, apply_all, group_effect, groups_effect, steps_effect, same_destination}
 use Rattle.form_model.specs.Live.{singles}
 use Rattle.compaction.specs.Packing.{reads_from, reads_across, shares_destination}
 use Rattle.compaction.proofs.Apart.{addresses_differ, mean_apart}
 use Rattle.compaction.proofs.Differing.{step}
 
 -- a transfer that doesn't read the destination of another finds the values that stood before it
-move_apart : (move : Move) (storage : ℕ) (space : Space) (setting : ℕ) (q : Operation) (o n k : State) → move_reads setting move (location_of q) ≡ false → apply_move storage space move setting (apply_operation q o n) k ≡ apply_move storage space move setting n k
-move_apart keep storage space setting q o n k e = refl
-move_apart (write v) storage space setting q o n k e =
+transfer_apart : (move : TransferModel) (storage : ℕ) (space : Space) (setting : ℕ) (q : Operation) (o n k : State) → transfer_reads setting move (location_of q) ≡ false → apply_transfer storage space move setting (apply_operation q o n) k ≡ apply_transfer storage space move setting n k
+transfer_apart keep storage space setting q o n k e = refl
+transfer_apart (write v) storage space setting q o n k e =
     ap (λ x. let s : State = record { regs = slice_set k.regs storage x; cells = k.cells; file = k.file } in s) (mean_apart v setting q.storage q.space q.setting q.move o n e)
-move_apart (write_at a v) storage space setting q o n k e =
-    let p : (term_reads setting a (location_of q) ≡ false) × (term_reads setting v (location_of q) ≡ false) = or_parts _ _ e in
+transfer_apart (write_at a v) storage space setting q o n k e =
+    let p : (expr_reads setting a (location_of q) ≡ false) × (expr_reads setting v (location_of q) ≡ false) = or_parts _ _ e in
     let f = mean_apart a setting q.storage q.space q.setting q.move o n p.0 in
     let g = mean_apart v setting q.storage q.space q.setting q.move o n p.1 in
     ap (λ x. with_cell k space x (mean v (apply_operation q o n) setting)) f ∙ ap (λ x. with_cell k space (mean a n setting) x) g
 
 apply_apart : (p q : Operation) (o n k : State) → reads p (location_of q) ≡ false → apply_operation p (apply_operation q o n) k ≡ apply_operation p n k
-apply_apart p q o n k e = move_apart p.move p.storage p.space p.setting q o n k e
+apply_apart p q o n k e = transfer_apart p.move p.storage p.space p.setting q o n k e
 
 module _ {A : Type 0} (m : A → Operation) where
   apply_from : (p : Operation) (g : List A) (o n k : State) → reads_from m p g ≡ false → apply_operation p (apply_all m g o n) k ≡ apply_operation p n k
@@ -66,7 +66,7 @@ put_write : (n : State) (space : Space) (x y q z : ℕ) → with_cell (with_reg 
 put_write n InMemory x y q z = refl
 put_write n InFile x y q z = refl
 
-put_comm : (a b : ℕ) (s t : Space) (c v d w : Term) (i j : ℕ) (o n : State) → same_destination (step a s (write_at c v) i) (step b t (write_at d w) j) ≡ false
+put_comm : (a b : ℕ) (s t : Space) (c v d w : ExprModel) (i j : ℕ) (o n : State) → same_destination (step a s (write_at c v) i) (step b t (write_at d w) j) ≡ false
     → with_cell (with_cell n t (mean d o j) (mean w o j)) s (mean c o i) (mean v o i) ≡ with_cell (with_cell n s (mean c o i) (mean v o i)) t (mean d o j) (mean w o j)
 put_comm a b InMemory InMemory c v d w i j o n e = absurd (true≢false e)
 put_comm a b InMemory InFile c v d w i j o n e = refl
@@ -75,18 +75,18 @@ put_comm a b InFile InFile c v d w i j o n e =
     ap (λ (z : List ℕ). let s : State = record { regs = n.regs; cells = n.cells; file = z } in s)
     (set_comm n.file (mean d o j) (mean c o i) (mean w o j) (mean v o i) (λ k. addresses_differ InFile i c o j d o e (sym k)))
 
-move_comm : (a b : ℕ) (s t : Space) (p q : Move) (i j : ℕ) (o n : State) → same_destination (step a s p i) (step b t q j) ≡ false → apply_move a s p i o (apply_move b t q j o n) ≡ apply_move b t q j o (apply_move a s p i o n)
-move_comm a b s t keep q i j o n e = refl
-move_comm a b s t (write v) keep i j o n e = refl
-move_comm a b s t (write_at c v) keep i j o n e = refl
-move_comm a b s t (write v) (write w) i j o n e =
+transfer_comm : (a b : ℕ) (s t : Space) (p q : TransferModel) (i j : ℕ) (o n : State) → same_destination (step a s p i) (step b t q j) ≡ false → apply_transfer a s p i o (apply_transfer b t q j o n) ≡ apply_transfer b t q j o (apply_transfer a s p i o n)
+transfer_comm a b s t keep q i j o n e = refl
+transfer_comm a b s t (write v) keep i j o n e = refl
+transfer_comm a b s t (write_at c v) keep i j o n e = refl
+transfer_comm a b s t (write v) (write w) i j o n e =
     ap (λ (z : List ℕ). let s : State = record { regs = z; cells = n.cells; file = n.file } in s) (set_comm n.regs b a (mean w o j) (mean v o i) (λ k. eqb-false a b e (sym k)))
-move_comm a b s t (write v) (write_at d w) i j o n e = sym (put_write n t (mean d o j) (mean w o j) a (mean v o i))
-move_comm a b s t (write_at c v) (write w) i j o n e = put_write n s (mean c o i) (mean v o i) b (mean w o j)
-move_comm a b s t (write_at c v) (write_at d w) i j o n e = put_comm a b s t c v d w i j o n e
+transfer_comm a b s t (write v) (write_at d w) i j o n e = sym (put_write n t (mean d o j) (mean w o j) a (mean v o i))
+transfer_comm a b s t (write_at c v) (write w) i j o n e = put_write n s (mean c o i) (mean v o i) b (mean w o j)
+transfer_comm a b s t (write_at c v) (write_at d w) i j o n e = put_comm a b s t c v d w i j o n e
 
 apply_comm : (p q : Operation) (o n : State) → same_destination p q ≡ false → apply_operation p o (apply_operation q o n) ≡ apply_operation q o (apply_operation p o n)
-apply_comm p q o n e = move_comm p.storage q.storage p.space q.space p.move q.move p.setting q.setting o n e
+apply_comm p q o n e = transfer_comm p.storage q.storage p.space q.space p.move q.move p.setting q.setting o n e
 
 module _ {A : Type 0} (m : A → Operation) where
   -- a step may be done first, before others of its group

@@ -2,8 +2,8 @@
 use Rattle.std.proofs.Common.{◌≡◌, ℕ, ◌||◌, ◌&&◌, inl, inr, Bool, true, false, not, List, [], ◌∷◌, ◌++◌, refl, sym, ◌∙◌, ap, subst, append_assoc}
 use Rattle.std.proofs.lemmas.Bool.{true≢false, eqb-true, or_cases, or_from, or_parts}
 use Rattle.net_model.specs.declared.hardware.Space.{Space}
-use Rattle.net_model.specs.Terms.{Move, keep, write, write_at}
-use Rattle.form_model.specs.Effects.{Operation, register, location_of, move_location, reads, move_writes, writes, groups_effect}
+use Rattle.net_model.specs.Exprs.{TransferModel, keep, write, write_at}
+use Rattle.form_model.specs.Effects.{Operation, register, location_of, transfer_location, reads, transfer_writes, writes, groups_effect}
 use Rattle.form_model.specs.Live.{Regs, group_reads, group_writes, live_before}
 use Rattle.std.specs.List.Sorted.{IsPermutation}
 use Rattle.std.proofs.lemmas.List.Sorted.{IsPermutation-refl, IsPermutation-sym, IsPermutation-trans, IsPermutation-append_left, IsPermutation-append_right, IsPermutation-middle}
@@ -15,13 +15,13 @@ pub or-assoc : (a b c : Bool) → (a || (b || c)) ≡ ((a || b) || c)
 or-assoc true b c = refl
 or-assoc false b c = refl
 
-move_spot_written : (p : Operation) (storage : ℕ) (space : Space) (setting : ℕ) (move : Move) (r : ℕ) → move_writes storage move r ≡ true → reads p (move_location storage space setting move) ≡ false → reads p (register r) ≡ false
-move_spot_written p storage space setting keep r w e = absurd (true≢false (sym w))
-move_spot_written p storage space setting (write v) r w e = subst (λ k. reads p (register k) ≡ false) (eqb-true storage r w) e
-move_spot_written p storage space setting (write_at a v) r w e = absurd (true≢false (sym w))
+transfer_spot_written : (p : Operation) (storage : ℕ) (space : Space) (setting : ℕ) (move : TransferModel) (r : ℕ) → transfer_writes storage move r ≡ true → reads p (transfer_location storage space setting move) ≡ false → reads p (register r) ≡ false
+transfer_spot_written p storage space setting keep r w e = absurd (true≢false (sym w))
+transfer_spot_written p storage space setting (write v) r w e = subst (λ k. reads p (register k) ≡ false) (eqb-true storage r w) e
+transfer_spot_written p storage space setting (write_at a v) r w e = absurd (true≢false (sym w))
 
 written_spot : (p q : Operation) (r : ℕ) → writes q r ≡ true → reads p (location_of q) ≡ false → reads p (register r) ≡ false
-written_spot p q r w e = move_spot_written p q.storage q.space q.setting q.move r w e
+written_spot p q r w e = transfer_spot_written p q.storage q.space q.setting q.move r w e
 
 merge_bits : (a b c d f : Bool) → (b ≡ true → c ≡ false) → (a || ((c || (f && not d)) && not b)) ≡ ((a || c) || (f && not (b || d)))
 merge_bits true b c d f h = refl

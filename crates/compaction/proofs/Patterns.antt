@@ -9,7 +9,7 @@ use Rattle.form_model.specs.declared.forms.Step.{Step}
 use Rattle.net_model.specs.declared.hardware.Netlist.{Netlist}
 use Rattle.net_model.specs.declared.hardware.Space.{Space}
 use Rattle.net_model.specs.declared.hardware.Space.TheVariants.{Memory as InMemory, File as InFile}
-use Rattle.net_model.specs.Terms.{Move, keep, write, write_at}
+use Rattle.net_model.specs.Exprs.{TransferModel, keep, write, write_at}
 use Rattle.net_model.specs.Symbolic.{no_state}
 use Rattle.net_model.specs.Meaning.{mean}
 use Rattle.form_model.specs.Shapes.{is_shape}
@@ -26,7 +26,7 @@ seen_self true v = eq-eqb v v refl
 seen_self false v = refl
 
 -- a step has its own destination
-own : (storage : ℕ) (space : Space) (move : Move) (setting : ℕ) → same_destination (step storage space move setting) (step storage space move setting) ≡ true
+own : (storage : ℕ) (space : Space) (move : TransferModel) (setting : ℕ) → same_destination (step storage space move setting) (step storage space move setting) ≡ true
 own storage space keep setting = eq-eqb storage storage refl
 own storage space (write e) setting = eq-eqb storage storage refl
 own storage InMemory (write_at a e) setting = refl

@@ -1,4 +1,5 @@
--- Which packing is written, where several are right.
+-- Which packing is written, where several are right: from the front two neighbours are merged, or
+-- else the first movable step moves; after a change it goes on one group back.
 use Rattle.std.specs.Prelude.{◌≡◌, ℕ, ◌+◌, ◌-◌, ◌<◌, ◌≤◌, suc, List, [], ◌∷◌, ◌++◌, length, slice_get, remove, Some}
 use Rattle.form_model.specs.Effects.{Operation}
 use Rattle.form_model.specs.Live.{Regs, live_before}

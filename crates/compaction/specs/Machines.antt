@@ -1,10 +1,12 @@
--- The same over a netlist with a table of its patterns, as the packer has them.
+-- The same over a netlist with a table of its patterns, as the packer has them. What the packer
+-- keeps, and the words that it has found for groups. `Worked` computes which steps meet;
+-- `proofs/WorkedPacking` has groups that may be merged and that may not, packings and lists.
 use Rattle.std.specs.Prelude.{ℕ, List}
 use Rattle.bit_bdd.specs.Diagrams.{Diagrams}
 use Rattle.net_model.specs.declared.hardware.Netlist.{Netlist}
 use Rattle.sym_expr.specs.declared.pool.Node.{Node}
 use Rattle.transfer_set.specs.Ready.{IsReady}
-use Rattle.transfer_set.specs.Tables.{Table}
+use Rattle.transfer_set.specs.Tables.{PatternTable}
 use Rattle.form_model.specs.declared.forms.Step.{Step}
 use Rattle.form_model.specs.Effects.{Operation}
 use Rattle.form_model.specs.Live.{Regs}
@@ -31,11 +33,11 @@ IsReadyFor machine book = IsReady machine.checked.now.netlist book machine.pool.
 -- ---- the result, over a netlist and a table of its patterns
 
 -- no two of the groups may be merged, and no step may move
-abbrev pub ArePacked : Netlist → List Node → Table → Regs → List (List Step) → Type 0
+abbrev pub ArePacked : Netlist → List Node → PatternTable → Regs → List (List Step) → Type 0
 ArePacked netlist pool table after gs =
     IsPacked (step_operation pool table) (fits_over netlist (step_operation pool table)) after gs
 
 -- they are those that are written
-abbrev pub IsWritten : Netlist → List Node → Table → Regs → List (List Step) → List (List Step) → Type 0
+abbrev pub IsWritten : Netlist → List Node → PatternTable → Regs → List (List Step) → List (List Step) → Type 0
 IsWritten netlist pool table after gs result =
     Packs (step_operation pool table) (fits_over netlist (step_operation pool table)) after 0 gs result

@@ -1,4 +1,6 @@
--- What a packing of steps has to leave, at its clocks.
+-- What a packing of steps has to leave, at its clocks. Groups mean steps where any words that fit
+-- the groups, clocked in order from any state, don't clash and leave in the memory and in the live
+-- registers what the steps leave one after the other; all other registers may differ.
 use Rattle.std.specs.Prelude.{ℕ, ◌+◌, ◌^◌, ◌≤◌, List, length}
 use Rattle.net_model.specs.declared.hardware.Netlist.{Netlist}
 use Rattle.net_model.specs.declared.states.State.{State}

@@ -1,4 +1,13 @@
--- Groups that may be merged, steps that may move up, and lists of groups that are packed.
+-- Groups that may be merged, steps that may move up, and lists of groups that are packed. Two
+-- neighbours may be *merged* where the destinations of their steps all differ, no step of the
+-- second reads a destination of the first, and some word fits them together (`Mergeable`); reads
+-- and writes of the memory at two settled addresses that differ don't meet, nor do those of the
+-- register file at two cells. Two stores have one destination, the memory; two writes of the file
+-- have one only where their cells may be the same. A step that isn't alone in its group may *move*
+-- to the group before where its destination is none of that group's, it reads none of them, none
+-- of those that it leaves reads its own (`IsFree`), and words fit both groups after the move, with
+-- the registers that are live then (`Movable`). A list is *packed* where no two neighbours may be
+-- merged and no step may move (`IsPacked`).
 use Rattle.std.specs.Prelude.{◌≡◌, ℕ, ◌+◌, ◌≤◌, true, false, Bool, ◌||◌, ◌&&◌, not, List, [], ◌∷◌, ◌++◌, length, slice_get, remove, Some}
 use Rattle.std.specs.List.{AllByRecursion}
 use Rattle.form_model.specs.Effects.{Operation, location_of, reads, same_destination}

@@ -3,13 +3,13 @@ use Rattle.std.specs.Prelude.{◌≡◌, ℕ, ◌<◌, Bool, false, List, length
 use Rattle.std.specs.List.{slice_index_or}
 use Rattle.net_model.specs.Occurs.{has_read}
 use Rattle.sym_expr.specs.declared.pool.Node.{Node}
-use Rattle.sym_expr.specs.Pools.{term_at}
+use Rattle.sym_expr.specs.Pools.{expr_of_id}
 use Rattle.live_sets.specs.Reading.{AreReads}
 use Rattle.compaction.specs.declared.machine.Machine.{Machine}
 
 -- for each of the first ids of a pool whether its expression reads the memory or the file
 abbrev pub AreReaders : List Node → List Bool → Type 0
-AreReaders pool flags = (id : ℕ) → id < length flags → slice_index_or flags id false ≡ has_read (term_at pool id)
+AreReaders pool flags = (id : ℕ) → id < length flags → slice_index_or flags id false ≡ has_read (expr_of_id pool id)
 
 -- for each expression of the pool the registers below 16 that it reads, and whether it reads the
 -- memory or the file

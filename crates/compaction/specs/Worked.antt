@@ -1,7 +1,7 @@
 -- Worked steps: which of them read what others write, and which have one destination.
 use Rattle.std.specs.Prelude.{◌≡◌, ℕ, true, false, [], ◌∷◌, refl}
 use Rattle.net_model.specs.declared.hardware.Space.TheVariants.{Memory as InMemory, File as InFile}
-use Rattle.net_model.specs.Terms.{word, reg, read, slice, write, write_at}
+use Rattle.net_model.specs.Exprs.{word, reg, read, slice, write, write_at}
 use Rattle.form_model.specs.Effects.{Operation}
 use Rattle.compaction.specs.Packing.{all_differ, is_read_by, reads_across, shares_destination}
 

@@ -1,7 +1,7 @@
 //! A netlist with its patterns.
 
 ghost use Rattle.std.specs.Prelude.{◌≡◌};
-ghost use Rattle.net_model.specs.Occurs.{move_has_read};
+ghost use Rattle.net_model.specs.Occurs.{transfer_has_read};
 ghost use Rattle.compaction.specs.Machines.{operation_in};
 ghost use Rattle.compaction.specs.Inner.Machines.{HasTables};
 
@@ -26,7 +26,7 @@ pub struct Machine<'a> {
 /// Whether a step reads the memory or the file.
 pub(crate) fn reads_memory(machine: &Machine<'_>, step: Step) -> bool
     requires { HasTables machine.now }
-    ensures { result ≡ move_has_read (operation_in machine.now step).move }
+    ensures { result ≡ transfer_has_read (operation_in machine.now step).move }
 {
     match machine.patterns.expr_of(step.pattern) {
         None => false,

@@ -19,7 +19,7 @@ use crate::change::{Change, change_of};
 use crate::copies::singles;
 use crate::machine::Machine;
 use crate::tables::tables_of;
-use crate::words::words_of;
+use crate::words::group_words;
 use bit_bdd::Book;
 use form_model::{RegSet, Step};
 use live_sets::{live_between, live_with};
@@ -195,7 +195,7 @@ fn packed(
         &mut found,
         after,
     )?;
-    let words = words_of(alloc, machine, book, &groups, &lives, &found, after)?;
+    let words = group_words(alloc, machine, book, &groups, &lives, &found, after)?;
     Ok(PackedBlock {
         groups: Items::from_vec(groups),
         words,

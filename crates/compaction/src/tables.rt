@@ -2,7 +2,7 @@
 
 ghost use Rattle.std.specs.Prelude.{◌≡◌, ◌<◌, length, IfOk};
 ghost use Rattle.net_model.specs.Occurs.{has_read};
-ghost use Rattle.sym_expr.specs.Pools.{term_at};
+ghost use Rattle.sym_expr.specs.Pools.{expr_of_id};
 ghost use Rattle.compaction.specs.Tables.{AreReaders, AreTables};
 
 use form_model::RegSet;
@@ -24,7 +24,7 @@ fn node_reads_memory(pool: &Pool, flags: &[bool], id: ExprId) -> bool
     requires within { id < length pool.now }
     requires long { length flags.now ≡ id }
     requires readers { AreReaders pool.now flags.now }
-    ensures { result ≡ has_read (term_at pool.now id) }
+    ensures { result ≡ has_read (expr_of_id pool.now id) }
 {
     match pool.node(id) {
         Node::Word(_) | Node::Const { .. } | Node::Reg(..) => false,

@@ -48,7 +48,7 @@ fn word_of(
 
 /// For each group the least word that fits it with the registers that are live behind it, which
 /// `lives` has; `found` has the words that were found already.
-pub(crate) fn words_of(
+pub(crate) fn group_words(
     alloc: Global,
     machine: &Machine<'_>,
     book: &mut Book,

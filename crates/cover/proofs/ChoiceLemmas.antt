@@ -3,20 +3,20 @@ use Rattle.std.proofs.Common.{◌≡◌, ◌≢◌, ℕ, ◌+◌, ◌-◌, ◌<�
 use Rattle.std.specs.Prelude.{slice_get, remove, IfSome, IfNone}
 use Rattle.std.proofs.lemmas.Bool.{cases_eq, cases_lt}
 use Rattle.std.proofs.lemmas.Option.{slice_get_within}
-use Rattle.net_model.specs.Terms.{Term}
-use Rattle.form_model.specs.Matches.{Found}
-use Rattle.form_model.specs.Plans.{Plan, use_form, Operands, no_operands, operand_then, Cuts, no_cuts, cut_then, cost, operands_cost, cuts_cost}
-use Rattle.form_model.specs.Covers.{Stock, Operand, operands_of, cuts_of, IsBefore, CutsBefore, SamePlaces}
+use Rattle.net_model.specs.Exprs.{ExprModel}
+use Rattle.form_model.specs.Matches.{MatchModel}
+use Rattle.form_model.specs.CoverModels.{CoverModel, use_form, CoverOperandsModel, no_operands, operand_then, CoverCutsModel, no_cuts, cut_then, cost, operands_cost, cuts_cost}
+use Rattle.form_model.specs.Covers.{StockModel, Operand, operands_of, cuts_of, IsBefore, CutsBefore, SamePlaces}
 use Rattle.cover.specs.declared.limits.Limits.{Limits}
-use Rattle.cover.specs.Inner.Asks.{free, Ask, operand_ask, cut_ask, after, takes, IsSparing, AreSparing, AreStored}
+use Rattle.cover.specs.Inner.Subgoals.{free, SubgoalModel, operand_subgoal, cut_subgoal, after, takes, IsSparing, AreSparing, AreStored}
 use Rattle.cover.specs.Inner.Least.{IsLeast, IsLeastForm, IsLeastOrder, IsLeastCut}
 use Rattle.cover.specs.Inner.Choice.{Fits, NeverBegins, Starts, StartsCut, IsFirst, OrderBefore, IsFirstOrder, IsFirstCuts}
 use Rattle.cover.proofs.LeastLemmas.{some_of, some_form}
 
-pub cost_pos : (p : Plan) → 0 < cost p
+pub cost_pos : (p : CoverModel) → 0 < cost p
 cost_pos (use_form k ps cs) = omega arith
 
-same_places : (ps : Operands) → SamePlaces ps ps
+same_places : (ps : CoverOperandsModel) → SamePlaces ps ps
 same_places no_operands = tt
 same_places (operand_then i p ps) = (refl, same_places ps)
 
@@ -27,13 +27,13 @@ pub same_some : {o : Option ℕ} {m n : ℕ} → o ≡ Some m → o ≡ Some n �
 same_some e f = cc
 
 -- the least cost of the covers by a form whose parts are known
-pub fits_least : (stock : Stock) (limits : Limits) (ask : Ask) (k : ℕ) (inputs : List Operand) (stored : List Term) (a b : ℕ) → Fits stock limits ask k inputs stored a b → IsLeastForm stock limits ask k (Some (1 + a + b))
+pub fits_least : (stock : StockModel) (limits : Limits) (ask : SubgoalModel) (k : ℕ) (inputs : List Operand) (stored : List ExprModel) (a b : ℕ) → Fits stock limits ask k inputs stored a b → IsLeastForm stock limits ask k (Some (1 + a + b))
 fits_least stock limits ask k inputs stored a b f =
     some_form stock limits ask k f.rule f.found (Some a) (Some b) f.listed f.spared f.takes_it
     (subst (λ l. IsLeastOrder stock limits l (Some a)) f.operands_are f.order) (subst (λ l. IsLeastCut stock l (Some b)) f.cuts_are f.cut)
 
 -- a form whose least cost differs from the least cost of all begins no cover of that cost
-pub never_by : (stock : Stock) (limits : Limits) (ask : Ask) (n k : ℕ) (o : Option ℕ) → IsLeast stock limits ask (Some n) → IsLeastForm stock limits ask k o → ((m : ℕ) → o ≡ Some m → m ≢ n) → NeverBegins stock limits ask n k
+pub never_by : (stock : StockModel) (limits : Limits) (ask : SubgoalModel) (n k : ℕ) (o : Option ℕ) → IsLeast stock limits ask (Some n) → IsLeastForm stock limits ask k o → ((m : ℕ) → o ≡ Some m → m ≢ n) → NeverBegins stock limits ask n k
 never_by stock limits ask n k None least is differ = λ ps cs sparing e. is.least ps cs sparing
 never_by stock limits ask n k (Some m) least is differ = λ ps cs sparing e.
     let le = is.least ps cs sparing in
@@ -41,21 +41,21 @@ never_by stock limits ask n k (Some m) least is differ = λ ps cs sparing e.
     let ge = least.least (use_form k ps0 cs0) sparing0 in
     differ m refl (omega (arith, le, ge, e, e0))
 
-module _ (stock : Stock) (limits : Limits) (ask : Ask) (n : ℕ) (least : IsLeast stock limits ask (Some n)) where
+module _ (stock : StockModel) (limits : Limits) (ask : SubgoalModel) (n : ℕ) (least : IsLeast stock limits ask (Some n)) where
   pub cover_exists : ((j : ℕ) → j < length stock.rules → NeverBegins stock limits ask n j) → ⊥
   cover_exists none = go least.reached.0 least.reached.1 least.reached.2
     where
-      go : (p : Plan) → IsSparing stock limits ask p → cost p ≡ n → ⊥
+      go : (p : CoverModel) → IsSparing stock limits ask p → cost p ≡ n → ⊥
       go (use_form j ps cs) (rule, get, spared, found, is, orders, stored) e = none j (slice_get_within stock.rules j rule get) ps cs (rule, get, spared, found, is, orders, stored) e
 
   -- parts of one form's covers, compared
-  join : (k l : ℕ) (ps qs : Operands) (cs ds : Cuts) → k ≡ l → (ps ≡ qs) ⊎ OrderBefore ps qs → (cs ≡ ds) ⊎ CutsBefore cs ds → (use_form k ps cs ≡ use_form l qs ds) ⊎ IsBefore (use_form k ps cs) (use_form l qs ds)
+  join : (k l : ℕ) (ps qs : CoverOperandsModel) (cs ds : CoverCutsModel) → k ≡ l → (ps ≡ qs) ⊎ OrderBefore ps qs → (cs ≡ ds) ⊎ CutsBefore cs ds → (use_form k ps cs ≡ use_form l qs ds) ⊎ IsBefore (use_form k ps cs) (use_form l qs ds)
   join k l ps qs cs ds at (inl e) (inl f) = inl (cc)
   join k l ps qs cs ds at (inl e) (inr b) = inr (inr (at, inr (subst (SamePlaces ps) e (same_places ps), inr (e, b))))
   join k l ps qs cs ds at (inr (inl s)) c = inr (inr (at, inl s))
   join k l ps qs cs ds at (inr (inr (same, b))) c = inr (inr (at, inr (same, inl b)))
 
-  pub first_by_form : (k : ℕ) (inputs : List Operand) (stored : List Term) (a b : ℕ) (ps : Operands) (cs : Cuts) → ((j : ℕ) → j < k → NeverBegins stock limits ask n j) → Fits stock limits ask k inputs stored a b → 1 + a + b ≡ n → IsFirstOrder stock limits inputs ps → IsFirstCuts stock stored cs → IsFirst stock limits ask (use_form k ps cs)
+  pub first_by_form : (k : ℕ) (inputs : List Operand) (stored : List ExprModel) (a b : ℕ) (ps : CoverOperandsModel) (cs : CoverCutsModel) → ((j : ℕ) → j < k → NeverBegins stock limits ask n j) → Fits stock limits ask k inputs stored a b → 1 + a + b ≡ n → IsFirstOrder stock limits inputs ps → IsFirstCuts stock stored cs → IsFirst stock limits ask (use_form k ps cs)
   first_by_form k inputs stored a b ps cs earlier fits sum order cuts = record {
     sparing = (fits.rule, fits.listed, fits.spared, fits.found, fits.takes_it, subst (λ l. AreSparing stock limits l ps) fits.operands_are order.sparing, subst (λ l. AreStored stock l cs) fits.cuts_are cuts.covered);
     first = go;
@@ -73,7 +73,7 @@ module _ (stock : Stock) (limits : Limits) (ask : Ask) (n : ℕ) (least : IsLeas
           let h = fits.cut.least cs cuts.covered in
           elim (cuts.first cs0 stored0) [ inl lt ↦ omega (arith, lt, h, e0) | inr eq ↦ (let e = eq.0 in omega (arith, e, e0)) ]
 
-      at_same : (l : ℕ) (qs : Operands) (ds : Cuts) → k ≡ l → AreSparing stock limits inputs qs → AreStored stock stored ds → (cost (use_form k ps cs) < cost (use_form l qs ds)) ⊎ ((cost (use_form k ps cs) ≡ cost (use_form l qs ds)) × ((use_form k ps cs ≡ use_form l qs ds) ⊎ IsBefore (use_form k ps cs) (use_form l qs ds)))
+      at_same : (l : ℕ) (qs : CoverOperandsModel) (ds : CoverCutsModel) → k ≡ l → AreSparing stock limits inputs qs → AreStored stock stored ds → (cost (use_form k ps cs) < cost (use_form l qs ds)) ⊎ ((cost (use_form k ps cs) ≡ cost (use_form l qs ds)) × ((use_form k ps cs ≡ use_form l qs ds) ⊎ IsBefore (use_form k ps cs) (use_form l qs ds)))
       at_same l qs ds same orders stored' =
           let la = fits.order.least qs orders in
           let lb = fits.cut.least ds stored' in
@@ -87,7 +87,7 @@ module _ (stock : Stock) (limits : Limits) (ask : Ask) (n : ℕ) (least : IsLeas
             ]
           ]
 
-      go : (q : Plan) → IsSparing stock limits ask q → (cost (use_form k ps cs) < cost q) ⊎ ((cost (use_form k ps cs) ≡ cost q) × ((use_form k ps cs ≡ q) ⊎ IsBefore (use_form k ps cs) q))
+      go : (q : CoverModel) → IsSparing stock limits ask q → (cost (use_form k ps cs) < cost q) ⊎ ((cost (use_form k ps cs) ≡ cost q) × ((use_form k ps cs ≡ q) ⊎ IsBefore (use_form k ps cs) q))
       go (use_form l qs ds) (rule, get, spared, found, is, orders, stored') =
           let all = least.least (use_form l qs ds) (rule, get, spared, found, is, orders, stored') in
           let ea = cost_a in
@@ -100,8 +100,8 @@ module _ (stock : Stock) (limits : Limits) (ask : Ask) (n : ℕ) (least : IsLeas
                   let is' : takes stock fits.rule ask ≡ Some found = subst (λ r. takes stock r ask ≡ Some found) e is in
                   let e' : found ≡ fits.found = (let x = fits.takes_it in cc) in
                   at_same l qs ds same
-                  (subst (λ x. AreSparing stock limits x qs) (sym fits.operands_are) (subst (λ (f : Found). AreSparing stock limits (operands_of f.sites) qs) e' orders))
-                  (subst (λ x. AreStored stock x ds) (sym fits.cuts_are) (subst (λ (f : Found). AreStored stock (cuts_of f.sites) ds) e' stored')))
+                  (subst (λ x. AreSparing stock limits x qs) (sym fits.operands_are) (subst (λ (f : MatchModel). AreSparing stock limits (operands_of f.sites) qs) e' orders))
+                  (subst (λ x. AreStored stock x ds) (sym fits.cuts_are) (subst (λ (f : MatchModel). AreStored stock (cuts_of f.sites) ds) e' stored')))
               | inr other ↦ elim (cases_eq (1 + operands_cost ps + cuts_cost cs) (1 + operands_cost qs + cuts_cost ds)) [
                 | inl equal ↦ inr (equal, inr (inl (omega arith)))
                 | inr differ ↦ inl (omega (arith, all, ea, eb, sum, differ))
@@ -109,40 +109,40 @@ module _ (stock : Stock) (limits : Limits) (ask : Ask) (n : ℕ) (least : IsLeas
             ]
           ]
 
-module _ (stock : Stock) (limits : Limits) (ops : List Operand) (n : ℕ) (least : IsLeastOrder stock limits ops (Some n)) where
-  pub first_of_sum : (i : ℕ) (o : Operand) (a b r : Option ℕ) → slice_get ops i ≡ Some o → IsLeast stock limits (operand_ask o) a → IsLeastOrder stock (after limits o.home) (remove ops i) b → IfSome r (λ m. (a ≡ Some m) × (m ≤ n) × (b ≡ Some (n - m))) → IfNone r ((j k : ℕ) → a ≡ Some j → b ≡ Some k → j + k ≢ n) → Starts stock limits ops n i r
+module _ (stock : StockModel) (limits : Limits) (ops : List Operand) (n : ℕ) (least : IsLeastOrder stock limits ops (Some n)) where
+  pub first_of_sum : (i : ℕ) (o : Operand) (a b r : Option ℕ) → slice_get ops i ≡ Some o → IsLeast stock limits (operand_subgoal o) a → IsLeastOrder stock (after limits o.home) (remove ops i) b → IfSome r (λ m. (a ≡ Some m) × (m ≤ n) × (b ≡ Some (n - m))) → IfNone r ((j k : ℕ) → a ≡ Some j → b ≡ Some k → j + k ≢ n) → Starts stock limits ops n i r
   first_of_sum i o a b (Some m) get la lb (ea, le, eb) no_sum =
-      let la' : IsLeast stock limits (operand_ask o) (Some m) = subst (IsLeast stock limits (operand_ask o)) ea la in
+      let la' : IsLeast stock limits (operand_subgoal o) (Some m) = subst (IsLeast stock limits (operand_subgoal o)) ea la in
       let lb' : IsLeastOrder stock (after limits o.home) (remove ops i) (Some (n - m)) = subst (IsLeastOrder stock (after limits o.home) (remove ops i)) eb lb in
       let (p, sparing, e) = la'.reached in
       (o, get, (let h = cost_pos p in omega (arith, h, e)), le, la', lb')
   first_of_sum i o a b None get la lb some differ = λ p ps (o', get', sparing, orders) e.
       let same : o' ≡ o = cc in
-      let (j, ej, lj) = some_of a (cost p) (la.least p (subst (λ x. IsSparing stock limits (operand_ask x) p) same sparing)) in
+      let (j, ej, lj) = some_of a (cost p) (la.least p (subst (λ x. IsSparing stock limits (operand_subgoal x) p) same sparing)) in
       let (k, ek, lk) = some_of b (operands_cost ps) (lb.least ps (subst (λ (x : Operand). AreSparing stock (after limits x.home) (remove ops i) ps) same orders)) in
-      let la' : IsLeast stock limits (operand_ask o) (Some j) = subst (IsLeast stock limits (operand_ask o)) ej la in
+      let la' : IsLeast stock limits (operand_subgoal o) (Some j) = subst (IsLeast stock limits (operand_subgoal o)) ej la in
       let lb' : IsLeastOrder stock (after limits o.home) (remove ops i) (Some k) = subst (IsLeastOrder stock (after limits o.home) (remove ops i)) ek lb in
       let (p0, sparing0, e0) = la'.reached in
       let (ps0, orders0, f0) = lb'.reached in
       let all = least.least (operand_then i p0 ps0) (o, get, sparing0, orders0) in
       differ j k ej ek (omega (arith, all, e0, f0, lj, lk, e))
 
-  pub order_exists : 0 < length ops → ((j : ℕ) (p : Plan) (ps : Operands) → j < length ops → AreSparing stock limits ops (operand_then j p ps) → cost p + operands_cost ps ≢ n) → ⊥
+  pub order_exists : 0 < length ops → ((j : ℕ) (p : CoverModel) (ps : CoverOperandsModel) → j < length ops → AreSparing stock limits ops (operand_then j p ps) → cost p + operands_cost ps ≢ n) → ⊥
   order_exists some none = go least.reached.0 least.reached.1 least.reached.2
     where
-      go : (ps : Operands) → AreSparing stock limits ops ps → operands_cost ps ≡ n → ⊥
+      go : (ps : CoverOperandsModel) → AreSparing stock limits ops ps → operands_cost ps ≡ n → ⊥
       go no_operands empty e = let h = ap length empty in absurd (omega (arith, h, some))
       go (operand_then j p ps) (o, get, sparing, orders) e = none j p ps (slice_get_within ops j o get) (o, get, sparing, orders) e
 
   -- the same first operand: the rest decides
-  combine : (i j : ℕ) (p q : Plan) (ps qs : Operands) → i ≡ j → (p ≡ q) ⊎ IsBefore p q → (ps ≡ qs) ⊎ OrderBefore ps qs → (operand_then i p ps ≡ operand_then j q qs) ⊎ OrderBefore (operand_then i p ps) (operand_then j q qs)
+  combine : (i j : ℕ) (p q : CoverModel) (ps qs : CoverOperandsModel) → i ≡ j → (p ≡ q) ⊎ IsBefore p q → (ps ≡ qs) ⊎ OrderBefore ps qs → (operand_then i p ps ≡ operand_then j q qs) ⊎ OrderBefore (operand_then i p ps) (operand_then j q qs)
   combine i j p q ps qs at (inl e) (inl e') = inl (cc)
   combine i j p q ps qs at (inr b) (inl e') = inr (inr ((at, subst (SamePlaces ps) e' (same_places ps)), inl b))
   combine i j p q ps qs at h (inr (inl sooner)) = inr (inl (inr (at, sooner)))
   combine i j p q ps qs at (inl e) (inr (inr (same, before))) = inr (inr ((at, same), inr (e, before)))
   combine i j p q ps qs at (inr b) (inr (inr (same, before))) = inr (inr ((at, same), inl b))
 
-  pub first_by_operand : (i m : ℕ) (o : Operand) (p : Plan) (ps : Operands) → ((j : ℕ) (q : Plan) (qs : Operands) → j < i → AreSparing stock limits ops (operand_then j q qs) → cost q + operands_cost qs ≢ n) → slice_get ops i ≡ Some o → m ≤ n → IsLeast stock limits (operand_ask o) (Some m) → IsLeastOrder stock (after limits o.home) (remove ops i) (Some (n - m)) → IsFirst stock limits (operand_ask o) p → IsFirstOrder stock (after limits o.home) (remove ops i) ps → IsFirstOrder stock limits ops (operand_then i p ps)
+  pub first_by_operand : (i m : ℕ) (o : Operand) (p : CoverModel) (ps : CoverOperandsModel) → ((j : ℕ) (q : CoverModel) (qs : CoverOperandsModel) → j < i → AreSparing stock limits ops (operand_then j q qs) → cost q + operands_cost qs ≢ n) → slice_get ops i ≡ Some o → m ≤ n → IsLeast stock limits (operand_subgoal o) (Some m) → IsLeastOrder stock (after limits o.home) (remove ops i) (Some (n - m)) → IsFirst stock limits (operand_subgoal o) p → IsFirstOrder stock (after limits o.home) (remove ops i) ps → IsFirstOrder stock limits ops (operand_then i p ps)
   first_by_operand i m o p ps earlier get le la lb fp fps = record { sparing = (o, get, fp.sparing, fps.sparing); first = go }
     where
       cost_p : cost p ≡ m
@@ -157,10 +157,10 @@ module _ (stock : Stock) (limits : Limits) (ops : List Operand) (n : ℕ) (least
           let h = lb.least ps fps.sparing in
           elim (fps.first ps0 orders0) [ inl lt ↦ omega (arith, lt, h, e0) | inr eq ↦ (let e = eq.0 in omega (arith, e, e0)) ]
 
-      at_same : (j : ℕ) (q : Plan) (qs : Operands) (o' : Operand) → i ≡ j → slice_get ops j ≡ Some o' → IsSparing stock limits (operand_ask o') q → AreSparing stock (after limits o'.home) (remove ops j) qs → (cost p + operands_cost ps < cost q + operands_cost qs) ⊎ ((cost p + operands_cost ps ≡ cost q + operands_cost qs) × ((operand_then i p ps ≡ operand_then j q qs) ⊎ OrderBefore (operand_then i p ps) (operand_then j q qs)))
+      at_same : (j : ℕ) (q : CoverModel) (qs : CoverOperandsModel) (o' : Operand) → i ≡ j → slice_get ops j ≡ Some o' → IsSparing stock limits (operand_subgoal o') q → AreSparing stock (after limits o'.home) (remove ops j) qs → (cost p + operands_cost ps < cost q + operands_cost qs) ⊎ ((cost p + operands_cost ps ≡ cost q + operands_cost qs) × ((operand_then i p ps ≡ operand_then j q qs) ⊎ OrderBefore (operand_then i p ps) (operand_then j q qs)))
       at_same j q qs o' same get' sparing orders =
           let e : o' ≡ o = (let g : slice_get ops i ≡ Some o' = subst (λ x. slice_get ops x ≡ Some o') (sym same) get' in cc) in
-          let sparing' : IsSparing stock limits (operand_ask o) q = subst (λ x. IsSparing stock limits (operand_ask x) q) e sparing in
+          let sparing' : IsSparing stock limits (operand_subgoal o) q = subst (λ x. IsSparing stock limits (operand_subgoal x) q) e sparing in
           let orders' : AreSparing stock (after limits o.home) (remove ops i) qs =
           subst (λ (x : Operand). AreSparing stock (after limits x.home) (remove ops i) qs) e (subst (λ x. AreSparing stock (after limits o'.home) (remove ops x) qs) (sym same) orders) in
           let hp = la.least q sparing' in
@@ -175,7 +175,7 @@ module _ (stock : Stock) (limits : Limits) (ops : List Operand) (n : ℕ) (least
             ]
           ]
 
-      go : (qs : Operands) → AreSparing stock limits ops qs → (cost p + operands_cost ps < operands_cost qs) ⊎ ((cost p + operands_cost ps ≡ operands_cost qs) × ((operand_then i p ps ≡ qs) ⊎ OrderBefore (operand_then i p ps) qs))
+      go : (qs : CoverOperandsModel) → AreSparing stock limits ops qs → (cost p + operands_cost ps < operands_cost qs) ⊎ ((cost p + operands_cost ps ≡ operands_cost qs) × ((operand_then i p ps ≡ qs) ⊎ OrderBefore (operand_then i p ps) qs))
       go no_operands empty = absurd (let h = slice_get_within ops i o get in let l = ap length empty in omega (arith, h, l))
       go (operand_then j q qs) (o', get', sparing, orders) =
           let all = least.least (operand_then j q qs) (o', get', sparing, orders) in
@@ -192,47 +192,47 @@ module _ (stock : Stock) (limits : Limits) (ops : List Operand) (n : ℕ) (least
             ]
           ]
 
-pub forms_later : (stock : Stock) (limits : Limits) (ask : Ask) (n k : ℕ) → ((j : ℕ) → j < k → NeverBegins stock limits ask n j) → NeverBegins stock limits ask n k → (j : ℕ) → j < k + 1 → NeverBegins stock limits ask n j
+pub forms_later : (stock : StockModel) (limits : Limits) (ask : SubgoalModel) (n k : ℕ) → ((j : ℕ) → j < k → NeverBegins stock limits ask n j) → NeverBegins stock limits ask n k → (j : ℕ) → j < k + 1 → NeverBegins stock limits ask n j
 forms_later stock limits ask n k earlier here j lt = elim (cases_eq j k) [
   | inl same ↦ subst (NeverBegins stock limits ask n) (sym same) here
   | inr other ↦ earlier j (omega arith)
 ]
 
-pub operands_later : (stock : Stock) (limits : Limits) (ops : List Operand) (n i : ℕ) → ((j : ℕ) (p : Plan) (ps : Operands) → j < i → AreSparing stock limits ops (operand_then j p ps) → cost p + operands_cost ps ≢ n) → Starts stock limits ops n i None → (j : ℕ) (p : Plan) (ps : Operands) → j < i + 1 → AreSparing stock limits ops (operand_then j p ps) → cost p + operands_cost ps ≢ n
+pub operands_later : (stock : StockModel) (limits : Limits) (ops : List Operand) (n i : ℕ) → ((j : ℕ) (p : CoverModel) (ps : CoverOperandsModel) → j < i → AreSparing stock limits ops (operand_then j p ps) → cost p + operands_cost ps ≢ n) → Starts stock limits ops n i None → (j : ℕ) (p : CoverModel) (ps : CoverOperandsModel) → j < i + 1 → AreSparing stock limits ops (operand_then j p ps) → cost p + operands_cost ps ≢ n
 operands_later stock limits ops n i earlier here j p ps lt orders = elim (cases_eq j i) [
   | inl same ↦ here p ps (subst (λ x. AreSparing stock limits ops (operand_then x p ps)) same orders)
   | inr other ↦ earlier j p ps (omega arith) orders
 ]
 
-pub empty_first : (stock : Stock) (limits : Limits) (ops : List Operand) → ops ≡ [] → IsFirstOrder stock limits ops no_operands
+pub empty_first : (stock : StockModel) (limits : Limits) (ops : List Operand) → ops ≡ [] → IsFirstOrder stock limits ops no_operands
 empty_first stock limits ops e = record { sparing = e; first = go }
   where
-    go : (qs : Operands) → AreSparing stock limits ops qs → (0 < operands_cost qs) ⊎ ((0 ≡ operands_cost qs) × ((no_operands ≡ qs) ⊎ OrderBefore no_operands qs))
+    go : (qs : CoverOperandsModel) → AreSparing stock limits ops qs → (0 < operands_cost qs) ⊎ ((0 ≡ operands_cost qs) × ((no_operands ≡ qs) ⊎ OrderBefore no_operands qs))
     go no_operands empty = inr (refl, inl refl)
     go (operand_then j q qs) (o, get, sparing, orders) = absurd (let h = slice_get_within ops j o get in let l = ap length e in omega (arith, h, l))
 
 -- ---- cuts
 
-pub empty_cuts : (stock : Stock) (ts : List Term) → ts ≡ [] → IsFirstCuts stock ts no_cuts
+pub empty_cuts : (stock : StockModel) (ts : List ExprModel) → ts ≡ [] → IsFirstCuts stock ts no_cuts
 empty_cuts stock ts e = record { covered = e; first = go }
   where
-    go : (ds : Cuts) → AreStored stock ts ds → (0 < cuts_cost ds) ⊎ ((0 ≡ cuts_cost ds) × ((no_cuts ≡ ds) ⊎ CutsBefore no_cuts ds))
+    go : (ds : CoverCutsModel) → AreStored stock ts ds → (0 < cuts_cost ds) ⊎ ((0 ≡ cuts_cost ds) × ((no_cuts ≡ ds) ⊎ CutsBefore no_cuts ds))
     go no_cuts empty = inr (refl, inl refl)
     go (cut_then q ds) (t, us, f, sparing, stored) = absurd (cc)
 
 -- the first cut's least cost is a part of the least cost of all
-pub starts_cut : (stock : Stock) (t : Term) (ts : List Term) (n : ℕ) (a : Option ℕ) → IsLeastCut stock (t ∷ ts) (Some n) → IsLeast stock (free stock) (cut_ask t) a → (m : ℕ) × (a ≡ Some m) × StartsCut stock (t ∷ ts) n m
+pub starts_cut : (stock : StockModel) (t : ExprModel) (ts : List ExprModel) (n : ℕ) (a : Option ℕ) → IsLeastCut stock (t ∷ ts) (Some n) → IsLeast stock (free stock) (cut_subgoal t) a → (m : ℕ) × (a ≡ Some m) × StartsCut stock (t ∷ ts) n m
 starts_cut stock t ts n a least la = go least.reached.0 least.reached.1 least.reached.2
   where
-    go : (cs : Cuts) → AreStored stock (t ∷ ts) cs → cuts_cost cs ≡ n → (m : ℕ) × (a ≡ Some m) × StartsCut stock (t ∷ ts) n m
+    go : (cs : CoverCutsModel) → AreStored stock (t ∷ ts) cs → cuts_cost cs ≡ n → (m : ℕ) × (a ≡ Some m) × StartsCut stock (t ∷ ts) n m
     go no_cuts e f = absurd (cc)
     go (cut_then p cs) (u, us, e, sparing, stored) f =
         let same : u ≡ t = cc in
         let same' : us ≡ ts = cc in
-        let sparing' : IsSparing stock (free stock) (cut_ask t) p = subst (λ x. IsSparing stock (free stock) (cut_ask x) p) same sparing in
+        let sparing' : IsSparing stock (free stock) (cut_subgoal t) p = subst (λ x. IsSparing stock (free stock) (cut_subgoal x) p) same sparing in
         let stored' : AreStored stock ts cs = subst (λ x. AreStored stock x cs) same' stored in
         let (m, em, le) = some_of a (cost p) (la.least p sparing') in
-        let la' : IsLeast stock (free stock) (cut_ask t) (Some m) = subst (IsLeast stock (free stock) (cut_ask t)) em la in
+        let la' : IsLeast stock (free stock) (cut_subgoal t) (Some m) = subst (IsLeast stock (free stock) (cut_subgoal t)) em la in
         let (p0, sparing0, e0) = la'.reached in
         let all = least.least (cut_then p0 cs) (t, ts, refl, sparing0, stored') in (
           m,
@@ -248,7 +248,7 @@ starts_cut stock t ts n a least la = go least.reached.0 least.reached.1 least.re
           ),
         )
 
-pub first_by_cut : (stock : Stock) (t : Term) (ts : List Term) (n m : ℕ) (p : Plan) (cs : Cuts) → StartsCut stock (t ∷ ts) n m → IsFirst stock (free stock) (cut_ask t) p → IsFirstCuts stock ts cs → IsFirstCuts stock (t ∷ ts) (cut_then p cs)
+pub first_by_cut : (stock : StockModel) (t : ExprModel) (ts : List ExprModel) (n m : ℕ) (p : CoverModel) (cs : CoverCutsModel) → StartsCut stock (t ∷ ts) n m → IsFirst stock (free stock) (cut_subgoal t) p → IsFirstCuts stock ts cs → IsFirstCuts stock (t ∷ ts) (cut_then p cs)
 first_by_cut stock t ts n m p cs (some, le, la, lb) fp fcs = record { covered = (t, ts, refl, fp.sparing, fcs.covered); first = go }
   where
     cost_p : cost p ≡ m
@@ -263,17 +263,17 @@ first_by_cut stock t ts n m p cs (some, le, la, lb) fp fcs = record { covered = 
         let h = lb.least cs fcs.covered in
         elim (fcs.first cs0 stored0) [ inl lt ↦ omega (arith, lt, h, e0) | inr eq ↦ (let e = eq.0 in omega (arith, e, e0)) ]
 
-    pair : (q : Plan) (ds : Cuts) → (p ≡ q) ⊎ IsBefore p q → (cs ≡ ds) ⊎ CutsBefore cs ds → (cut_then p cs ≡ cut_then q ds) ⊎ CutsBefore (cut_then p cs) (cut_then q ds)
+    pair : (q : CoverModel) (ds : CoverCutsModel) → (p ≡ q) ⊎ IsBefore p q → (cs ≡ ds) ⊎ CutsBefore cs ds → (cut_then p cs ≡ cut_then q ds) ⊎ CutsBefore (cut_then p cs) (cut_then q ds)
     pair q ds (inl e) (inl f) = inl (cc)
     pair q ds (inl e) (inr b) = inr (inr (e, b))
     pair q ds (inr b) c = inr (inl b)
 
-    go : (ds : Cuts) → AreStored stock (t ∷ ts) ds → (cost p + cuts_cost cs < cuts_cost ds) ⊎ ((cost p + cuts_cost cs ≡ cuts_cost ds) × ((cut_then p cs ≡ ds) ⊎ CutsBefore (cut_then p cs) ds))
+    go : (ds : CoverCutsModel) → AreStored stock (t ∷ ts) ds → (cost p + cuts_cost cs < cuts_cost ds) ⊎ ((cost p + cuts_cost cs ≡ cuts_cost ds) × ((cut_then p cs ≡ ds) ⊎ CutsBefore (cut_then p cs) ds))
     go no_cuts e = absurd (cc)
     go (cut_then q ds) (u, us, e, sparing, stored) =
         let same : u ≡ t = cc in
         let same' : us ≡ ts = cc in
-        let sparing' : IsSparing stock (free stock) (cut_ask t) q = subst (λ x. IsSparing stock (free stock) (cut_ask x) q) same sparing in
+        let sparing' : IsSparing stock (free stock) (cut_subgoal t) q = subst (λ x. IsSparing stock (free stock) (cut_subgoal x) q) same sparing in
         let stored' : AreStored stock ts ds = subst (λ x. AreStored stock x ds) same' stored in
         let hp = la.least q sparing' in
         let hcs = lb.least ds stored' in

@@ -4,13 +4,13 @@ use Rattle.std.specs.Prelude.{slice_get, slice_set, remove, ◌==◌, ◌&&◌}
 use Rattle.std.proofs.lemmas.Bool.{cases_eq}
 use Rattle.std.proofs.lemmas.List.{length-set}
 use Rattle.std.proofs.lemmas.List.Sums.{sum_by-set}
-use Rattle.net_model.specs.Terms.{Term, size_of}
+use Rattle.net_model.specs.Exprs.{ExprModel, size_of}
 use Rattle.form_model.specs.Registers.{AreLow}
-use Rattle.form_model.specs.Trees.{tree_term}
-use Rattle.tree_grammar.specs.Parts.{home_at}
-use Rattle.form_model.specs.Matches.{Site, operand, cut}
-use Rattle.form_model.specs.Plans.{Plan, use_form, Operands, no_operands, operand_then, Cuts, no_cuts, cut_then, cost, operands_cost, cuts_cost}
-use Rattle.form_model.specs.Covers.{Stock, Operand, operands_of, cuts_of}
+use Rattle.form_model.specs.Trees.{model_of_tree}
+use Rattle.tree_grammar.specs.Leaves.{model_of_home}
+use Rattle.form_model.specs.Matches.{LeafModel, operand, cut}
+use Rattle.form_model.specs.CoverModels.{CoverModel, use_form, CoverOperandsModel, no_operands, operand_then, CoverCutsModel, no_cuts, cut_then, cost, operands_cost, cuts_cost}
+use Rattle.form_model.specs.Covers.{StockModel, Operand, operands_of, cuts_of}
 use Rattle.cover.specs.declared.instance.Instance.{Instance}
 use Rattle.cover.specs.declared.limits.Limits.{Limits}
 use Rattle.cover.specs.declared.slots.Slot.{Slot}
@@ -20,12 +20,12 @@ use Rattle.cover.specs.declared.rows.Offer.{Offer}
 use Rattle.cover.specs.declared.rows.Offer.TheVariants.{Nothing, Chains, Reaches}
 use Rattle.cover.specs.declared.opened.OpenOperand.{OpenOperand}
 use Rattle.cover.specs.declared.opened.OpenCut.{OpenCut}
-use Rattle.cover.specs.Inner.Asks.{free, is_free, rank, rest, operand_ask, cut_ask, after, operands_size, terms_size, AreFew, IsSparing, AreSparing, AreStored}
-use Rattle.cover.specs.Inner.Least.{NoMore, IsHeld, Reached, IsLeast, IsLeastOrder, IsLeastCut, summed}
+use Rattle.cover.specs.Inner.Subgoals.{free, is_free, rank, rest, operand_subgoal, cut_subgoal, after, operands_size, exprs_size, AreFew, IsSparing, AreSparing, AreStored}
+use Rattle.cover.specs.Inner.Least.{NoMore, IsHeld, IsLeastWithin, IsLeast, IsLeastOrder, IsLeastCut, summed}
 use Rattle.cover.specs.Inner.Slots.{place, IsEntry, IsSlot, IsLowHome, entry_destination, goal_slot, home_slot}
-use Rattle.cover.specs.Inner.Rows.{Row, entry, row_ask, Sound, IsBelow, IsBlank, IsLift, IsRoomy, NoneAbove, IsCheapOffer, Noted, unfilled, unfilled_in}
+use Rattle.cover.specs.Inner.Rows.{Row, entry, row_subgoal, Sound, IsBelow, IsBlank, IsLift, IsRoomy, NoneAbove, IsCheapOffer, Noted, unfilled, unfilled_in}
 use Rattle.cover.specs.Inner.Jobs.{instance_stock, nodes_of, open_operand, open_operands, open_cuts, AreParts}
-use Rattle.cover.specs.Inner.Matched.{AreLowSites}
+use Rattle.cover.specs.Inner.Matched.{AreLowLeaves}
 use Rattle.cover.proofs.SizeLemmas.{Small, picked, size_pos, total_parts, rest_less}
 use Rattle.cover.proofs.LowLemmas.{taken_low}
 use Rattle.cover.proofs.SlotLemmas.{place_within, place_once, slot_entry}
@@ -39,10 +39,10 @@ abbrev pub AllLow : List Operand → Type 0
 AllLow [] = Unit {0}
 AllLow (o ∷ os) = IsLowHome o.home × AllLow os
 
-low_sites : (sites : List Site) → AreLowSites sites → AllLow (operands_of sites)
-low_sites [] h = tt
-low_sites (operand home tree whole ∷ sites) h = (h.0, low_sites sites h.1)
-low_sites (cut shape tree ∷ sites) h = low_sites sites h
+low_leaves : (sites : List LeafModel) → AreLowLeaves sites → AllLow (operands_of sites)
+low_leaves [] h = tt
+low_leaves (operand home tree whole ∷ sites) h = (h.0, low_leaves sites h.1)
+low_leaves (cut shape tree ∷ sites) h = low_leaves sites h
 
 pub opened_low : (is : List OpenOperand) → AllLow (open_operands is)
 opened_low [] = tt
@@ -60,7 +60,7 @@ low_remove (x ∷ xs) zero h = h.1
 low_remove (x ∷ xs) (suc i) h = (h.0, low_remove xs i h.1)
 
 -- the entry from which a match goes on is one of the row
-rest_entry : (size : ℕ) (all : Bool) (sites : List Site) (q : Slot) → AreLowSites sites → rest size all sites ≡ Some q → IsEntry q
+rest_entry : (size : ℕ) (all : Bool) (sites : List LeafModel) (q : Slot) → AreLowLeaves sites → rest size all sites ≡ Some q → IsEntry q
 rest_entry size all [] q low e = absurd (cc)
 rest_entry size all (operand home tree whole ∷ []) q low e =
     let same = (picked (size_of tree == size) (Some (home_slot home)) q e).1 in
@@ -77,14 +77,14 @@ rest_entry size all (cut shape tree ∷ s ∷ sites) q low e = absurd (cc)
 -- that has a cover already needs no other
 
 -- what a least cover of a tree costs at most
-abbrev pub most : Stock → Limits → Term → ℕ
+abbrev pub most : StockModel → Limits → ExprModel → ℕ
 most stock limits t = 36 * size_of t + 18 * rank stock.file limits - 18
 
 abbrev empty_row : Row
 empty_row = replicate {A = Option ℕ} 18 None
 
 -- costs of covers for some entries of a row, for this one too
-record IsCheap (stock : Stock) (limits : Limits) (t : Term) (whole : Bool) (s : Slot) : Type 0 where
+record IsCheap (stock : StockModel) (limits : Limits) (t : ExprModel) (whole : Bool) (s : Slot) : Type 0 where
   row : Row
   len : length row ≡ 18
   sound : Sound stock limits t whole row
@@ -92,23 +92,23 @@ record IsCheap (stock : Stock) (limits : Limits) (t : Term) (whole : Bool) (s : 
   known : ℕ
   at : entry row s ≡ Some known
 
-cheap_plan : (stock : Stock) (limits : Limits) (t : Term) (whole : Bool) (s : Slot) → IsSlot whole s → IsCheap stock limits t whole s → (q : Plan) × IsSparing stock limits (row_ask t whole s) q × (cost q ≤ most stock limits t)
-cheap_plan stock limits t whole s slot h =
-    let there : Reached stock limits (row_ask t whole s) (Some h.known) = subst (Reached stock limits (row_ask t whole s)) h.at (h.sound s slot) in
+cheap_cover : (stock : StockModel) (limits : Limits) (t : ExprModel) (whole : Bool) (s : Slot) → IsSlot whole s → IsCheap stock limits t whole s → (q : CoverModel) × IsSparing stock limits (row_subgoal t whole s) q × (cost q ≤ most stock limits t)
+cheap_cover stock limits t whole s slot h =
+    let there : IsLeastWithin stock limits (row_subgoal t whole s) (Some h.known) = subst (IsLeastWithin stock limits (row_subgoal t whole s)) h.at (h.sound s slot) in
     let (q, sparing, e) = there in
     let le = h.roomy s h.known h.at in
     (q, sparing, omega (arith, e, le))
 
-module _ (stock : Stock) (limits : Limits) (t : Term) (whole : Bool) where
+module _ (stock : StockModel) (limits : Limits) (t : ExprModel) (whole : Bool) where
   -- a row with one cost
-  cheap_base : (s : Slot) (q : Plan) → IsSlot whole s → IsSparing stock limits (row_ask t whole s) q → cost q + 17 ≤ most stock limits t → IsCheap stock limits t whole s
+  cheap_base : (s : Slot) (q : CoverModel) → IsSlot whole s → IsSparing stock limits (row_subgoal t whole s) q → cost q + 17 ≤ most stock limits t → IsCheap stock limits t whole s
   cheap_base s q slot sparing le = record {
     row = slice_set empty_row (place s) (Some (cost q));
     len = length-set empty_row (place s) (Some (cost q));
     sound = λ r is. elim (cases_eq (place r) (place s)) [
-      | inl same ↦ subst (λ j. Reached stock limits (row_ask t whole j) (entry (slice_set empty_row (place s) (Some (cost q))) j)) (sym (place_once r s (slot_entry whole r is) (slot_entry whole s slot) same))
-          (subst (Reached stock limits (row_ask t whole s)) (sym (entry_same empty_row s (Some (cost q)) within)) (q, sparing, refl))
-      | inr other ↦ subst (Reached stock limits (row_ask t whole r)) (sym (entry_other empty_row s r (Some (cost q)) other ∙ blank_row 18 r)) tt
+      | inl same ↦ subst (λ j. IsLeastWithin stock limits (row_subgoal t whole j) (entry (slice_set empty_row (place s) (Some (cost q))) j)) (sym (place_once r s (slot_entry whole r is) (slot_entry whole s slot) same))
+          (subst (IsLeastWithin stock limits (row_subgoal t whole s)) (sym (entry_same empty_row s (Some (cost q)) within)) (q, sparing, refl))
+      | inr other ↦ subst (IsLeastWithin stock limits (row_subgoal t whole r)) (sym (entry_other empty_row s r (Some (cost q)) other ∙ blank_row 18 r)) tt
     ];
     roomy = λ r c at. elim (cases_eq (place r) (place s)) [
       | inl same ↦
@@ -152,43 +152,43 @@ module _ (stock : Stock) (limits : Limits) (t : Term) (whole : Bool) where
           }
 
 -- each cover that costs at most n has a cheap one beside it
-abbrev AreCheap : Stock → ℕ → Type 0
+abbrev AreCheap : StockModel → ℕ → Type 0
 AreCheap stock n =
-    (p : Plan) (limits : Limits) (t : Term) (whole : Bool) (s : Slot) → cost p ≤ n → IsSlot whole s →
-    IsSparing stock limits (row_ask t whole s) p → IsCheap stock limits t whole s
+    (p : CoverModel) (limits : Limits) (t : ExprModel) (whole : Bool) (s : Slot) → cost p ≤ n → IsSlot whole s →
+    IsSparing stock limits (row_subgoal t whole s) p → IsCheap stock limits t whole s
 
-module _ (stock : Stock) (n : ℕ) (ih : AreCheap stock n) where
-  cheap_order : (ps : Operands) (limits : Limits) (ops : List Operand) → AllLow ops → operands_cost ps ≤ n → AreSparing stock limits ops ps → (qs : Operands) × AreSparing stock limits ops qs × (operands_cost qs ≤ 36 * operands_size ops)
+module _ (stock : StockModel) (n : ℕ) (ih : AreCheap stock n) where
+  cheap_order : (ps : CoverOperandsModel) (limits : Limits) (ops : List Operand) → AllLow ops → operands_cost ps ≤ n → AreSparing stock limits ops ps → (qs : CoverOperandsModel) × AreSparing stock limits ops qs × (operands_cost qs ≤ 36 * operands_size ops)
   cheap_order no_operands limits ops low le e = (no_operands, e, omega arith)
   cheap_order (operand_then i p ps) limits ops low le (o, get, sparing, orders) =
       let slot = home_entry o.whole o.home (low_get ops i o low get) in
-      let ask : row_ask o.tree o.whole (home_slot o.home) ≡ operand_ask o = home_ask o.tree o.whole o refl refl in
-      let (q, sparing', small) = cheap_plan stock limits o.tree o.whole (home_slot o.home) slot (ih p limits o.tree o.whole (home_slot o.home) (omega (arith, le)) slot (subst (λ a. IsSparing stock limits a p) (sym ask) sparing)) in
+      let ask : row_subgoal o.tree o.whole (home_slot o.home) ≡ operand_subgoal o = home_ask o.tree o.whole o refl refl in
+      let (q, sparing', small) = cheap_cover stock limits o.tree o.whole (home_slot o.home) slot (ih p limits o.tree o.whole (home_slot o.home) (omega (arith, le)) slot (subst (λ a. IsSparing stock limits a p) (sym ask) sparing)) in
       let (qs, orders', few) = cheap_order ps (after limits o.home) (remove ops i) (low_remove ops i low) (omega (arith, le)) orders in
       let size = size-remove ops i o get in
       let r = rank_le stock.file limits in
       let pos = size_pos o.tree in
       (operand_then i q qs, (o, get, subst (λ a. IsSparing stock limits a q) ask sparing', orders'), omega (arith, small, few, size, r, pos))
 
-  cheap_cuts : (cs : Cuts) (ts : List Term) → cuts_cost cs ≤ n → AreStored stock ts cs → (ds : Cuts) × AreStored stock ts ds × (cuts_cost ds + 18 * length ts ≤ 36 * terms_size ts)
+  cheap_cuts : (cs : CoverCutsModel) (ts : List ExprModel) → cuts_cost cs ≤ n → AreStored stock ts cs → (ds : CoverCutsModel) × AreStored stock ts ds × (cuts_cost ds + 18 * length ts ≤ 36 * exprs_size ts)
   cheap_cuts no_cuts ts le e = (no_cuts, e, (let l = ap length e in omega (arith, l)))
   cheap_cuts (cut_then p cs) ts le (u, us, e, sparing, stored) =
-      let (q, sparing', small) = cheap_plan stock (free stock) u false Temporary refl (ih p (free stock) u false Temporary (omega (arith, le)) refl sparing) in
+      let (q, sparing', small) = cheap_cover stock (free stock) u false Temporary refl (ih p (free stock) u false Temporary (omega (arith, le)) refl sparing) in
       let (ds, stored', few) = cheap_cuts cs us (omega (arith, le)) stored in
       let l = ap length e in
-      let s = ap terms_size e in
+      let s = ap exprs_size e in
       let r : rank stock.file (free stock) ≡ 0 = rank_free stock.file in
       let pos = size_pos u in
       (cut_then q ds, (u, us, e, sparing', stored'), omega (arith, small, few, l, s, r, pos))
 
-  cheap_form : AreLow stock.rules → (p : Plan) (limits : Limits) (t : Term) (whole : Bool) (s : Slot) → cost p ≤ suc n → IsSlot whole s → IsSparing stock limits (row_ask t whole s) p → IsCheap stock limits t whole s
+  cheap_form : AreLow stock.rules → (p : CoverModel) (limits : Limits) (t : ExprModel) (whole : Bool) (s : Slot) → cost p ≤ suc n → IsSlot whole s → IsSparing stock limits (row_subgoal t whole s) p → IsCheap stock limits t whole s
   cheap_form low (use_form k ps cs) limits t whole s le slot (rule, get, spared, found, is, orders, stored) =
       go (rest (size_of t) (is_free stock.file limits) found.sites) refl
     where
       small : (goal_slot rule.goal whole ≡ Some s) × Small whole t found.sites
       small = row_small stock rule t whole s found slot is
 
-      lows : AreLowSites found.sites
+      lows : AreLowLeaves found.sites
       lows = taken_low stock.temps rule (entry_destination s) t whole found is (low k rule get)
 
       go : (o : Option Slot) → rest (size_of t) (is_free stock.file limits) found.sites ≡ o → IsCheap stock limits t whole s
@@ -198,17 +198,17 @@ module _ (stock : Stock) (n : ℕ) (ih : AreCheap stock n) where
           let (same, p, sparing, less) = back ps cs s slot (rule, get, spared, found, is, orders, stored) in
           cheap_step stock limits t whole (record { start = q; goal = s }) lift (ih p limits t whole q (omega (arith, le, less)) lift.start sparing)
       go None e =
-          let (qs, orders', a) = cheap_order ps limits (operands_of found.sites) (low_sites found.sites lows) (omega (arith, le)) orders in
+          let (qs, orders', a) = cheap_order ps limits (operands_of found.sites) (low_leaves found.sites lows) (omega (arith, le)) orders in
           let (ds, stored', b) = cheap_cuts cs (cuts_of found.sites) (omega (arith, le)) stored in
           let parts = total_parts found.sites in
           let pos = size_pos t in
           let fits : cost (use_form k qs ds) + 17 ≤ most stock limits t = elim (rest_less whole t stock.file limits found.sites small.1 e) [
             | inl lt ↦ omega (arith, a, b, parts, lt, pos)
-            | inr (x, y, r) ↦ (let os = ap operands_size x in let ts = ap terms_size y in let l = ap length y in omega (arith, a, b, os, ts, l, r, pos))
+            | inr (x, y, r) ↦ (let os = ap operands_size x in let ts = ap exprs_size y in let l = ap length y in omega (arith, a, b, os, ts, l, r, pos))
           ] in
           cheap_base stock limits t whole s (use_form k qs ds) slot (rule, get, spared, found, is, orders', stored') fits
 
-cheap : (stock : Stock) → AreLow stock.rules → (n : ℕ) → AreCheap stock n
+cheap : (stock : StockModel) → AreLow stock.rules → (n : ℕ) → AreCheap stock n
 cheap stock low zero (use_form k ps cs) limits t whole s le slot sparing = absurd (omega (arith, le))
 cheap stock low (suc n) p limits t whole s le slot sparing = cheap_form stock n (cheap stock low n) low p limits t whole s le slot sparing
 
@@ -218,23 +218,23 @@ pub no_more_le : (o : Option ℕ) (m n : ℕ) → m ≤ n → NoMore o m → NoM
 no_more_le None m n le h = tt
 no_more_le (Some k) m n le h = omega (arith, le, h)
 
-module _ (stock : Stock) (low : AreLow stock.rules) where
-  entry_few : (limits : Limits) (t : Term) (whole : Bool) (s : Slot) (o : Option ℕ) → IsSlot whole s → IsLeast stock limits (row_ask t whole s) o → NoMore o (most stock limits t)
+module _ (stock : StockModel) (low : AreLow stock.rules) where
+  entry_few : (limits : Limits) (t : ExprModel) (whole : Bool) (s : Slot) (o : Option ℕ) → IsSlot whole s → IsLeast stock limits (row_subgoal t whole s) o → NoMore o (most stock limits t)
   entry_few limits t whole s None slot is = tt
   entry_few limits t whole s (Some n) slot is =
       let (p, sparing, e) = is.reached in
-      let (q, sparing', le) = cheap_plan stock limits t whole s slot (cheap stock low (cost p) p limits t whole s (omega arith) slot sparing) in
+      let (q, sparing', le) = cheap_cover stock limits t whole s slot (cheap stock low (cost p) p limits t whole s (omega arith) slot sparing) in
       let h = is.least q sparing' in
       omega (arith, h, le)
 
-  pub operand_few : (limits : Limits) (x : Operand) (o : Option ℕ) → IsLowHome x.home → IsLeast stock limits (operand_ask x) o → NoMore o (36 * size_of x.tree)
+  pub operand_few : (limits : Limits) (x : Operand) (o : Option ℕ) → IsLowHome x.home → IsLeast stock limits (operand_subgoal x) o → NoMore o (36 * size_of x.tree)
   operand_few limits x o is_low is =
-      let ask : row_ask x.tree x.whole (home_slot x.home) ≡ operand_ask x = home_ask x.tree x.whole x refl refl in
+      let ask : row_subgoal x.tree x.whole (home_slot x.home) ≡ operand_subgoal x = home_ask x.tree x.whole x refl refl in
       let r = rank_le stock.file limits in
       no_more_le o (most stock limits x.tree) (36 * size_of x.tree) (omega (arith, r))
       (entry_few limits x.tree x.whole (home_slot x.home) o (home_entry x.whole x.home is_low) (subst (λ a. IsLeast stock limits a o) (sym ask) is))
 
-  pub cut_few : (t : Term) (o : Option ℕ) → IsLeast stock (free stock) (cut_ask t) o → NoMore o (36 * size_of t)
+  pub cut_few : (t : ExprModel) (o : Option ℕ) → IsLeast stock (free stock) (cut_subgoal t) o → NoMore o (36 * size_of t)
   cut_few t o is =
       let r = rank_le stock.file (free stock) in
       no_more_le o (most stock (free stock) t) (36 * size_of t) (omega (arith, r)) (entry_few (free stock) t false Temporary o refl is)
@@ -247,7 +247,7 @@ module _ (stock : Stock) (low : AreLow stock.rules) where
       let h = is.least qs orders' in
       omega (arith, h, le)
 
-  pub cuts_few : (ts : List Term) (o : Option ℕ) → IsLeastCut stock ts o → NoMore o (36 * terms_size ts - 18 * length ts)
+  pub cuts_few : (ts : List ExprModel) (o : Option ℕ) → IsLeastCut stock ts o → NoMore o (36 * exprs_size ts - 18 * length ts)
   cuts_few ts None is = tt
   cuts_few ts (Some n) is =
       let (cs, stored, e) = is.reached in
@@ -273,40 +273,40 @@ form_few a b m n h k = sum_few (summed (Some 1) a) b (1 + m) n (sum_few (Some 1)
 pub size_held : (o : Option ℕ) (size n : ℕ) → NoMore o (36 * size) → size ≤ n → AreFew n → IsHeld o
 size_held o size n h le few = held o (36 * size) h (omega (arith, le, few))
 
-pub size_room : (t : Term) (n : ℕ) → size_of t ≤ n → AreFew n → 36 * size_of t - 17 + 18 ≤ 2 ^ 64 - 2
+pub size_room : (t : ExprModel) (n : ℕ) → size_of t ≤ n → AreFew n → 36 * size_of t - 17 + 18 ≤ 2 ^ 64 - 2
 size_room t n le few = let pos = size_pos t in omega (arith, le, few, pos)
 
-pub floor_few : (instance : Instance) (limits : Limits) (is : List OpenOperand) (x : OpenOperand) (m n : Option ℕ) → slice_get is 0 ≡ Some x → IsLeast (instance_stock instance) limits (operand_ask (open_operand x)) m → NoMore n (36 * operands_size (open_operands (drop 1 is))) → NoMore (summed m n) (36 * operands_size (open_operands is))
+pub floor_few : (instance : Instance) (limits : Limits) (is : List OpenOperand) (x : OpenOperand) (m n : Option ℕ) → slice_get is 0 ≡ Some x → IsLeast (instance_stock instance) limits (operand_subgoal (open_operand x)) m → NoMore n (36 * operands_size (open_operands (drop 1 is))) → NoMore (summed m n) (36 * operands_size (open_operands is))
 floor_few instance limits is x m n get least few =
     let size = ap operands_size (inputs_split is x get) in
-    no_more_le (summed m n) (36 * size_of (tree_term x.tree.now) + 36 * operands_size (open_operands (drop 1 is))) (36 * operands_size (open_operands is)) (omega (arith, size))
-    (sum_few m n (36 * size_of (tree_term x.tree.now)) (36 * operands_size (open_operands (drop 1 is))) (operand_few (instance_stock instance) instance.low limits (open_operand x) m x.low least) few)
+    no_more_le (summed m n) (36 * size_of (model_of_tree x.tree.now) + 36 * operands_size (open_operands (drop 1 is))) (36 * operands_size (open_operands is)) (omega (arith, size))
+    (sum_few m n (36 * size_of (model_of_tree x.tree.now)) (36 * operands_size (open_operands (drop 1 is))) (operand_few (instance_stock instance) instance.low limits (open_operand x) m x.low least) few)
 
-pub from_few : (instance : Instance) (limits : Limits) (is : List OpenOperand) (i : ℕ) (x : OpenOperand) (m n : Option ℕ) → slice_get is i ≡ Some x → IsLeast (instance_stock instance) limits (operand_ask (open_operand x)) m → IsLeastOrder (instance_stock instance) (after limits (home_at x.home)) (remove (open_operands is) i) n → NoMore (summed m n) (36 * operands_size (open_operands is))
+pub from_few : (instance : Instance) (limits : Limits) (is : List OpenOperand) (i : ℕ) (x : OpenOperand) (m n : Option ℕ) → slice_get is i ≡ Some x → IsLeast (instance_stock instance) limits (operand_subgoal (open_operand x)) m → IsLeastOrder (instance_stock instance) (after limits (model_of_home x.home)) (remove (open_operands is) i) n → NoMore (summed m n) (36 * operands_size (open_operands is))
 from_few instance limits is i x m n get least others =
     let size = size-remove (open_operands is) i (open_operand x) (inputs_at is i x get) in
-    no_more_le (summed m n) (36 * size_of (tree_term x.tree.now) + 36 * operands_size (remove (open_operands is) i)) (36 * operands_size (open_operands is)) (omega (arith, size))
-    (sum_few m n (36 * size_of (tree_term x.tree.now)) (36 * operands_size (remove (open_operands is) i)) (operand_few (instance_stock instance) instance.low limits (open_operand x) m x.low least)
-    (order_few (instance_stock instance) instance.low (after limits (home_at x.home)) (remove (open_operands is) i) n (low_remove (open_operands is) i (opened_low is)) others))
+    no_more_le (summed m n) (36 * size_of (model_of_tree x.tree.now) + 36 * operands_size (remove (open_operands is) i)) (36 * operands_size (open_operands is)) (omega (arith, size))
+    (sum_few m n (36 * size_of (model_of_tree x.tree.now)) (36 * operands_size (remove (open_operands is) i)) (operand_few (instance_stock instance) instance.low limits (open_operand x) m x.low least)
+    (order_few (instance_stock instance) instance.low (after limits (model_of_home x.home)) (remove (open_operands is) i) n (low_remove (open_operands is) i (opened_low is)) others))
 
-pub stored_few : (instance : Instance) (ss : List OpenCut) (x : OpenCut) (m n : Option ℕ) → slice_get ss 0 ≡ Some x → IsLeast (instance_stock instance) (free (instance_stock instance)) (cut_ask (tree_term x.tree.now)) m → IsLeastCut (instance_stock instance) (open_cuts (drop 1 ss)) n → NoMore (summed m n) (36 * terms_size (open_cuts ss))
+pub stored_few : (instance : Instance) (ss : List OpenCut) (x : OpenCut) (m n : Option ℕ) → slice_get ss 0 ≡ Some x → IsLeast (instance_stock instance) (free (instance_stock instance)) (cut_subgoal (model_of_tree x.tree.now)) m → IsLeastCut (instance_stock instance) (open_cuts (drop 1 ss)) n → NoMore (summed m n) (36 * exprs_size (open_cuts ss))
 stored_few instance ss x m n get least others =
-    let size = ap terms_size (stored_split ss x get) in
-    no_more_le (summed m n) (36 * size_of (tree_term x.tree.now) + (36 * terms_size (open_cuts (drop 1 ss)) - 18 * length (open_cuts (drop 1 ss)))) (36 * terms_size (open_cuts ss)) (omega (arith, size))
-    (sum_few m n (36 * size_of (tree_term x.tree.now)) (36 * terms_size (open_cuts (drop 1 ss)) - 18 * length (open_cuts (drop 1 ss))) (cut_few (instance_stock instance) instance.low (tree_term x.tree.now) m least)
+    let size = ap exprs_size (stored_split ss x get) in
+    no_more_le (summed m n) (36 * size_of (model_of_tree x.tree.now) + (36 * exprs_size (open_cuts (drop 1 ss)) - 18 * length (open_cuts (drop 1 ss)))) (36 * exprs_size (open_cuts ss)) (omega (arith, size))
+    (sum_few m n (36 * size_of (model_of_tree x.tree.now)) (36 * exprs_size (open_cuts (drop 1 ss)) - 18 * length (open_cuts (drop 1 ss))) (cut_few (instance_stock instance) instance.low (model_of_tree x.tree.now) m least)
     (cuts_few (instance_stock instance) instance.low (open_cuts (drop 1 ss)) n others))
 
 -- the cost of a form with parts of so few subtrees
-pub parts_held : (instance : Instance) (ops : List Operand) (ts : List Term) (a b : Option ℕ) → AreFew (length (nodes_of instance)) → AreParts (nodes_of instance) ops ts → NoMore a (36 * operands_size ops) → IsLeastCut (instance_stock instance) ts b → IsHeld (summed (summed (Some 1) a) b)
+pub parts_held : (instance : Instance) (ops : List Operand) (ts : List ExprModel) (a b : Option ℕ) → AreFew (length (nodes_of instance)) → AreParts (nodes_of instance) ops ts → NoMore a (36 * operands_size ops) → IsLeastCut (instance_stock instance) ts b → IsHeld (summed (summed (Some 1) a) b)
 parts_held instance ops ts a b few parts small least =
-    held (summed (summed (Some 1) a) b) (1 + 36 * operands_size ops + (36 * terms_size ts - 18 * length ts)) (form_few a b (36 * operands_size ops) (36 * terms_size ts - 18 * length ts) small (cuts_few (instance_stock instance) instance.low ts b least)) (omega (arith, few, parts))
+    held (summed (summed (Some 1) a) b) (1 + 36 * operands_size ops + (36 * exprs_size ts - 18 * length ts)) (form_few a b (36 * operands_size ops) (36 * exprs_size ts - 18 * length ts) small (cuts_few (instance_stock instance) instance.low ts b least)) (omega (arith, few, parts))
 
 -- ---- rows whose costs are low
 
 pub blank_low : (n : ℕ) (row : Row) → IsBlank row → NoneAbove n row
 blank_low n row blank s = subst (λ o. NoMore o n) (sym (blank s)) tt
 
-pub noted_low : (t : Term) (offer : Offer) (chains chains' : List ChainRule) (old new : Row) → NoneAbove (36 * size_of t - 17) old → Noted offer chains chains' old new → IsCheapOffer t offer → NoneAbove (36 * size_of t - 17) new
+pub noted_low : (t : ExprModel) (offer : Offer) (chains chains' : List ChainRule) (old new : Row) → NoneAbove (36 * size_of t - 17) old → Noted offer chains chains' old new → IsCheapOffer t offer → NoneAbove (36 * size_of t - 17) new
 noted_low t Nothing chains chains' old new low (e, e') small = subst (NoneAbove (36 * size_of t - 17)) (sym e') low
 noted_low t (Chains m) chains chains' old new low (e, e') small = subst (NoneAbove (36 * size_of t - 17)) (sym e') low
 noted_low t (Reaches slot c) chains chains' old new low (e, entered) small = entered_low (36 * size_of t - 17) old new slot c low entered (omega (arith, small))

@@ -4,19 +4,19 @@ use Rattle.std.specs.Prelude.{slice_get, remove, if◌then◌else◌}
 use Rattle.std.specs.Option.{option_map}
 use Rattle.std.proofs.lemmas.List.{take_all}
 use Rattle.std.proofs.lemmas.Option.{slice_get-map}
-use Rattle.net_model.specs.Terms.{Term, size_of}
-use Rattle.form_model.specs.Trees.{tree_term}
-use Rattle.form_model.specs.Rules.{Destination}
-use Rattle.form_model.specs.Matches.{Home, in_register, in_file}
-use Rattle.form_model.specs.Covers.{Stock, Operand}
+use Rattle.net_model.specs.Exprs.{ExprModel, size_of}
+use Rattle.form_model.specs.Trees.{model_of_tree}
+use Rattle.form_model.specs.Forms.{DestinationModel}
+use Rattle.form_model.specs.Matches.{HomeModel, in_register, in_file}
+use Rattle.form_model.specs.Covers.{StockModel, Operand}
 use Rattle.cover.specs.declared.limits.Limits.{Limits}
 use Rattle.cover.specs.declared.slots.Slot.TheVariants.{Temporary}
 use Rattle.cover.specs.declared.opened.OpenOperand.{OpenOperand}
 use Rattle.cover.specs.declared.opened.OpenCut.{OpenCut}
-use Rattle.cover.specs.Inner.Asks.{is_free, operand_ask, operands_size, rank}
+use Rattle.cover.specs.Inner.Subgoals.{is_free, operand_subgoal, operands_size, rank}
 use Rattle.cover.specs.Inner.Least.{IsLeast}
 use Rattle.cover.specs.Inner.Slots.{IsLowHome, IsSlot, home_slot}
-use Rattle.cover.specs.Inner.Rows.{row_ask}
+use Rattle.cover.specs.Inner.Rows.{row_subgoal}
 use Rattle.cover.specs.Inner.Jobs.{open_operand, open_operands, open_cuts, OperandsAt, CutsAt}
 use Rattle.cover.proofs.OfferLemmas.{slot_home}
 use Rattle.cover.proofs.SizeLemmas.{eq_self}
@@ -52,7 +52,7 @@ lone_input [] x h few = absurd (cc)
 lone_input (y ∷ []) x h few = let e : y ≡ x = cc in ap (λ (z : OpenOperand). open_operand z ∷ []) e
 lone_input (y ∷ z ∷ is) x h few = absurd (omega (arith, few))
 
-pub inputs_later : (nodes : List Term) (is : List OpenOperand) → OperandsAt nodes is → OperandsAt nodes (drop 1 is)
+pub inputs_later : (nodes : List ExprModel) (is : List OpenOperand) → OperandsAt nodes is → OperandsAt nodes (drop 1 is)
 inputs_later nodes [] h = h
 inputs_later nodes (x ∷ is) h = (h.0.1, (let few = h.1 in omega (arith, few)))
 
@@ -60,15 +60,15 @@ pub no_stored : (ts : List OpenCut) → length ts ≡ 0 → open_cuts ts ≡ []
 no_stored [] h = refl
 no_stored (x ∷ ts) h = absurd (omega (arith, h))
 
-pub stored_split : (ts : List OpenCut) (s : OpenCut) → slice_get ts 0 ≡ Some s → open_cuts ts ≡ tree_term s.tree.now ∷ open_cuts (drop 1 ts)
+pub stored_split : (ts : List OpenCut) (s : OpenCut) → slice_get ts 0 ≡ Some s → open_cuts ts ≡ model_of_tree s.tree.now ∷ open_cuts (drop 1 ts)
 stored_split [] s h = absurd (cc)
-stored_split (x ∷ ts) s h = let e : x ≡ s = cc in ap (λ (y : OpenCut). tree_term y.tree.now ∷ open_cuts ts) e
+stored_split (x ∷ ts) s h = let e : x ≡ s = cc in ap (λ (y : OpenCut). model_of_tree y.tree.now ∷ open_cuts ts) e
 
-pub stored_first : (nodes : List Term) (ts : List OpenCut) (s : OpenCut) → CutsAt nodes ts → slice_get ts 0 ≡ Some s → slice_get nodes s.at ≡ Some (tree_term s.tree.now)
+pub stored_first : (nodes : List ExprModel) (ts : List OpenCut) (s : OpenCut) → CutsAt nodes ts → slice_get ts 0 ≡ Some s → slice_get nodes s.at ≡ Some (model_of_tree s.tree.now)
 stored_first nodes [] s h get = absurd (cc)
-stored_first nodes (x ∷ ts) s h get = let e : x ≡ s = cc in subst (λ (y : OpenCut). slice_get nodes y.at ≡ Some (tree_term y.tree.now)) e h.0.0
+stored_first nodes (x ∷ ts) s h get = let e : x ≡ s = cc in subst (λ (y : OpenCut). slice_get nodes y.at ≡ Some (model_of_tree y.tree.now)) e h.0.0
 
-pub stored_later : (nodes : List Term) (ts : List OpenCut) → CutsAt nodes ts → CutsAt nodes (drop 1 ts)
+pub stored_later : (nodes : List ExprModel) (ts : List OpenCut) → CutsAt nodes ts → CutsAt nodes (drop 1 ts)
 stored_later nodes [] h = h
 stored_later nodes (x ∷ ts) h = (h.0.1, (let few = h.1 in omega (arith, few)))
 
@@ -80,17 +80,17 @@ pub cut_slot : IsSlot false Temporary
 cut_slot = refl
 
 -- an entry of a row for an operand's home
-pub home_entry : (whole : Bool) (home : Home) → IsLowHome home → IsSlot whole (home_slot home)
+pub home_entry : (whole : Bool) (home : HomeModel) → IsLowHome home → IsSlot whole (home_slot home)
 home_entry whole (in_register id) h = h
 home_entry whole (in_file shape) h = tt
 
 -- what is asked for it is what is asked for an operand
-pub home_ask : (t : Term) (w : Bool) (x : Operand) → t ≡ x.tree → w ≡ x.whole → row_ask t w (home_slot x.home) ≡ operand_ask x
+pub home_ask : (t : ExprModel) (w : Bool) (x : Operand) → t ≡ x.tree → w ≡ x.whole → row_subgoal t w (home_slot x.home) ≡ operand_subgoal x
 home_ask t w x et ew =
-    ap (λ u. row_ask u w (home_slot x.home)) et ∙ ap (λ v. row_ask x.tree v (home_slot x.home)) ew
-    ∙ ap (λ (p : Destination). record { destination = p; tree = x.tree; whole = x.whole }) (slot_home x.home)
+    ap (λ u. row_subgoal u w (home_slot x.home)) et ∙ ap (λ v. row_subgoal x.tree v (home_slot x.home)) ew
+    ∙ ap (λ (p : DestinationModel). record { destination = p; tree = x.tree; whole = x.whole }) (slot_home x.home)
 
-pub home_least : (stock : Stock) (limits : Limits) (x : Operand) (o : Option ℕ) → IsLeast stock limits (row_ask x.tree x.whole (home_slot x.home)) o → IsLeast stock limits (operand_ask x) o
+pub home_least : (stock : StockModel) (limits : Limits) (x : Operand) (o : Option ℕ) → IsLeast stock limits (row_subgoal x.tree x.whole (home_slot x.home)) o → IsLeast stock limits (operand_subgoal x) o
 home_least stock limits x o is =
     subst (λ p. IsLeast stock limits (record { destination = p; tree = x.tree; whole = x.whole }) o) (slot_home x.home) is
 

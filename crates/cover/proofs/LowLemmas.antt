@@ -3,27 +3,27 @@ use Rattle.std.proofs.Common.{◌≡◌, ℕ, List, [], ◌∷◌, ◌++◌, Opt
 use Rattle.std.specs.Prelude.{if◌then◌else◌, ◌==◌, ◌||◌, ◌&&◌, not}
 use Rattle.net_model.specs.Occurs.{occurs}
 use Rattle.net_model.specs.declared.hardware.Space.TheVariants.{Memory as InMemory, File as InFile}
-use Rattle.net_model.specs.Terms.{Term, word, reg, const, read, un, bin, slice, cat, zext, sext, select, term_width}
+use Rattle.net_model.specs.Exprs.{ExprModel, word, reg, const, read, un, bin, slice, cat, zext, sext, select, expr_width}
 use Rattle.form_model.specs.Trees.{is_number, is_cell}
 use Rattle.form_model.specs.Shapes.{is_shape, shows_below}
-use Rattle.form_model.specs.Rules.{Rule, Kind, into_reg, into_memory, into_file, branches, Destination, into, filed, cell, stored, temporary, tested}
-use Rattle.form_model.specs.Matches.{Site, in_register, in_file, operand, cut, Found, both, open_if, shape_match, literal_match, cell_match, bin_match, read_match, slice_match, zext_match, sext_match, matched, address_match, goal_match, taken}
-use Rattle.form_model.specs.Registers.{IsLow, IsLowTerm}
-use Rattle.cover.specs.Inner.Matched.{AreLowSites}
-use Rattle.cover.proofs.SizeLemmas.{picked, eq_self, settled_sites, open_sites, shape_sites, literal_sites, both_parts, read_parts, un_parts, bin_parts, slice_parts, zext_parts, sext_parts, either}
+use Rattle.form_model.specs.Forms.{FormModel, GoalModel, into_reg, into_memory, into_file, branches, DestinationModel, into, filed, cell, stored, temporary, tested}
+use Rattle.form_model.specs.Matches.{LeafModel, in_register, in_file, operand, cut, MatchModel, both, open_if, shape_match, literal_match, cell_match, bin_match, read_match, slice_match, zext_match, sext_match, matched, address_match, goal_match, taken}
+use Rattle.form_model.specs.Registers.{IsLow, IsLowExpr}
+use Rattle.cover.specs.Inner.Matched.{AreLowLeaves}
+use Rattle.cover.proofs.SizeLemmas.{picked, eq_self, settled_sites, open_leaves, shape_sites, literal_sites, both_parts, read_parts, un_parts, bin_parts, slice_parts, zext_parts, sext_parts, either}
 
-none_low : (sites : List Site) → sites ≡ [] → AreLowSites sites
-none_low sites e = subst AreLowSites (sym e) tt
+none_low : (sites : List LeafModel) → sites ≡ [] → AreLowLeaves sites
+none_low sites e = subst AreLowLeaves (sym e) tt
 
-low-append : (xs ys : List Site) → AreLowSites xs → AreLowSites ys → AreLowSites (xs ++ ys)
+low-append : (xs ys : List LeafModel) → AreLowLeaves xs → AreLowLeaves ys → AreLowLeaves (xs ++ ys)
 low-append [] ys h k = k
 low-append (operand home tree whole ∷ xs) ys h k = (h.0, low-append xs ys h.1 k)
 low-append (cut shape tree ∷ xs) ys h k = low-append xs ys h k
 
-both_low : (a b : Option Found) (found : Found) → both a b ≡ Some found → ((f : Found) → a ≡ Some f → AreLowSites f.sites) → ((g : Found) → b ≡ Some g → AreLowSites g.sites) → AreLowSites found.sites
+both_low : (a b : Option MatchModel) (found : MatchModel) → both a b ≡ Some found → ((f : MatchModel) → a ≡ Some f → AreLowLeaves f.sites) → ((g : MatchModel) → b ≡ Some g → AreLowLeaves g.sites) → AreLowLeaves found.sites
 both_low a b found h of_a of_b =
     let (f, g, ef, eg, is) = both_parts a b found h in
-    subst AreLowSites (sym is) (low-append f.sites g.sites (of_a f ef) (of_b g eg))
+    subst AreLowLeaves (sym is) (low-append f.sites g.sites (of_a f ef) (of_b g eg))
 
 left_of : (a b : Bool) → a ≡ true → (a || b) ≡ true
 left_of a b e = ap (λ x. x || b) e
@@ -32,20 +32,20 @@ right_of : (a b : Bool) → b ≡ true → (a || b) ≡ true
 right_of true b e = refl
 right_of false b e = e
 
-cell_low : (temps : ℕ) (addr : Term) (w : ℕ) (t : Term) (whole : Bool) (found : Found) → cell_match temps addr w t whole ≡ Some found → AreLowSites found.sites
-cell_low temps addr w t whole found h = go (is_cell t) (picked (w == term_width t) _ found h).1
+cell_low : (temps : ℕ) (addr : ExprModel) (w : ℕ) (t : ExprModel) (whole : Bool) (found : MatchModel) → cell_match temps addr w t whole ≡ Some found → AreLowLeaves found.sites
+cell_low temps addr w t whole found h = go (is_cell t) (picked (w == expr_width t) _ found h).1
   where
-    go : (b : Bool) → (if b then literal_match addr t else open_if (not whole && shows_below addr temps) (cut addr t)) ≡ Some found → AreLowSites found.sites
+    go : (b : Bool) → (if b then literal_match addr t else open_if (not whole && shows_below addr temps) (cut addr t)) ≡ Some found → AreLowLeaves found.sites
     go true e = none_low found.sites (literal_sites addr t found e)
-    go false e = subst AreLowSites (sym (open_sites (not whole && shows_below addr temps) (cut addr t) found e).1) tt
+    go false e = subst AreLowLeaves (sym (open_leaves (not whole && shows_below addr temps) (cut addr t) found e).1) tt
 
-matched_low : (temps : ℕ) (e t : Term) (whole : Bool) (found : Found) → matched temps e t whole ≡ Some found → IsLowTerm e → AreLowSites found.sites
+matched_low : (temps : ℕ) (e t : ExprModel) (whole : Bool) (found : MatchModel) → matched temps e t whole ≡ Some found → IsLowExpr e → AreLowLeaves found.sites
 matched_low temps (word w) t whole found h low = none_low found.sites (shape_sites (word w) t found h)
 matched_low temps (const w v) t whole found h low = none_low found.sites (shape_sites (const w v) t found h)
 matched_low temps (reg r w) t whole found h low =
-    subst AreLowSites (sym (open_sites (w == term_width t) (operand (in_register r) t whole) found h).1) (low r (eq_self r), tt)
+    subst AreLowLeaves (sym (open_leaves (w == expr_width t) (operand (in_register r) t whole) found h).1) (low r (eq_self r), tt)
 matched_low temps (read InFile a w) t whole found h low =
-    subst AreLowSites (sym (open_sites (w == term_width t) (operand (in_file a) t whole) found h).1) (omega arith, tt)
+    subst AreLowLeaves (sym (open_leaves (w == expr_width t) (operand (in_file a) t whole) found h).1) (omega arith, tt)
 matched_low temps (read InMemory a w) t whole found h low =
     elim (either (is_shape a) (cell_match temps a w t whole) (read_match (matched temps a) w t) found h) [
       | inl c ↦ cell_low temps a w t whole found c
@@ -61,24 +61,24 @@ matched_low temps (bin o a b) t whole found h low =
           (λ g is. matched_low temps b d false g is (λ q k. low q (right_of (occurs q a) (occurs q b) k))))
     ]
 matched_low temps (slice a hi lo) t whole found h low =
-    elim (either (is_shape (slice a hi lo)) (shape_match (slice a hi lo) t) (slice_match (matched temps a) (term_width a) hi lo t) found h) [
+    elim (either (is_shape (slice a hi lo)) (shape_match (slice a hi lo) t) (slice_match (matched temps a) (expr_width a) hi lo t) found h) [
       | inl c ↦ none_low found.sites (shape_sites (slice a hi lo) t found c)
-      | inr r ↦ (let (b, x, y, e, m) = slice_parts (matched temps a) (term_width a) hi lo t found r in matched_low temps a b false found m low)
+      | inr r ↦ (let (b, x, y, e, m) = slice_parts (matched temps a) (expr_width a) hi lo t found r in matched_low temps a b false found m low)
     ]
 matched_low temps (cat a b) t whole found h low = absurd (cc)
 matched_low temps (zext a w) t whole found h low =
-    elim (either (is_shape (zext a w)) (shape_match (zext a w) t) (zext_match (matched temps a) (term_width a) w t) found h) [
+    elim (either (is_shape (zext a w)) (shape_match (zext a w) t) (zext_match (matched temps a) (expr_width a) w t) found h) [
       | inl c ↦ none_low found.sites (shape_sites (zext a w) t found c)
-      | inr r ↦ (let (b, v, e, m) = zext_parts (matched temps a) (term_width a) w t found r in matched_low temps a b false found m low)
+      | inr r ↦ (let (b, v, e, m) = zext_parts (matched temps a) (expr_width a) w t found r in matched_low temps a b false found m low)
     ]
 matched_low temps (sext a w) t whole found h low =
-    elim (either (is_shape (sext a w)) (shape_match (sext a w) t) (sext_match (matched temps a) (term_width a) w t) found h) [
+    elim (either (is_shape (sext a w)) (shape_match (sext a w) t) (sext_match (matched temps a) (expr_width a) w t) found h) [
       | inl c ↦ none_low found.sites (shape_sites (sext a w) t found c)
-      | inr r ↦ (let (b, v, e, m) = sext_parts (matched temps a) (term_width a) w t found r in matched_low temps a b false found m low)
+      | inr r ↦ (let (b, v, e, m) = sext_parts (matched temps a) (expr_width a) w t found r in matched_low temps a b false found m low)
     ]
 matched_low temps (select c a b) t whole found h low = absurd (cc)
 
-address_low : (temps : ℕ) (addr : Option Term) (destination : Destination) (found : Found) → address_match temps addr destination ≡ Some found → ((a : Term) → addr ≡ Some a → IsLowTerm a) → AreLowSites found.sites
+address_low : (temps : ℕ) (addr : Option ExprModel) (destination : DestinationModel) (found : MatchModel) → address_match temps addr destination ≡ Some found → ((a : ExprModel) → addr ≡ Some a → IsLowExpr a) → AreLowLeaves found.sites
 address_low temps None destination found h low = absurd (cc)
 address_low temps (Some a) (cell address) found h low = none_low found.sites (settled_sites _ found (picked (is_shape a) _ found h).1)
 address_low temps (Some a) (stored address) found h low = matched_low temps a address false found h (low a refl)
@@ -87,7 +87,7 @@ address_low temps (Some a) (into id) found h low = absurd (cc)
 address_low temps (Some a) filed found h low = absurd (cc)
 address_low temps (Some a) tested found h low = absurd (cc)
 
-goal_low : (temps : ℕ) (rule : Rule) (goal : Kind) (destination : Destination) (t : Term) (whole : Bool) (found : Found) → goal_match temps rule goal destination t whole ≡ Some found → IsLow rule → AreLowSites found.sites
+goal_low : (temps : ℕ) (rule : FormModel) (goal : GoalModel) (destination : DestinationModel) (t : ExprModel) (whole : Bool) (found : MatchModel) → goal_match temps rule goal destination t whole ≡ Some found → IsLow rule → AreLowLeaves found.sites
 goal_low temps rule (into_reg r) (into id) t whole found h low = matched_low temps rule.value t whole found (picked (r == id) _ found h).1 low.2
 goal_low temps rule into_file filed t whole found h low = matched_low temps rule.value t whole found h low.2
 goal_low temps rule into_memory (cell address) t whole found h low =
@@ -103,5 +103,5 @@ goal_low temps rule (branches when_one to) tested t whole found h low = matched_
 goal_low temps rule _ _ t whole found h low = absurd (cc)
 
 -- what a low form leaves open is low
-pub taken_low : (temps : ℕ) (rule : Rule) (destination : Destination) (t : Term) (whole : Bool) (found : Found) → taken temps rule destination t whole ≡ Some found → IsLow rule → AreLowSites found.sites
+pub taken_low : (temps : ℕ) (rule : FormModel) (destination : DestinationModel) (t : ExprModel) (whole : Bool) (found : MatchModel) → taken temps rule destination t whole ≡ Some found → IsLow rule → AreLowLeaves found.sites
 taken_low temps rule destination t whole found h low = goal_low temps rule rule.goal destination t whole found h low

@@ -4,41 +4,41 @@ use Rattle.std.specs.Prelude.{slice_get, remove, ◌==◌}
 use Rattle.std.proofs.lemmas.Bool.Decides.{nat_tests}
 use Rattle.std.proofs.lemmas.List.{length-replicate}
 use Rattle.std.proofs.lemmas.Option.{slice_get_within}
-use Rattle.net_model.specs.Terms.{Term, zext, size_of}
+use Rattle.net_model.specs.Exprs.{ExprModel, zext, size_of}
 use Rattle.tree_grammar.specs.Numbers.{subtrees, HoldsSubtrees}
-use Rattle.tree_grammar.specs.Parts.{Stands, value_at}
+use Rattle.tree_grammar.specs.Leaves.{Stands, value_at}
 use Rattle.tree_grammar.proofs.NumberLemmas.{size_length, holds_here}
-use Rattle.form_model.specs.Rules.{Destination, into, filed, cell, stored, temporary, tested}
+use Rattle.form_model.specs.Forms.{DestinationModel, into, filed, cell, stored, temporary, tested}
 use Rattle.tree_sharing.specs.Sharing.{job_nodes}
 use Rattle.tree_sharing.proofs.NodeLemmas.{get_split, get_right, nodes_hold, whole_tree, from_start}
 use Rattle.cover.specs.declared.slots.Slot.{Slot}
 use Rattle.cover.specs.declared.slots.Slot.TheVariants.{Register, File, Temporary}
 use Rattle.cover.specs.declared.opened.OpenOperand.{OpenOperand}
-use Rattle.form_model.specs.Trees.{tree_term}
+use Rattle.form_model.specs.Trees.{model_of_tree}
 use Rattle.cover.specs.Inner.Slots.{entry_destination}
-use Rattle.cover.specs.Inner.Asks.{operands_size}
+use Rattle.cover.specs.Inner.Subgoals.{operands_size}
 use Rattle.cover.specs.Inner.Jobs.{open_operands, EachOperandAt, OperandsAt}
 use Rattle.cover.proofs.SizeLemmas.{size_pos}
 
-pub slot_stands : (nodes : List Term) (n : ℕ) (s : Slot) (t : Term) → HoldsSubtrees nodes n t → Stands nodes n (entry_destination s) t
+pub slot_stands : (nodes : List ExprModel) (n : ℕ) (s : Slot) (t : ExprModel) → HoldsSubtrees nodes n t → Stands nodes n (entry_destination s) t
 slot_stands nodes n (Register r) t h = record { address = tt; value = h }
 slot_stands nodes n File t h = record { address = tt; value = h }
 slot_stands nodes n Temporary t h = record { address = tt; value = h }
 
 -- ---- the number of the whole tree
 
-get_any : (xs : List Term) (n : ℕ) → n < length xs → (x : Term) × (slice_get xs n ≡ Some x)
+get_any : (xs : List ExprModel) (n : ℕ) → n < length xs → (x : ExprModel) × (slice_get xs n ≡ Some x)
 get_any [] n lt = absurd (omega (arith, lt))
 get_any (x ∷ xs) zero lt = (x, refl)
 get_any (x ∷ xs) (suc n) lt = get_any xs n (omega (arith, lt))
 
-filler : (n : ℕ) (x p : Term) (at : ℕ) → slice_get (replicate n x) at ≡ Some p → p ≡ x
+filler : (n : ℕ) (x p : ExprModel) (at : ℕ) → slice_get (replicate n x) at ≡ Some p → p ≡ x
 filler zero x p at h = absurd (cc)
 filler (suc n) x p zero h = cc
 filler (suc n) x p (suc at) h = filler n x p at h
 
 -- a tree whose subtrees stand among the nodes has no more of them than there are nodes
-holds_size : (nodes : List Term) (n : ℕ) (t : Term) → HoldsSubtrees nodes n t → n + size_of t ≤ length nodes
+holds_size : (nodes : List ExprModel) (n : ℕ) (t : ExprModel) → HoldsSubtrees nodes n t → n + size_of t ≤ length nodes
 holds_size nodes n t h =
     let pos = size_pos t in
     let len = size_length t in
@@ -46,11 +46,11 @@ holds_size nodes n t h =
     let within = slice_get_within nodes (n + (size_of t - 1)) x (h (size_of t - 1) x last) in
     omega (arith, within, pos)
 
-pub node_size : (destination : Destination) (u t : Term) (n : ℕ) → slice_get (job_nodes destination u) n ≡ Some t → size_of t ≤ length (job_nodes destination u)
+pub node_size : (destination : DestinationModel) (u t : ExprModel) (n : ℕ) → slice_get (job_nodes destination u) n ≡ Some t → size_of t ≤ length (job_nodes destination u)
 node_size destination u t n get = let h = holds_size (job_nodes destination u) n t (nodes_hold destination u n t get) in omega (arith, h)
 
 -- so it is with that of a destination and that of its value together
-pub stands_size : (nodes : List Term) (at : ℕ) (destination : Destination) (t : Term) → Stands nodes at destination t → value_at destination 0 + size_of t ≤ length nodes
+pub stands_size : (nodes : List ExprModel) (at : ℕ) (destination : DestinationModel) (t : ExprModel) → Stands nodes at destination t → value_at destination 0 + size_of t ≤ length nodes
 stands_size nodes at (stored a) t s = let h = holds_size nodes (at + size_of a) t s.value in omega (arith, h)
 stands_size nodes at (into id) t s = let h = holds_size nodes at t s.value in omega (arith, h)
 stands_size nodes at filed t s = let h = holds_size nodes at t s.value in omega (arith, h)
@@ -59,7 +59,7 @@ stands_size nodes at temporary t s = let h = holds_size nodes at t s.value in om
 stands_size nodes at tested t s = let h = holds_size nodes at t s.value in omega (arith, h)
 
 -- a subtree that isn't the first is smaller than the tree
-smaller : (t p : Term) (k : ℕ) → slice_get (subtrees t) (suc k) ≡ Some p → size_of p < size_of t
+smaller : (t p : ExprModel) (k : ℕ) → slice_get (subtrees t) (suc k) ≡ Some p → size_of p < size_of t
 smaller t p k h =
     let pos = size_pos p in
     let lp = size_length p in
@@ -70,7 +70,7 @@ smaller t p k h =
 
 -- a part that stands at its number wherever the tree's subtrees stand is the whole tree exactly
 -- where its number is the tree's
-pub whole_number : (number at : ℕ) (t p : Term) → ((nodes : List Term) → HoldsSubtrees nodes number t → slice_get nodes at ≡ Some p) → (at == number) ≡ (size_of p == size_of t)
+pub whole_number : (number at : ℕ) (t p : ExprModel) → ((nodes : List ExprModel) → HoldsSubtrees nodes number t → slice_get nodes at ≡ Some p) → (at == number) ≡ (size_of p == size_of t)
 whole_number number at t p stands =
     let before = replicate number (zext p 0) in
     let len = length-replicate number (zext p 0) in
@@ -96,15 +96,15 @@ whole_number number at t p stands =
 
 -- ---- numbers of operands and cuts
 
-each_get : (nodes : List Term) (is : List OpenOperand) (i : ℕ) (x : OpenOperand) → EachOperandAt nodes is → slice_get is i ≡ Some x → slice_get nodes x.at ≡ Some (tree_term x.tree.now)
+each_get : (nodes : List ExprModel) (is : List OpenOperand) (i : ℕ) (x : OpenOperand) → EachOperandAt nodes is → slice_get is i ≡ Some x → slice_get nodes x.at ≡ Some (model_of_tree x.tree.now)
 each_get nodes [] i x h get = absurd (cc)
-each_get nodes (y ∷ is) zero x h get = let e : y ≡ x = cc in subst (λ (z : OpenOperand). slice_get nodes z.at ≡ Some (tree_term z.tree.now)) e h.0
+each_get nodes (y ∷ is) zero x h get = let e : y ≡ x = cc in subst (λ (z : OpenOperand). slice_get nodes z.at ≡ Some (model_of_tree z.tree.now)) e h.0
 each_get nodes (y ∷ is) (suc i) x h get = each_get nodes is i x h.1 get
 
-pub input_get : (nodes : List Term) (is : List OpenOperand) (i : ℕ) (x : OpenOperand) → OperandsAt nodes is → slice_get is i ≡ Some x → slice_get nodes x.at ≡ Some (tree_term x.tree.now)
+pub input_get : (nodes : List ExprModel) (is : List OpenOperand) (i : ℕ) (x : OpenOperand) → OperandsAt nodes is → slice_get is i ≡ Some x → slice_get nodes x.at ≡ Some (model_of_tree x.tree.now)
 input_get nodes is i x h get = each_get nodes is i x h.0 get
 
-each_remove : (nodes : List Term) (is : List OpenOperand) (i : ℕ) → EachOperandAt nodes is → EachOperandAt nodes (remove is i)
+each_remove : (nodes : List ExprModel) (is : List OpenOperand) (i : ℕ) → EachOperandAt nodes is → EachOperandAt nodes (remove is i)
 each_remove nodes [] zero h = tt
 each_remove nodes [] (suc i) h = tt
 each_remove nodes (y ∷ is) zero h = h.1
@@ -116,5 +116,5 @@ remove_size [] (suc i) = omega arith
 remove_size (y ∷ is) zero = omega arith
 remove_size (y ∷ is) (suc i) = let h = remove_size is i in omega (arith, h)
 
-pub inputs_remove : (nodes : List Term) (is : List OpenOperand) (i : ℕ) → OperandsAt nodes is → OperandsAt nodes (remove is i)
+pub inputs_remove : (nodes : List ExprModel) (is : List OpenOperand) (i : ℕ) → OperandsAt nodes is → OperandsAt nodes (remove is i)
 inputs_remove nodes is i h = (each_remove nodes is i h.0, (let le = remove_size is i in let few = h.1 in omega (arith, le, few)))

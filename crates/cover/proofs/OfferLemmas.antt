@@ -3,11 +3,11 @@ use Rattle.std.proofs.Common.{◌≡◌, ℕ, zero, suc, ◌+◌, ◌≤◌, Lis
 use Rattle.std.specs.Prelude.{slice_get, slice_index_or, ◌==◌, ◌&&◌}
 use Rattle.std.proofs.lemmas.Bool.{cases_eq}
 use Rattle.std.proofs.lemmas.Option.{slice_get_within}
-use Rattle.net_model.specs.Terms.{Term, size_of}
-use Rattle.form_model.specs.Rules.{Rule, into_memory}
-use Rattle.form_model.specs.Matches.{Home, in_register, in_file, operand, cut, Found}
-use Rattle.form_model.specs.Plans.{Plan, use_form, Operands, no_operands, operand_then, Cuts, no_cuts, cut_then, cost, operands_cost, cuts_cost}
-use Rattle.form_model.specs.Covers.{Stock, Operand, operands_of, cuts_of, kind_cells, home_destination}
+use Rattle.net_model.specs.Exprs.{ExprModel, size_of}
+use Rattle.form_model.specs.Forms.{FormModel, into_memory}
+use Rattle.form_model.specs.Matches.{HomeModel, in_register, in_file, operand, cut, MatchModel}
+use Rattle.form_model.specs.CoverModels.{CoverModel, use_form, CoverOperandsModel, no_operands, operand_then, CoverCutsModel, no_cuts, cut_then, cost, operands_cost, cuts_cost}
+use Rattle.form_model.specs.Covers.{StockModel, Operand, operands_of, cuts_of, cells_of_goal, home_destination}
 use Rattle.cover.specs.declared.limits.Limits.{Limits}
 use Rattle.cover.specs.declared.slots.Slot.{Slot}
 use Rattle.cover.specs.declared.slots.Slot.TheVariants.{Register, File, Temporary}
@@ -16,10 +16,10 @@ use Rattle.cover.specs.declared.rows.Offer.{Offer}
 use Rattle.cover.specs.declared.matches.FormMatch.{FormMatch}
 use Rattle.cover.specs.Inner.Matched.{Takes}
 use Rattle.cover.specs.declared.rows.Offer.TheVariants.{Nothing, Chains, Reaches}
-use Rattle.cover.specs.Inner.Asks.{KeepsTo, free, is_free, operand_ask, cut_ask, takes, IsSparing, AreSparing, AreStored, rest}
-use Rattle.cover.specs.Inner.Least.{AtMost, Reached, IsLeastForm}
+use Rattle.cover.specs.Inner.Subgoals.{KeepsTo, free, is_free, operand_subgoal, cut_subgoal, takes, IsSparing, AreSparing, AreStored, rest}
+use Rattle.cover.specs.Inner.Least.{AtMost, IsLeastWithin, IsLeastForm}
 use Rattle.cover.specs.Inner.Slots.{place, IsEntry, IsSlot, entry_destination, goal_slot, home_slot}
-use Rattle.cover.specs.Inner.Rows.{Row, entry, IsBlank, row_ask, IsLeastRow, IsLift, AreLifts, AreWithin, IsWithin, IsMet, IsTried, IsOffer, offer_is, Noted, IsClosed}
+use Rattle.cover.specs.Inner.Rows.{Row, entry, IsBlank, row_subgoal, IsLeastRow, IsLift, AreLifts, AreWithin, IsWithin, IsMet, IsTried, IsOffer, offer_is, Noted, IsClosed}
 use Rattle.cover.proofs.SizeLemmas.{Small, eq_is, into_small, filed_small, temp_small, rest_some}
 use Rattle.cover.proofs.LeastLemmas.{at_most_more, some_of}
 use Rattle.cover.proofs.SlotLemmas.{slot_entry, place_once}
@@ -36,16 +36,16 @@ pub blank_row : (n : ℕ) → IsBlank (replicate n None)
 blank_row n s = blank_place n (place s)
 
 -- the entry for an operand's home goes where its cover goes
-pub slot_home : (h : Home) → entry_destination (home_slot h) ≡ home_destination h
+pub slot_home : (h : HomeModel) → entry_destination (home_slot h) ≡ home_destination h
 slot_home (in_register id) = refl
 slot_home (in_file shape) = refl
 
-slot_of_home : (whole : Bool) (h : Home) → IsEntry (home_slot h) → IsSlot whole (home_slot h)
+slot_of_home : (whole : Bool) (h : HomeModel) → IsEntry (home_slot h) → IsSlot whole (home_slot h)
 slot_of_home whole (in_register id) e = e
 slot_of_home whole (in_file shape) e = tt
 
 -- what a form takes for an entry of a row: it goes there, and leaves the whole tree or less
-pub row_small : (stock : Stock) (rule : Rule) (t : Term) (whole : Bool) (s : Slot) (found : Found) → IsSlot whole s → takes stock rule (row_ask t whole s) ≡ Some found → (goal_slot rule.goal whole ≡ Some s) × Small whole t found.sites
+pub row_small : (stock : StockModel) (rule : FormModel) (t : ExprModel) (whole : Bool) (s : Slot) (found : MatchModel) → IsSlot whole s → takes stock rule (row_subgoal t whole s) ≡ Some found → (goal_slot rule.goal whole ≡ Some s) × Small whole t found.sites
 row_small stock rule t whole (Register r) found slot h = into_small stock.temps rule rule.goal r t whole found h
 row_small stock rule t whole File found slot h =
     let (is, small) = filed_small stock.temps rule rule.goal t whole found h in
@@ -56,52 +56,52 @@ row_small stock rule t whole Temporary found w h =
 
 -- ---- offers
 
-module _ (stock : Stock) (limits : Limits) (t : Term) (whole : Bool) (row : Row) (k : ℕ) where
+module _ (stock : StockModel) (limits : Limits) (t : ExprModel) (whole : Bool) (row : Row) (k : ℕ) where
   -- a form that goes to no entry of the row
-  pub offer_no_goal : (rule : Rule) → slice_get stock.rules k ≡ Some rule → goal_slot rule.goal whole ≡ None → IsOffer stock limits t whole row k Nothing
+  pub offer_no_goal : (rule : FormModel) → slice_get stock.rules k ≡ Some rule → goal_slot rule.goal whole ≡ None → IsOffer stock limits t whole row k Nothing
   offer_no_goal rule get none = λ ps cs r slot (rule', get', spared, found, is, orders, stored).
       let same : rule' ≡ rule = cc in
       let g = (row_small stock rule' t whole r found slot is).0 in
-      let g' : goal_slot rule.goal whole ≡ Some r = subst (λ (x : Rule). goal_slot x.goal whole ≡ Some r) same g in
+      let g' : goal_slot rule.goal whole ≡ Some r = subst (λ (x : FormModel). goal_slot x.goal whole ≡ Some r) same g in
       absurd (cc)
 
-  pub offer_no_spare : (rule : Rule) → slice_get stock.rules k ≡ Some rule → (KeepsTo limits rule.clobbers (kind_cells rule.goal) → ⊥) → IsOffer stock limits t whole row k Nothing
+  pub offer_no_spare : (rule : FormModel) → slice_get stock.rules k ≡ Some rule → (KeepsTo limits rule.clobbers (cells_of_goal rule.goal) → ⊥) → IsOffer stock limits t whole row k Nothing
   offer_no_spare rule get never = λ ps cs r slot (rule', get', spared, found, is, orders, stored).
       let same : rule' ≡ rule = cc in
-      absurd (never (subst (λ (x : Rule). KeepsTo limits x.clobbers (kind_cells x.goal)) same spared))
+      absurd (never (subst (λ (x : FormModel). KeepsTo limits x.clobbers (cells_of_goal x.goal)) same spared))
 
   -- the entry to which the form goes
-  at_goal : (rule : Rule) (d : Slot) → slice_get stock.rules k ≡ Some rule → goal_slot rule.goal whole ≡ Some d → (ps : Operands) (cs : Cuts) (r : Slot) → IsSlot whole r → IsSparing stock limits (row_ask t whole r) (use_form k ps cs) → d ≡ r
+  at_goal : (rule : FormModel) (d : Slot) → slice_get stock.rules k ≡ Some rule → goal_slot rule.goal whole ≡ Some d → (ps : CoverOperandsModel) (cs : CoverCutsModel) (r : Slot) → IsSlot whole r → IsSparing stock limits (row_subgoal t whole r) (use_form k ps cs) → d ≡ r
   at_goal rule d get goal ps cs r slot (rule', get', spared, found, is, orders, stored) =
       let same : rule' ≡ rule = cc in
       let g = (row_small stock rule' t whole r found slot is).0 in
-      let g' : goal_slot rule.goal whole ≡ Some r = subst (λ (x : Rule). goal_slot x.goal whole ≡ Some r) same g in
+      let g' : goal_slot rule.goal whole ≡ Some r = subst (λ (x : FormModel). goal_slot x.goal whole ≡ Some r) same g in
       cc
 
-  pub offer_form : (rule : Rule) (d : Slot) (o : Option ℕ) → slice_get stock.rules k ≡ Some rule → goal_slot rule.goal whole ≡ Some d → IsSlot whole d → IsLeastForm stock limits (row_ask t whole d) k o → IsOffer stock limits t whole row k (offer_is d o)
+  pub offer_form : (rule : FormModel) (d : Slot) (o : Option ℕ) → slice_get stock.rules k ≡ Some rule → goal_slot rule.goal whole ≡ Some d → IsSlot whole d → IsLeastForm stock limits (row_subgoal t whole d) k o → IsOffer stock limits t whole row k (offer_is d o)
   offer_form rule d None get goal slot is = λ ps cs r slot' sparing.
       let e = at_goal rule d get goal ps cs r slot' sparing in
-      absurd (is.least ps cs (subst (λ j. IsSparing stock limits (row_ask t whole j) (use_form k ps cs)) (sym e) sparing))
+      absurd (is.least ps cs (subst (λ j. IsSparing stock limits (row_subgoal t whole j) (use_form k ps cs)) (sym e) sparing))
   offer_form rule d (Some n) get goal slot is = (
     slot,
     (let (ps, cs, sparing, e) = is.reached in (use_form k ps cs, sparing, e)),
     λ ps cs r slot' sparing.
         let e = at_goal rule d get goal ps cs r slot' sparing in
-        (e, is.least ps cs (subst (λ j. IsSparing stock limits (row_ask t whole j) (use_form k ps cs)) (sym e) sparing)),
+        (e, is.least ps cs (subst (λ j. IsSparing stock limits (row_subgoal t whole j) (use_form k ps cs)) (sym e) sparing)),
   )
 
   -- a cover of the one part, from the cover of the form, and back
-  sole : (h : Home) (ps : Operands) → AreSparing stock limits (record { home = h; tree = t; whole = whole } ∷ []) ps → (q : Plan) × IsSparing stock limits (record { destination = home_destination h; tree = t; whole = whole }) q × (cost q ≤ operands_cost ps)
+  sole : (h : HomeModel) (ps : CoverOperandsModel) → AreSparing stock limits (record { home = h; tree = t; whole = whole } ∷ []) ps → (q : CoverModel) × IsSparing stock limits (record { destination = home_destination h; tree = t; whole = whole }) q × (cost q ≤ operands_cost ps)
   sole h no_operands e = absurd (cc)
   sole h (operand_then zero q others) (o, get, sparing, later) =
       let mine : Operand = record { home = h; tree = t; whole = whole } in
-      let e : mine ≡ o = cc in (q, subst (λ x. IsSparing stock limits (operand_ask x) q) (sym e) sparing, omega arith)
+      let e : mine ≡ o = cc in (q, subst (λ x. IsSparing stock limits (operand_subgoal x) q) (sym e) sparing, omega arith)
   sole h (operand_then (suc i) q others) (o, get, sparing, later) = absurd (cc)
 
-  sole_cut : (cs : Cuts) → AreStored stock (t ∷ []) cs → (q : Plan) × IsSparing stock (free stock) (cut_ask t) q × (cost q ≤ cuts_cost cs)
+  sole_cut : (cs : CoverCutsModel) → AreStored stock (t ∷ []) cs → (q : CoverModel) × IsSparing stock (free stock) (cut_subgoal t) q × (cost q ≤ cuts_cost cs)
   sole_cut no_cuts e = absurd (cc)
   sole_cut (cut_then q later) (u, us, e, sparing, others) =
-      let same : u ≡ t = cc in (q, subst (λ x. IsSparing stock (free stock) (cut_ask x) q) same sparing, omega arith)
+      let same : u ≡ t = cc in (q, subst (λ x. IsSparing stock (free stock) (cut_subgoal x) q) same sparing, omega arith)
 
   all_free : is_free stock.file limits ≡ true → limits ≡ free stock
   all_free e =
@@ -114,19 +114,19 @@ module _ (stock : Stock) (limits : Limits) (t : Term) (whole : Bool) (row : Row)
       both_true true b e = (refl, e)
       both_true false b e = absurd (cc)
 
-  pub offer_chain : (rule : Rule) (d q : Slot) (found : Found) → slice_get stock.rules k ≡ Some rule → KeepsTo limits rule.clobbers (kind_cells rule.goal) → goal_slot rule.goal whole ≡ Some d → IsSlot whole d → takes stock rule (row_ask t whole d) ≡ Some found → rest (size_of t) (is_free stock.file limits) found.sites ≡ Some q → IsEntry q → IsOffer stock limits t whole row k (Chains (record { start = q; goal = d }))
+  pub offer_chain : (rule : FormModel) (d q : Slot) (found : MatchModel) → slice_get stock.rules k ≡ Some rule → KeepsTo limits rule.clobbers (cells_of_goal rule.goal) → goal_slot rule.goal whole ≡ Some d → IsSlot whole d → takes stock rule (row_subgoal t whole d) ≡ Some found → rest (size_of t) (is_free stock.file limits) found.sites ≡ Some q → IsEntry q → IsOffer stock limits t whole row k (Chains (record { start = q; goal = d }))
   offer_chain rule d q found get spared goal slot is rests within = go (rest_some whole t (is_free stock.file limits) found.sites q (row_small stock rule t whole d found slot is).1 rests)
     where
       -- the parts of a cover by this form
-      parts : (ps : Operands) (cs : Cuts) (r : Slot) → IsSlot whole r → IsSparing stock limits (row_ask t whole r) (use_form k ps cs) → (d ≡ r) × AreSparing stock limits (operands_of found.sites) ps × AreStored stock (cuts_of found.sites) cs
+      parts : (ps : CoverOperandsModel) (cs : CoverCutsModel) (r : Slot) → IsSlot whole r → IsSparing stock limits (row_subgoal t whole r) (use_form k ps cs) → (d ≡ r) × AreSparing stock limits (operands_of found.sites) ps × AreStored stock (cuts_of found.sites) cs
       parts ps cs r slot' (rule', get', spared', found', is', orders, stored) =
           let e = at_goal rule d get goal ps cs r slot' (rule', get', spared', found', is', orders, stored) in
           let same : rule' ≡ rule = cc in
-          let t' : takes stock rule (row_ask t whole d) ≡ Some found' = subst (λ j. takes stock rule (row_ask t whole j) ≡ Some found') (sym e) (subst (λ x. takes stock x (row_ask t whole r) ≡ Some found') same is') in
+          let t' : takes stock rule (row_subgoal t whole d) ≡ Some found' = subst (λ j. takes stock rule (row_subgoal t whole j) ≡ Some found') (sym e) (subst (λ x. takes stock x (row_subgoal t whole r) ≡ Some found') same is') in
           let same' : found' ≡ found = cc in
-          (e, subst (λ (f : Found). AreSparing stock limits (operands_of f.sites) ps) same' orders, subst (λ (f : Found). AreStored stock (cuts_of f.sites) cs) same' stored)
+          (e, subst (λ (f : MatchModel). AreSparing stock limits (operands_of f.sites) ps) same' orders, subst (λ (f : MatchModel). AreStored stock (cuts_of f.sites) cs) same' stored)
 
-      go : ((h : Home) × (found.sites ≡ operand h t whole ∷ []) × (q ≡ home_slot h)) ⊎ ((shape : Term) × (found.sites ≡ cut shape t ∷ []) × (whole ≡ false) × (is_free stock.file limits ≡ true) × (q ≡ Temporary)) → IsOffer stock limits t whole row k (Chains (record { start = q; goal = d }))
+      go : ((h : HomeModel) × (found.sites ≡ operand h t whole ∷ []) × (q ≡ home_slot h)) ⊎ ((shape : ExprModel) × (found.sites ≡ cut shape t ∷ []) × (whole ≡ false) × (is_free stock.file limits ≡ true) × (q ≡ Temporary)) → IsOffer stock limits t whole row k (Chains (record { start = q; goal = d }))
       go (inl (h, e, same)) =
           let at : entry_destination q ≡ home_destination h = ap entry_destination same ∙ slot_home h in
           let mine : Operand = record { home = h; tree = t; whole = whole } in
@@ -150,20 +150,20 @@ module _ (stock : Stock) (limits : Limits) (t : Term) (whole : Bool) (row : Row)
           let zero_is = all_free all in
           let a : operands_of found.sites ≡ [] = ap operands_of e in
           let b : cuts_of found.sites ≡ t ∷ [] = ap cuts_of e in
-          let there : row_ask t whole q ≡ cut_ask t = ap (λ j. row_ask t whole j) at ∙ ap (λ v. row_ask t v Temporary) w in (
+          let there : row_subgoal t whole q ≡ cut_subgoal t = ap (λ j. row_subgoal t whole j) at ∙ ap (λ v. row_subgoal t v Temporary) w in (
             record {
               start = subst (IsSlot whole) (sym at) w;
               goal = slot;
               lift = λ p sparing. (
                 use_form k no_operands (cut_then p no_cuts),
-                (rule, get, spared, found, is, a, subst (λ l. AreStored stock l (cut_then p no_cuts)) (sym b) (t, [], refl, subst (λ x. IsSparing stock (free stock) x p) there (subst (λ s. IsSparing stock s (row_ask t whole q) p) zero_is sparing), refl)),
+                (rule, get, spared, found, is, a, subst (λ l. AreStored stock l (cut_then p no_cuts)) (sym b) (t, [], refl, subst (λ x. IsSparing stock (free stock) x p) there (subst (λ s. IsSparing stock s (row_subgoal t whole q) p) zero_is sparing), refl)),
                 omega arith,
               );
             },
             λ ps cs r slot' sparing.
                 let (same, orders, stored) = parts ps cs r slot' sparing in
                 let (p, sparing', le) = sole_cut cs (subst (λ l. AreStored stock l cs) b stored) in
-                (same, p, subst (λ s. IsSparing stock s (row_ask t whole q) p) (sym zero_is) (subst (λ x. IsSparing stock (free stock) x p) (sym there) sparing'), omega (arith, le)),
+                (same, p, subst (λ s. IsSparing stock s (row_subgoal t whole q) p) (sym zero_is) (subst (λ x. IsSparing stock (free stock) x p) (sym there) sparing'), omega (arith, le)),
           )
 
 -- ---- rows
@@ -183,10 +183,10 @@ get_either [] y x (suc i) h = absurd (cc)
 get_either (z ∷ xs) y x zero h = inl h
 get_either (z ∷ xs) y x (suc i) h = get_either xs y x i h
 
-module _ (stock : Stock) (limits : Limits) (t : Term) (whole : Bool) where
+module _ (stock : StockModel) (limits : Limits) (t : ExprModel) (whole : Bool) where
   pub tried_none : (list : List FormMatch) (row : Row) → ((r : Slot) → entry row r ≡ None) → IsTried stock limits t whole list 0 [] row
   tried_none list row blank = record {
-    sound = λ r slot. subst (λ o. Reached stock limits (row_ask t whole r) o) (sym (blank r)) tt;
+    sound = λ r slot. subst (λ o. IsLeastWithin stock limits (row_subgoal t whole r) o) (sym (blank r)) tt;
     lifts = λ i m get. absurd (cc);
     met = λ i f ps cs r lt. absurd (omega arith);
   }
@@ -204,10 +204,10 @@ module _ (stock : Stock) (limits : Limits) (t : Term) (whole : Bool) where
 
   module _ (list : List FormMatch) (n : ℕ) (f : FormMatch) (here : slice_get list n ≡ Some f) where
     -- a cover that begins with a match at n begins with the form of f
-    at_match : (i : ℕ) (x : FormMatch) (ps : Operands) (cs : Cuts) (r : Slot) → i ≡ n → slice_get list i ≡ Some x → IsSparing stock limits (row_ask t whole r) (use_form x.form ps cs) → IsSparing stock limits (row_ask t whole r) (use_form f.form ps cs)
+    at_match : (i : ℕ) (x : FormMatch) (ps : CoverOperandsModel) (cs : CoverCutsModel) (r : Slot) → i ≡ n → slice_get list i ≡ Some x → IsSparing stock limits (row_subgoal t whole r) (use_form x.form ps cs) → IsSparing stock limits (row_subgoal t whole r) (use_form f.form ps cs)
     at_match i x ps cs r at got sparing =
         let there : slice_get list n ≡ Some x = subst (λ j. slice_get list j ≡ Some x) at got in
-        let same : x ≡ f = cc in subst (λ (y : FormMatch). IsSparing stock limits (row_ask t whole r) (use_form y.form ps cs)) same sparing
+        let same : x ≡ f = cc in subst (λ (y : FormMatch). IsSparing stock limits (row_subgoal t whole r) (use_form y.form ps cs)) same sparing
 
     pub tried_more : (offer : Offer) (chains chains' : List ChainRule) (old new : Row) → IsTried stock limits t whole list n chains old → IsOffer stock limits t whole old f.form offer → Noted offer chains chains' old new → IsTried stock limits t whole list (n + 1) chains' new
     tried_more Nothing chains chains' old new tried offer (e, e') =
@@ -235,8 +235,8 @@ module _ (stock : Stock) (limits : Limits) (t : Term) (whole : Bool) where
     tried_more (Reaches d c) chains chains' old new tried (slot_d, reached, offer) (e, entered) =
         subst (λ ms. IsTried stock limits t whole list (n + 1) ms new) (sym e) (record {
           sound = λ q slot. elim (entered.others q) [
-            | inl same ↦ subst (λ o. Reached stock limits (row_ask t whole q) o) (sym same) (tried.sound q slot)
-            | inr at ↦ subst (λ o. Reached stock limits (row_ask t whole q) o) (sym at.1) (subst (λ j. Reached stock limits (row_ask t whole j) (Some c)) (sym (place_once q d (slot_entry whole q slot) (slot_entry whole d slot_d) at.0)) reached)
+            | inl same ↦ subst (λ o. IsLeastWithin stock limits (row_subgoal t whole q) o) (sym same) (tried.sound q slot)
+            | inr at ↦ subst (λ o. IsLeastWithin stock limits (row_subgoal t whole q) o) (sym at.1) (subst (λ j. IsLeastWithin stock limits (row_subgoal t whole j) (Some c)) (sym (place_once q d (slot_entry whole q slot) (slot_entry whole d slot_d) at.0)) reached)
           ];
           lifts = tried.lifts;
           met = λ i x ps cs r lt got slot sparing. elim (cases_eq i n) [
@@ -248,14 +248,14 @@ module _ (stock : Stock) (limits : Limits) (t : Term) (whole : Bool) where
 
   module _ (list : List FormMatch) (all : (k : ℕ) → Takes stock t whole k → (i : ℕ) × (m : FormMatch) × (slice_get list i ≡ Some m) × (m.form ≡ k)) (chains : List ChainRule) (old new : Row) (tried : IsTried stock limits t whole list (length list) chains old) (closed : IsClosed chains old new) where
     -- no cover is cheaper than its entry, by induction on a bound of its cost
-    complete : (n : ℕ) (p : Plan) (r : Slot) → cost p ≤ n → IsSlot whole r → IsSparing stock limits (row_ask t whole r) p → AtMost (entry new r) (cost p)
+    complete : (n : ℕ) (p : CoverModel) (r : Slot) → cost p ≤ n → IsSlot whole r → IsSparing stock limits (row_subgoal t whole r) p → AtMost (entry new r) (cost p)
     complete zero (use_form k ps cs) r le slot sparing = absurd (omega arith)
     complete (suc n) (use_form k ps cs) r le slot (rule, get, spared, found, is, orders, stored) =
         let (i, f, got, same) = all k (record { entry = r; slot = slot; rule = rule; found = found; listed = get; takes_it = is }) in
         go (complete n)
-        (tried.met i f ps cs r (slice_get_within list i f got) got slot (subst (λ j. IsSparing stock limits (row_ask t whole r) (use_form j ps cs)) (sym same) (rule, get, spared, found, is, orders, stored)))
+        (tried.met i f ps cs r (slice_get_within list i f got) got slot (subst (λ j. IsSparing stock limits (row_subgoal t whole r) (use_form j ps cs)) (sym same) (rule, get, spared, found, is, orders, stored)))
       where
-        go : ((q : Plan) (s : Slot) → cost q ≤ n → IsSlot whole s → IsSparing stock limits (row_ask t whole s) q → AtMost (entry new s) (cost q)) → IsMet stock limits t whole chains old r (cost (use_form k ps cs)) → AtMost (entry new r) (cost (use_form k ps cs))
+        go : ((q : CoverModel) (s : Slot) → cost q ≤ n → IsSlot whole s → IsSparing stock limits (row_subgoal t whole s) q → AtMost (entry new s) (cost q)) → IsMet stock limits t whole chains old r (cost (use_form k ps cs)) → AtMost (entry new r) (cost (use_form k ps cs))
         go ih (inl h) = closed.lower r (cost (use_form k ps cs)) h
         go ih (inr (i, m, listed, goal, q, sparing, less)) =
             let (c, at, up) = some_of (entry new m.start) (cost q) (ih q m.start (omega (arith, le, less)) (tried.lifts i m listed).start sparing) in
@@ -265,7 +265,7 @@ module _ (stock : Stock) (limits : Limits) (t : Term) (whole : Bool) where
     pub least_row_of : IsLeastRow stock limits t whole new
     least_row_of r slot = record { reached = closed.sound stock limits t whole tried.lifts tried.sound r slot; least = λ p h. complete (cost p) p r (omega arith) slot h }
 
-pub look_within : (stock : Stock) (limits : Limits) (t : Term) (whole : Bool) (row : Row) (k : ℕ) (offer : Offer) → IsOffer stock limits t whole row k offer → IsWithin offer
+pub look_within : (stock : StockModel) (limits : Limits) (t : ExprModel) (whole : Bool) (row : Row) (k : ℕ) (offer : Offer) → IsOffer stock limits t whole row k offer → IsWithin offer
 look_within stock limits t whole row k Nothing h = tt
 look_within stock limits t whole row k (Chains m) h = tt
 look_within stock limits t whole row k (Reaches slot n) h = slot_entry whole slot h.0

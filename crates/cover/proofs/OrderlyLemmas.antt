@@ -3,12 +3,12 @@
 use Rattle.std.proofs.Common.{◌≡◌, ℕ, ◌+◌, ◌≤◌, max, List, sym, ap, subst, ◌∙◌, arith}
 use Rattle.std.specs.Prelude.{bit_and, bit_or, remove, slice_get}
 use Rattle.std.proofs.lemmas.Nat.{and_le_l, and_le_r, and_comm, or_comm, and_or_self, and_or_apart, and_assoc}
-use Rattle.net_model.specs.Terms.{Term}
-use Rattle.form_model.specs.Plans.{Plan, use_form, Operands, no_operands, operand_then, Cuts, no_cuts, cut_then}
-use Rattle.form_model.specs.Covers.{Stock, Operand, home_set, form_cells, left_cells, need, operands_need, form_clobbers, written, all_written, IsOrderly, AreOrderly, AreCut}
+use Rattle.net_model.specs.Exprs.{ExprModel}
+use Rattle.form_model.specs.CoverModels.{CoverModel, use_form, CoverOperandsModel, no_operands, operand_then, CoverCutsModel, no_cuts, cut_then}
+use Rattle.form_model.specs.Covers.{StockModel, Operand, home_set, form_cells, left_cells, need, operands_need, form_clobbers, written, all_written, IsOrderly, AreOrderly, AreCut}
 use Rattle.form_model.proofs.NeedLaws.{cells_left, left_need}
 use Rattle.cover.specs.declared.limits.Limits.{Limits}
-use Rattle.cover.specs.Inner.Asks.{Ask, operand_ask, cut_ask, free, after, IsSparing, AreSparing, AreStored}
+use Rattle.cover.specs.Inner.Subgoals.{SubgoalModel, operand_subgoal, cut_subgoal, free, after, IsSparing, AreSparing, AreStored}
 
 zero_and : (a : ℕ) → bit_and 0 a ≡ 0
 zero_and a = let h = and_le_l 0 a in omega (arith, h)
@@ -44,15 +44,15 @@ within_right a b n h = omega (arith, h)
 
 -- a cover that keeps to limits: it writes nothing that is to be avoided, and needs no more cells of
 -- the file than are allowed
-abbrev pub Kept : Stock → Limits → Plan → Type 0
+abbrev pub Kept : StockModel → Limits → CoverModel → Type 0
 Kept stock limits p = (bit_and (written stock.rules p) limits.avoid ≡ 0) × (need stock.rules p ≤ limits.allowed)
 
-abbrev pub AllKept : Stock → Limits → Operands → Type 0
+abbrev pub AllKept : StockModel → Limits → CoverOperandsModel → Type 0
 AllKept stock limits ps =
     (bit_and (all_written stock.rules ps) limits.avoid ≡ 0) × (operands_need stock.rules ps ≤ limits.allowed)
 
 mutual
-  pub to_orderly : (stock : Stock) (p : Plan) (ask : Ask) (limits : Limits) → IsSparing stock limits ask p → IsOrderly stock ask.destination ask.tree ask.whole p × Kept stock limits p
+  pub to_orderly : (stock : StockModel) (p : CoverModel) (ask : SubgoalModel) (limits : Limits) → IsSparing stock limits ask p → IsOrderly stock ask.destination ask.tree ask.whole p × Kept stock limits p
   to_orderly stock (use_form k ps cs) ask limits (rule, listed, spared, found, m, orders, stored) =
       let (orderly, kept) = to_all stock ps _ limits orders in (
         (rule, listed, found, m, orderly, to_cut stock cs _ stored),
@@ -62,10 +62,10 @@ mutual
         ),
       )
 
-  to_all : (stock : Stock) (ps : Operands) (ops : List Operand) (limits : Limits) → AreSparing stock limits ops ps → AreOrderly stock ops ps × AllKept stock limits ps
+  to_all : (stock : StockModel) (ps : CoverOperandsModel) (ops : List Operand) (limits : Limits) → AreSparing stock limits ops ps → AreOrderly stock ops ps × AllKept stock limits ps
   to_all stock no_operands ops limits e = (e, (zero_and limits.avoid, omega arith))
   to_all stock (operand_then i p ps) ops limits (o, get, sparing, orders) =
-      let (orderly, kept) = to_orderly stock p (operand_ask o) limits sparing in
+      let (orderly, kept) = to_orderly stock p (operand_subgoal o) limits sparing in
       let (rest, later) = to_all stock ps (remove ops i) (after limits o.home) orders in
       let few = kept.1 in
       let few' = later.1 in
@@ -79,14 +79,14 @@ mutual
         ),
       )
 
-  to_cut : (stock : Stock) (cs : Cuts) (ts : List Term) → AreStored stock ts cs → AreCut stock ts cs
+  to_cut : (stock : StockModel) (cs : CoverCutsModel) (ts : List ExprModel) → AreStored stock ts cs → AreCut stock ts cs
   to_cut stock no_cuts ts e = e
   to_cut stock (cut_then p cs) ts (t, us, e, sparing, stored) =
-      let (orderly, kept) = to_orderly stock p (cut_ask t) (free stock) sparing in
+      let (orderly, kept) = to_orderly stock p (cut_subgoal t) (free stock) sparing in
       (t, us, e, orderly, kept.1, to_cut stock cs us stored)
 
 mutual
-  pub from_orderly : (stock : Stock) (p : Plan) (ask : Ask) (limits : Limits) → IsOrderly stock ask.destination ask.tree ask.whole p → Kept stock limits p → IsSparing stock limits ask p
+  pub from_orderly : (stock : StockModel) (p : CoverModel) (ask : SubgoalModel) (limits : Limits) → IsOrderly stock ask.destination ask.tree ask.whole p → Kept stock limits p → IsSparing stock limits ask p
   from_orderly stock (use_form k ps cs) ask limits (rule, listed, found, m, orderly, stored) (apart, few) = (
     rule,
     listed,
@@ -100,7 +100,7 @@ mutual
     from_cut stock cs _ stored,
   )
 
-  from_all : (stock : Stock) (ps : Operands) (ops : List Operand) (limits : Limits) → AreOrderly stock ops ps → AllKept stock limits ps → AreSparing stock limits ops ps
+  from_all : (stock : StockModel) (ps : CoverOperandsModel) (ops : List Operand) (limits : Limits) → AreOrderly stock ops ps → AllKept stock limits ps → AreSparing stock limits ops ps
   from_all stock no_operands ops limits e kept = e
   from_all stock (operand_then i p ps) ops limits (o, get, orderly, spared, rest) (apart, few) =
       let mine = apart_right (written stock.rules p) (all_written stock.rules ps) limits.avoid apart in
@@ -109,10 +109,10 @@ mutual
       let fits = within_right (need stock.rules p) (left_cells stock.rules p + operands_need stock.rules ps) limits.allowed few in (
         o,
         get,
-        from_orderly stock p (operand_ask o) limits orderly (apart_left (written stock.rules p) (all_written stock.rules ps) limits.avoid apart, within_left (need stock.rules p) (left_cells stock.rules p + operands_need stock.rules ps) limits.allowed few),
+        from_orderly stock p (operand_subgoal o) limits orderly (apart_left (written stock.rules p) (all_written stock.rules ps) limits.avoid apart, within_left (need stock.rules p) (left_cells stock.rules p + operands_need stock.rules ps) limits.allowed few),
         from_all stock ps (remove ops i) (after limits o.home) rest (and_comm _ _ ∙ both, omega (arith, fits, left)),
       )
 
-  from_cut : (stock : Stock) (cs : Cuts) (ts : List Term) → AreCut stock ts cs → AreStored stock ts cs
+  from_cut : (stock : StockModel) (cs : CoverCutsModel) (ts : List ExprModel) → AreCut stock ts cs → AreStored stock ts cs
   from_cut stock no_cuts ts e = e
-  from_cut stock (cut_then p cs) ts (t, us, e, orderly, few, stored) = (t, us, e, from_orderly stock p (cut_ask t) (free stock) orderly (and_zero (written stock.rules p), few), from_cut stock cs us stored)
+  from_cut stock (cut_then p cs) ts (t, us, e, orderly, few, stored) = (t, us, e, from_orderly stock p (cut_subgoal t) (free stock) orderly (and_zero (written stock.rules p), few), from_cut stock cs us stored)

@@ -4,14 +4,14 @@ use Rattle.std.specs.Prelude.{slice_get, slice_set, if◌then◌else◌}
 use Rattle.std.specs.Bool.{OnTrue, OnFalse}
 use Rattle.std.proofs.lemmas.Bool.{cases_eq}
 use Rattle.std.proofs.lemmas.List.Sums.{sum_by-cons, sum_by-set}
-use Rattle.net_model.specs.Terms.{Term}
-use Rattle.form_model.specs.Covers.{Stock}
+use Rattle.net_model.specs.Exprs.{ExprModel}
+use Rattle.form_model.specs.Covers.{StockModel}
 use Rattle.cover.specs.declared.limits.Limits.{Limits}
 use Rattle.cover.specs.declared.slots.Slot.{Slot}
 use Rattle.cover.specs.declared.rows.ChainRule.{ChainRule}
-use Rattle.cover.specs.Inner.Least.{AtMost, NoMore, Reached}
+use Rattle.cover.specs.Inner.Least.{AtMost, NoMore, IsLeastWithin}
 use Rattle.cover.specs.Inner.Slots.{place, IsEntry}
-use Rattle.cover.specs.Inner.Rows.{Row, entry, row_ask, Sound, IsBelow, IsLift, weight, weight_of, unfilled, unfilled_in, IsRoomy, NoneAbove, Lower, Chained, Changed, Keeps, Swept, IsClosed, Entered}
+use Rattle.cover.specs.Inner.Rows.{Row, entry, row_subgoal, Sound, IsBelow, IsLift, weight, weight_of, unfilled, unfilled_in, IsRoomy, NoneAbove, Lower, Chained, Changed, Keeps, Swept, IsClosed, Entered}
 use Rattle.cover.proofs.SlotLemmas.{place_within, slot_entry, place_once}
 
 -- an entry after a write
@@ -57,20 +57,20 @@ moved_lower m old new len fits (c, at, small, below, e) q n h =
       | inr other ↦ subst (λ o. AtMost o n) (sym (entry_other old m.goal q (Some (c + 1)) other)) h
     ])
 
-move_reached : (stock : Stock) (limits : Limits) (tree : Term) (whole : Bool) (m : ChainRule) (c : ℕ) → IsLift stock limits tree whole m → Reached stock limits (row_ask tree whole m.start) (Some c) → Reached stock limits (row_ask tree whole m.goal) (Some (c + 1))
+move_reached : (stock : StockModel) (limits : Limits) (tree : ExprModel) (whole : Bool) (m : ChainRule) (c : ℕ) → IsLift stock limits tree whole m → IsLeastWithin stock limits (row_subgoal tree whole m.start) (Some c) → IsLeastWithin stock limits (row_subgoal tree whole m.goal) (Some (c + 1))
 move_reached stock limits tree whole m c is (p, sparing, e) = let (q, sparing', e') = is.lift p sparing in (q, sparing', omega (arith, e, e'))
 
 -- a row of costs of covers stays one where a chain rule gives its goal a cost
-pub raised_sound : (stock : Stock) (limits : Limits) (tree : Term) (whole : Bool) (m : ChainRule) (old : Row) (c : ℕ) → IsLift stock limits tree whole m → length old ≡ 18 → entry old m.start ≡ Some c → Sound stock limits tree whole old → Sound stock limits tree whole (slice_set old (place m.goal) (Some (c + 1)))
+pub raised_sound : (stock : StockModel) (limits : Limits) (tree : ExprModel) (whole : Bool) (m : ChainRule) (old : Row) (c : ℕ) → IsLift stock limits tree whole m → length old ≡ 18 → entry old m.start ≡ Some c → Sound stock limits tree whole old → Sound stock limits tree whole (slice_set old (place m.goal) (Some (c + 1)))
 raised_sound stock limits tree whole m old c lift len at sound q slot =
     let fits = slot_entry whole m.goal lift.goal in
     let p = place_within m.goal fits in
     let within : place m.goal < length old = omega (arith, len, p) in
     elim (cases_eq (place q) (place m.goal)) [
-      | inl same ↦ subst (λ j. Reached stock limits (row_ask tree whole j) (entry (slice_set old (place m.goal) (Some (c + 1))) j)) (sym (place_once q m.goal (slot_entry whole q slot) fits same))
-          (subst (λ o. Reached stock limits (row_ask tree whole m.goal) o) (sym (entry_same old m.goal (Some (c + 1)) within))
-          (move_reached stock limits tree whole m c lift (subst (λ o. Reached stock limits (row_ask tree whole m.start) o) at (sound m.start lift.start))))
-      | inr other ↦ subst (λ o. Reached stock limits (row_ask tree whole q) o) (sym (entry_other old m.goal q (Some (c + 1)) other)) (sound q slot)
+      | inl same ↦ subst (λ j. IsLeastWithin stock limits (row_subgoal tree whole j) (entry (slice_set old (place m.goal) (Some (c + 1))) j)) (sym (place_once q m.goal (slot_entry whole q slot) fits same))
+          (subst (λ o. IsLeastWithin stock limits (row_subgoal tree whole m.goal) o) (sym (entry_same old m.goal (Some (c + 1)) within))
+          (move_reached stock limits tree whole m c lift (subst (λ o. IsLeastWithin stock limits (row_subgoal tree whole m.start) o) at (sound m.start lift.start))))
+      | inr other ↦ subst (λ o. IsLeastWithin stock limits (row_subgoal tree whole q) o) (sym (entry_other old m.goal q (Some (c + 1)) other)) (sound q slot)
     ]
 
 moved_sound : (chains : List ChainRule) (i : ℕ) (m : ChainRule) (old new : Row) → slice_get chains i ≡ Some m → length old ≡ 18 → Chained m true old new → Keeps chains old new

@@ -3,19 +3,19 @@ use Rattle.std.proofs.Common.{◌≡◌, ℕ, ◌+◌, ◌<◌, ◌≤◌, List,
 use Rattle.std.specs.Prelude.{if◌then◌else◌, ◌==◌, ◌&&◌, not}
 use Rattle.std.proofs.lemmas.Bool.Decides.{nat_tests}
 use Rattle.net_model.specs.declared.hardware.Space.TheVariants.{Memory as InMemory, File as InFile}
-use Rattle.net_model.specs.Terms.{Term, word, reg, const, read, un, bin, slice, cat, zext, sext, select, term_width, size_of}
+use Rattle.net_model.specs.Exprs.{ExprModel, word, reg, const, read, un, bin, slice, cat, zext, sext, select, expr_width, size_of}
 use Rattle.rec_bits.specs.declared.operator.Op1.{Op1}
 use Rattle.rec_bits.specs.declared.operator.Op2.{Op2}
 use Rattle.form_model.specs.Trees.{is_number, is_cell}
 use Rattle.form_model.specs.Shapes.{is_shape, shows_below}
-use Rattle.form_model.specs.Rules.{Rule, Kind, into_reg, into_memory, into_file, jumps, branches, Destination, into, filed, cell, stored, temporary, tested}
-use Rattle.form_model.specs.Matches.{same_op1, same_op2, Home, in_register, in_file, Site, operand, cut, Found, settled, open_if, both, shape_match, literal_match, cell_match, read_match, un_match, bin_match, slice_match, zext_match, sext_match, matched, address_match, goal_match, taken}
-use Rattle.tree_grammar.specs.Parts.{value_at}
+use Rattle.form_model.specs.Forms.{FormModel, GoalModel, into_reg, into_memory, into_file, jumps, branches, DestinationModel, into, filed, cell, stored, temporary, tested}
+use Rattle.form_model.specs.Matches.{same_op1, same_op2, HomeModel, in_register, in_file, LeafModel, operand, cut, MatchModel, settled, open_if, both, shape_match, literal_match, cell_match, read_match, un_match, bin_match, slice_match, zext_match, sext_match, matched, address_match, goal_match, taken}
+use Rattle.tree_grammar.specs.Leaves.{value_at}
 use Rattle.form_model.specs.Covers.{operands_of, cuts_of}
 use Rattle.cover.specs.declared.limits.Limits.{Limits}
 use Rattle.cover.specs.declared.slots.Slot.{Slot}
 use Rattle.cover.specs.declared.slots.Slot.TheVariants.{Register, Temporary}
-use Rattle.cover.specs.Inner.Asks.{operands_size, terms_size, is_free, rank, rest}
+use Rattle.cover.specs.Inner.Subgoals.{operands_size, exprs_size, is_free, rank, rest}
 use Rattle.cover.specs.Inner.Slots.{goal_slot, home_slot}
 
 pub picked : {A : Type 0} (b : Bool) (x : Option A) (y : A) → (if b then x else None) ≡ Some y → (b ≡ true) × (x ≡ Some y)
@@ -28,7 +28,7 @@ eq_is a b e = grind (arith, nat_tests)
 pub eq_self : (a : ℕ) → (a == a) ≡ true
 eq_self a = grind (arith, nat_tests)
 
-pub size_pos : (t : Term) → 1 ≤ size_of t
+pub size_pos : (t : ExprModel) → 1 ≤ size_of t
 size_pos (word w) = omega arith
 size_pos (reg r w) = omega arith
 size_pos (const w v) = omega arith
@@ -42,101 +42,101 @@ size_pos (sext a w) = omega arith
 size_pos (select c a b) = omega arith
 
 -- the size of all that is left open
-abbrev pub total : List Site → ℕ
+abbrev pub total : List LeafModel → ℕ
 total [] = 0
 total (operand id tree whole ∷ sites) = size_of tree + total sites
 total (cut shape tree ∷ sites) = size_of tree + total sites
 
-pub total_parts : (sites : List Site) → total sites ≡ operands_size (operands_of sites) + terms_size (cuts_of sites)
+pub total_parts : (sites : List LeafModel) → total sites ≡ operands_size (operands_of sites) + exprs_size (cuts_of sites)
 total_parts [] = refl
 total_parts (operand id tree whole ∷ sites) = let h = total_parts sites in omega (arith, h)
 total_parts (cut shape tree ∷ sites) = let h = total_parts sites in omega (arith, h)
 
-total-append : (xs ys : List Site) → total (xs ++ ys) ≡ total xs + total ys
+total-append : (xs ys : List LeafModel) → total (xs ++ ys) ≡ total xs + total ys
 total-append [] ys = sym (zero-add (total ys))
 total-append (operand id tree whole ∷ xs) ys = let h = total-append xs ys in omega (arith, h)
 total-append (cut shape tree ∷ xs) ys = let h = total-append xs ys in omega (arith, h)
 
 -- the tree itself as an operand, or as a cut, or less than the tree
-abbrev pub Small : Bool → Term → List Site → Type 0
-Small whole t sites = ((h : Home) × (sites ≡ operand h t whole ∷ [])) ⊎ (((shape : Term) × (sites ≡ cut shape t ∷ []) × (whole ≡ false)) ⊎ (total sites < size_of t))
+abbrev pub Small : Bool → ExprModel → List LeafModel → Type 0
+Small whole t sites = ((h : HomeModel) × (sites ≡ operand h t whole ∷ [])) ⊎ (((shape : ExprModel) × (sites ≡ cut shape t ∷ []) × (whole ≡ false)) ⊎ (total sites < size_of t))
 
-pub small_le : (whole : Bool) (t : Term) (sites : List Site) → Small whole t sites → total sites ≤ size_of t
+pub small_le : (whole : Bool) (t : ExprModel) (sites : List LeafModel) → Small whole t sites → total sites ≤ size_of t
 small_le whole t sites (inl h) = let e = ap total h.1 in omega (arith, e)
 small_le whole t sites (inr (inl h)) = let e = ap total h.1 in omega (arith, e)
 small_le whole t sites (inr (inr h)) = omega (arith, h)
 
-inner : (whole w : Bool) (t a : Term) (sites : List Site) → size_of a < size_of t → Small w a sites → Small whole t sites
+inner : (whole w : Bool) (t a : ExprModel) (sites : List LeafModel) → size_of a < size_of t → Small w a sites → Small whole t sites
 inner whole w t a sites lt h = inr (inr (let le = small_le w a sites h in omega (arith, le, lt)))
 
-none_left : (whole : Bool) (t : Term) (sites : List Site) → sites ≡ [] → Small whole t sites
+none_left : (whole : Bool) (t : ExprModel) (sites : List LeafModel) → sites ≡ [] → Small whole t sites
 none_left whole t sites e = inr (inr (let n = ap total e in let p = size_pos t in omega (arith, n, p)))
 
-pub settled_sites : (o : Option ℕ) (found : Found) → settled o ≡ Some found → found.sites ≡ []
+pub settled_sites : (o : Option ℕ) (found : MatchModel) → settled o ≡ Some found → found.sites ≡ []
 settled_sites None found h = absurd (cc)
-settled_sites (Some s) found h = let e : ◌≡◌ {A = Found} (record { setting = s; sites = [] }) found = cc in sym (ap (λ (f : Found). f.sites) e)
+settled_sites (Some s) found h = let e : ◌≡◌ {A = MatchModel} (record { setting = s; sites = [] }) found = cc in sym (ap (λ (f : MatchModel). f.sites) e)
 
-pub open_sites : (b : Bool) (site : Site) (found : Found) → open_if b site ≡ Some found → (b ≡ true) × (found.sites ≡ site ∷ [])
-open_sites true site found h = let e : ◌≡◌ {A = Found} (record { setting = 0; sites = site ∷ [] }) found = cc in (refl, sym (ap (λ (f : Found). f.sites) e))
-open_sites false site found h = absurd (cc)
+pub open_leaves : (b : Bool) (site : LeafModel) (found : MatchModel) → open_if b site ≡ Some found → (b ≡ true) × (found.sites ≡ site ∷ [])
+open_leaves true site found h = let e : ◌≡◌ {A = MatchModel} (record { setting = 0; sites = site ∷ [] }) found = cc in (refl, sym (ap (λ (f : MatchModel). f.sites) e))
+open_leaves false site found h = absurd (cc)
 
-pub shape_sites : (shape t : Term) (found : Found) → shape_match shape t ≡ Some found → found.sites ≡ []
-shape_sites shape (const w v) found h = settled_sites _ found (picked (w == term_width shape) _ found h).1
+pub shape_sites : (shape t : ExprModel) (found : MatchModel) → shape_match shape t ≡ Some found → found.sites ≡ []
+shape_sites shape (const w v) found h = settled_sites _ found (picked (w == expr_width shape) _ found h).1
 shape_sites shape _ found h = absurd (cc)
 
-pub literal_sites : (shape t : Term) (found : Found) → literal_match shape t ≡ Some found → found.sites ≡ []
+pub literal_sites : (shape t : ExprModel) (found : MatchModel) → literal_match shape t ≡ Some found → found.sites ≡ []
 literal_sites shape (read InMemory a w) found h = shape_sites shape a found h
 literal_sites shape _ found h = absurd (cc)
 
-pub both_parts : (a b : Option Found) (found : Found) → both a b ≡ Some found → (f : Found) × (g : Found) × (a ≡ Some f) × (b ≡ Some g) × (found.sites ≡ f.sites ++ g.sites)
+pub both_parts : (a b : Option MatchModel) (found : MatchModel) → both a b ≡ Some found → (f : MatchModel) × (g : MatchModel) × (a ≡ Some f) × (b ≡ Some g) × (found.sites ≡ f.sites ++ g.sites)
 both_parts None b found h = absurd (cc)
 both_parts (Some f) None found h = absurd (cc)
-both_parts (Some f) (Some g) found h = (f, g, refl, refl, (let inj : (x y : Found) → Some x ≡ Some y → x ≡ y = λ x y e. cc in sym (ap (λ (x : Found). x.sites) (inj _ found h))))
+both_parts (Some f) (Some g) found h = (f, g, refl, refl, (let inj : (x y : MatchModel) → Some x ≡ Some y → x ≡ y = λ x y e. cc in sym (ap (λ (x : MatchModel). x.sites) (inj _ found h))))
 
-pub read_parts : (f : Term → Bool → Option Found) (w : ℕ) (t : Term) (found : Found) → read_match f w t ≡ Some found → (a : Term) × (v : ℕ) × (t ≡ read InMemory a v) × (f a (is_number a) ≡ Some found)
+pub read_parts : (f : ExprModel → Bool → Option MatchModel) (w : ℕ) (t : ExprModel) (found : MatchModel) → read_match f w t ≡ Some found → (a : ExprModel) × (v : ℕ) × (t ≡ read InMemory a v) × (f a (is_number a) ≡ Some found)
 read_parts f w (read InMemory a v) found h = (a, v, refl, (picked (v == w) _ found h).1)
 read_parts f w _ found h = absurd (cc)
 
-pub un_parts : (f : Term → Bool → Option Found) (op : Op1) (t : Term) (found : Found) → un_match f op t ≡ Some found → (o : Op1) × (a : Term) × (t ≡ un o a) × (f a false ≡ Some found)
+pub un_parts : (f : ExprModel → Bool → Option MatchModel) (op : Op1) (t : ExprModel) (found : MatchModel) → un_match f op t ≡ Some found → (o : Op1) × (a : ExprModel) × (t ≡ un o a) × (f a false ≡ Some found)
 un_parts f op (un o a) found h = (o, a, refl, (picked (same_op1 o op) _ found h).1)
 un_parts f op _ found h = absurd (cc)
 
-pub bin_parts : (f g : Term → Bool → Option Found) (op : Op2) (t : Term) (found : Found) → bin_match f g op t ≡ Some found → (o : Op2) × (a : Term) × (b : Term) × (t ≡ bin o a b) × (both (f a false) (g b false) ≡ Some found)
+pub bin_parts : (f g : ExprModel → Bool → Option MatchModel) (op : Op2) (t : ExprModel) (found : MatchModel) → bin_match f g op t ≡ Some found → (o : Op2) × (a : ExprModel) × (b : ExprModel) × (t ≡ bin o a b) × (both (f a false) (g b false) ≡ Some found)
 bin_parts f g op (bin o a b) found h = (o, a, b, refl, (picked (same_op2 o op) _ found h).1)
 bin_parts f g op _ found h = absurd (cc)
 
-pub slice_parts : (f : Term → Bool → Option Found) (n hi lo : ℕ) (t : Term) (found : Found) → slice_match f n hi lo t ≡ Some found → (a : Term) × (x : ℕ) × (y : ℕ) × (t ≡ slice a x y) × (f a false ≡ Some found)
-slice_parts f n hi lo (slice a x y) found h = (a, x, y, refl, (picked ((term_width a == n) && ((x == hi) && (y == lo))) _ found h).1)
+pub slice_parts : (f : ExprModel → Bool → Option MatchModel) (n hi lo : ℕ) (t : ExprModel) (found : MatchModel) → slice_match f n hi lo t ≡ Some found → (a : ExprModel) × (x : ℕ) × (y : ℕ) × (t ≡ slice a x y) × (f a false ≡ Some found)
+slice_parts f n hi lo (slice a x y) found h = (a, x, y, refl, (picked ((expr_width a == n) && ((x == hi) && (y == lo))) _ found h).1)
 slice_parts f n hi lo _ found h = absurd (cc)
 
-pub zext_parts : (f : Term → Bool → Option Found) (n w : ℕ) (t : Term) (found : Found) → zext_match f n w t ≡ Some found → (a : Term) × (v : ℕ) × (t ≡ zext a v) × (f a false ≡ Some found)
-zext_parts f n w (zext a v) found h = (a, v, refl, (picked ((term_width a == n) && (v == w)) _ found h).1)
+pub zext_parts : (f : ExprModel → Bool → Option MatchModel) (n w : ℕ) (t : ExprModel) (found : MatchModel) → zext_match f n w t ≡ Some found → (a : ExprModel) × (v : ℕ) × (t ≡ zext a v) × (f a false ≡ Some found)
+zext_parts f n w (zext a v) found h = (a, v, refl, (picked ((expr_width a == n) && (v == w)) _ found h).1)
 zext_parts f n w _ found h = absurd (cc)
 
-pub sext_parts : (f : Term → Bool → Option Found) (n w : ℕ) (t : Term) (found : Found) → sext_match f n w t ≡ Some found → (a : Term) × (v : ℕ) × (t ≡ sext a v) × (f a false ≡ Some found)
-sext_parts f n w (sext a v) found h = (a, v, refl, (picked ((term_width a == n) && (v == w)) _ found h).1)
+pub sext_parts : (f : ExprModel → Bool → Option MatchModel) (n w : ℕ) (t : ExprModel) (found : MatchModel) → sext_match f n w t ≡ Some found → (a : ExprModel) × (v : ℕ) × (t ≡ sext a v) × (f a false ≡ Some found)
+sext_parts f n w (sext a v) found h = (a, v, refl, (picked ((expr_width a == n) && (v == w)) _ found h).1)
 sext_parts f n w _ found h = absurd (cc)
 
 not_whole : (whole b : Bool) → (not whole && b) ≡ true → whole ≡ false
 not_whole true b e = absurd (cc)
 not_whole false b e = refl
 
-cell_small : (temps : ℕ) (addr : Term) (w : ℕ) (t : Term) (whole : Bool) (found : Found) → cell_match temps addr w t whole ≡ Some found → Small whole t found.sites
-cell_small temps addr w t whole found h = go (is_cell t) (picked (w == term_width t) _ found h).1
+cell_small : (temps : ℕ) (addr : ExprModel) (w : ℕ) (t : ExprModel) (whole : Bool) (found : MatchModel) → cell_match temps addr w t whole ≡ Some found → Small whole t found.sites
+cell_small temps addr w t whole found h = go (is_cell t) (picked (w == expr_width t) _ found h).1
   where
     go : (b : Bool) → (if b then literal_match addr t else open_if (not whole && shows_below addr temps) (cut addr t)) ≡ Some found → Small whole t found.sites
     go true e = none_left whole t found.sites (literal_sites addr t found e)
-    go false e = let (ok, is) = open_sites (not whole && shows_below addr temps) (cut addr t) found e in inr (inl (addr, is, not_whole whole _ ok))
+    go false e = let (ok, is) = open_leaves (not whole && shows_below addr temps) (cut addr t) found e in inr (inl (addr, is, not_whole whole _ ok))
 
-pub either : (b : Bool) (x y : Option Found) (found : Found) → (if b then x else y) ≡ Some found → (x ≡ Some found) ⊎ (y ≡ Some found)
+pub either : (b : Bool) (x y : Option MatchModel) (found : MatchModel) → (if b then x else y) ≡ Some found → (x ≡ Some found) ⊎ (y ≡ Some found)
 either true x y found h = inl h
 either false x y found h = inr h
 
-pub matched_small : (temps : ℕ) (e t : Term) (whole : Bool) (found : Found) → matched temps e t whole ≡ Some found → Small whole t found.sites
+pub matched_small : (temps : ℕ) (e t : ExprModel) (whole : Bool) (found : MatchModel) → matched temps e t whole ≡ Some found → Small whole t found.sites
 matched_small temps (word w) t whole found h = none_left whole t found.sites (shape_sites (word w) t found h)
 matched_small temps (const w v) t whole found h = none_left whole t found.sites (shape_sites (const w v) t found h)
-matched_small temps (reg r w) t whole found h = inl (in_register r, (open_sites (w == term_width t) (operand (in_register r) t whole) found h).1)
-matched_small temps (read InFile a w) t whole found h = inl (in_file a, (open_sites (w == term_width t) (operand (in_file a) t whole) found h).1)
+matched_small temps (reg r w) t whole found h = inl (in_register r, (open_leaves (w == expr_width t) (operand (in_register r) t whole) found h).1)
+matched_small temps (read InFile a w) t whole found h = inl (in_file a, (open_leaves (w == expr_width t) (operand (in_file a) t whole) found h).1)
 matched_small temps (read InMemory a w) t whole found h =
     elim (either (is_shape a) (cell_match temps a w t whole) (read_match (matched temps a) w t) found h) [
       | inl c ↦ cell_small temps a w t whole found c
@@ -156,28 +156,28 @@ matched_small temps (bin o a b) t whole found h =
           inr (inr (let n = ap size_of e in let k = ap total is in let s = total-append f.sites g.sites in omega (arith, n, k, s, lf, lg))))
     ]
 matched_small temps (slice a hi lo) t whole found h =
-    elim (either (is_shape (slice a hi lo)) (shape_match (slice a hi lo) t) (slice_match (matched temps a) (term_width a) hi lo t) found h) [
+    elim (either (is_shape (slice a hi lo)) (shape_match (slice a hi lo) t) (slice_match (matched temps a) (expr_width a) hi lo t) found h) [
       | inl c ↦ none_left whole t found.sites (shape_sites (slice a hi lo) t found c)
-      | inr r ↦ (let (b, x, y, e, m) = slice_parts (matched temps a) (term_width a) hi lo t found r in
+      | inr r ↦ (let (b, x, y, e, m) = slice_parts (matched temps a) (expr_width a) hi lo t found r in
           inner whole false t b found.sites (let n = ap size_of e in omega (arith, n)) (matched_small temps a b false found m))
     ]
 matched_small temps (cat a b) t whole found h = absurd (cc)
 matched_small temps (zext a w) t whole found h =
-    elim (either (is_shape (zext a w)) (shape_match (zext a w) t) (zext_match (matched temps a) (term_width a) w t) found h) [
+    elim (either (is_shape (zext a w)) (shape_match (zext a w) t) (zext_match (matched temps a) (expr_width a) w t) found h) [
       | inl c ↦ none_left whole t found.sites (shape_sites (zext a w) t found c)
-      | inr r ↦ (let (b, v, e, m) = zext_parts (matched temps a) (term_width a) w t found r in
+      | inr r ↦ (let (b, v, e, m) = zext_parts (matched temps a) (expr_width a) w t found r in
           inner whole false t b found.sites (let n = ap size_of e in omega (arith, n)) (matched_small temps a b false found m))
     ]
 matched_small temps (sext a w) t whole found h =
-    elim (either (is_shape (sext a w)) (shape_match (sext a w) t) (sext_match (matched temps a) (term_width a) w t) found h) [
+    elim (either (is_shape (sext a w)) (shape_match (sext a w) t) (sext_match (matched temps a) (expr_width a) w t) found h) [
       | inl c ↦ none_left whole t found.sites (shape_sites (sext a w) t found c)
-      | inr r ↦ (let (b, v, e, m) = sext_parts (matched temps a) (term_width a) w t found r in
+      | inr r ↦ (let (b, v, e, m) = sext_parts (matched temps a) (expr_width a) w t found r in
           inner whole false t b found.sites (let n = ap size_of e in omega (arith, n)) (matched_small temps a b false found m))
     ]
 matched_small temps (select c a b) t whole found h = absurd (cc)
 
 -- a form into the register r
-pub into_small : (temps : ℕ) (rule : Rule) (goal : Kind) (r : ℕ) (t : Term) (whole : Bool) (found : Found) → goal_match temps rule goal (into r) t whole ≡ Some found → (goal_slot goal whole ≡ Some (Register r)) × Small whole t found.sites
+pub into_small : (temps : ℕ) (rule : FormModel) (goal : GoalModel) (r : ℕ) (t : ExprModel) (whole : Bool) (found : MatchModel) → goal_match temps rule goal (into r) t whole ≡ Some found → (goal_slot goal whole ≡ Some (Register r)) × Small whole t found.sites
 into_small temps rule (into_reg d) r t whole found h =
     let (same, m) = picked (d == r) _ found h in (ap (λ i. Some (Register i)) (eq_is d r same), matched_small temps rule.value t whole found m)
 into_small temps rule into_memory r t whole found h = absurd (cc)
@@ -186,19 +186,19 @@ into_small temps rule (jumps reach) r t whole found h = absurd (cc)
 into_small temps rule (branches when_one to) r t whole found h = absurd (cc)
 
 -- a form into the file
-pub filed_small : (temps : ℕ) (rule : Rule) (goal : Kind) (t : Term) (whole : Bool) (found : Found) → goal_match temps rule goal filed t whole ≡ Some found → (goal ≡ into_file) × Small whole t found.sites
+pub filed_small : (temps : ℕ) (rule : FormModel) (goal : GoalModel) (t : ExprModel) (whole : Bool) (found : MatchModel) → goal_match temps rule goal filed t whole ≡ Some found → (goal ≡ into_file) × Small whole t found.sites
 filed_small temps rule (into_reg d) t whole found h = absurd (cc)
 filed_small temps rule into_memory t whole found h = absurd (cc)
 filed_small temps rule into_file t whole found h = (refl, matched_small temps rule.value t whole found h)
 filed_small temps rule (jumps reach) t whole found h = absurd (cc)
 filed_small temps rule (branches when_one to) t whole found h = absurd (cc)
 
-address_sites : (temps : ℕ) (addr : Option Term) (found : Found) → address_match temps addr temporary ≡ Some found → found.sites ≡ []
+address_sites : (temps : ℕ) (addr : Option ExprModel) (found : MatchModel) → address_match temps addr temporary ≡ Some found → found.sites ≡ []
 address_sites temps None found h = absurd (cc)
 address_sites temps (Some a) found h = settled_sites (Some 0) found (picked (is_shape a && shows_below a temps) _ found h).1
 
 -- a form into a temporary cell
-pub temp_small : (temps : ℕ) (rule : Rule) (goal : Kind) (t : Term) (whole : Bool) (found : Found) → goal_match temps rule goal temporary t whole ≡ Some found → (goal ≡ into_memory) × Small false t found.sites
+pub temp_small : (temps : ℕ) (rule : FormModel) (goal : GoalModel) (t : ExprModel) (whole : Bool) (found : MatchModel) → goal_match temps rule goal temporary t whole ≡ Some found → (goal ≡ into_memory) × Small false t found.sites
 temp_small temps rule (into_reg d) t whole found h = absurd (cc)
 temp_small temps rule into_file t whole found h = absurd (cc)
 temp_small temps rule into_memory t whole found h =
@@ -210,7 +210,7 @@ temp_small temps rule (branches when_one to) t whole found h = absurd (cc)
 
 -- ---- what is taken for any destination has no more subtrees than its address and its tree
 
-address_total : (temps : ℕ) (addr : Option Term) (destination : Destination) (found : Found) → address_match temps addr destination ≡ Some found → total found.sites ≤ value_at destination 0
+address_total : (temps : ℕ) (addr : Option ExprModel) (destination : DestinationModel) (found : MatchModel) → address_match temps addr destination ≡ Some found → total found.sites ≤ value_at destination 0
 address_total temps None destination found h = absurd (cc)
 address_total temps (Some a) (cell address) found h = let e = ap total (settled_sites _ found (picked (is_shape a) _ found h).1) in omega (arith, e)
 address_total temps (Some a) (stored address) found h = let le = small_le false address found.sites (matched_small temps a address false found h) in omega (arith, le)
@@ -219,10 +219,10 @@ address_total temps (Some a) (into id) found h = absurd (cc)
 address_total temps (Some a) filed found h = absurd (cc)
 address_total temps (Some a) tested found h = absurd (cc)
 
-value_total : (temps : ℕ) (rule : Rule) (t : Term) (whole : Bool) (found : Found) → matched temps rule.value t whole ≡ Some found → total found.sites ≤ size_of t
+value_total : (temps : ℕ) (rule : FormModel) (t : ExprModel) (whole : Bool) (found : MatchModel) → matched temps rule.value t whole ≡ Some found → total found.sites ≤ size_of t
 value_total temps rule t whole found h = small_le whole t found.sites (matched_small temps rule.value t whole found h)
 
-both_total : (temps : ℕ) (rule : Rule) (destination : Destination) (t : Term) (whole : Bool) (found : Found) → both (address_match temps rule.addr destination) (matched temps rule.value t whole) ≡ Some found → total found.sites ≤ value_at destination 0 + size_of t
+both_total : (temps : ℕ) (rule : FormModel) (destination : DestinationModel) (t : ExprModel) (whole : Bool) (found : MatchModel) → both (address_match temps rule.addr destination) (matched temps rule.value t whole) ≡ Some found → total found.sites ≤ value_at destination 0 + size_of t
 both_total temps rule destination t whole found h =
     let (f, g, ef, eg, is) = both_parts (address_match temps rule.addr destination) (matched temps rule.value t whole) found h in
     let a = address_total temps rule.addr destination f ef in
@@ -231,7 +231,7 @@ both_total temps rule destination t whole found h =
     let s = total-append f.sites g.sites in
     omega (arith, a, b, e, s)
 
-goal_total : (temps : ℕ) (rule : Rule) (goal : Kind) (destination : Destination) (t : Term) (whole : Bool) (found : Found) → goal_match temps rule goal destination t whole ≡ Some found → total found.sites ≤ value_at destination 0 + size_of t
+goal_total : (temps : ℕ) (rule : FormModel) (goal : GoalModel) (destination : DestinationModel) (t : ExprModel) (whole : Bool) (found : MatchModel) → goal_match temps rule goal destination t whole ≡ Some found → total found.sites ≤ value_at destination 0 + size_of t
 goal_total temps rule (into_reg r) (into id) t whole found h = let le = value_total temps rule t whole found (picked (r == id) _ found h).1 in omega (arith, le)
 goal_total temps rule into_file filed t whole found h = let le = value_total temps rule t whole found h in omega (arith, le)
 goal_total temps rule into_memory (cell address) t whole found h = both_total temps rule (cell address) t true found h
@@ -240,7 +240,7 @@ goal_total temps rule into_memory temporary t whole found h = both_total temps r
 goal_total temps rule (branches when_one to) tested t whole found h = let le = value_total temps rule t true found h in omega (arith, le)
 goal_total temps rule _ _ t whole found h = absurd (cc)
 
-pub taken_total : (temps : ℕ) (rule : Rule) (destination : Destination) (t : Term) (whole : Bool) (found : Found) → taken temps rule destination t whole ≡ Some found → total found.sites ≤ value_at destination 0 + size_of t
+pub taken_total : (temps : ℕ) (rule : FormModel) (destination : DestinationModel) (t : ExprModel) (whole : Bool) (found : MatchModel) → taken temps rule destination t whole ≡ Some found → total found.sites ≤ value_at destination 0 + size_of t
 taken_total temps rule destination t whole found h = goal_total temps rule rule.goal destination t whole found h
 
 -- ---- the entry from which a match goes on
@@ -258,7 +258,7 @@ and_false false b e f = refl
 
 -- where it goes on from no entry, less than the tree is left, or the tree as a cut where not all is
 -- free
-pub rest_less : (whole : Bool) (t : Term) (file : ℕ) (limits : Limits) (sites : List Site) → Small whole t sites → rest (size_of t) (is_free file limits) sites ≡ None → (total sites < size_of t) ⊎ ((operands_of sites ≡ []) × (cuts_of sites ≡ t ∷ []) × (rank file limits ≡ 1))
+pub rest_less : (whole : Bool) (t : ExprModel) (file : ℕ) (limits : Limits) (sites : List LeafModel) → Small whole t sites → rest (size_of t) (is_free file limits) sites ≡ None → (total sites < size_of t) ⊎ ((operands_of sites ≡ []) × (cuts_of sites ≡ t ∷ []) × (rank file limits ≡ 1))
 rest_less whole t file limits sites (inl (r, e)) none =
     absurd (true_false (size_of t == size_of t) (eq_self (size_of t)) (some_none _ (home_slot r) (ap (rest (size_of t) (is_free file limits)) (sym e) ∙ none)))
 rest_less whole t file limits sites (inr (inl (shape, e, w))) none =
@@ -266,13 +266,13 @@ rest_less whole t file limits sites (inr (inl (shape, e, w))) none =
     inr (ap operands_of e, ap cuts_of e, ap (λ b. if b then 0 else 1) f)
 rest_less whole t file limits sites (inr (inr lt)) none = inl lt
 
-pub rest_small : (whole : Bool) (t : Term) (file : ℕ) (limits : Limits) (sites : List Site) → Small whole t sites → rest (size_of t) (is_free file limits) sites ≡ None → (operands_size (operands_of sites) < size_of t) × (terms_size (cuts_of sites) < size_of t + rank file limits)
+pub rest_small : (whole : Bool) (t : ExprModel) (file : ℕ) (limits : Limits) (sites : List LeafModel) → Small whole t sites → rest (size_of t) (is_free file limits) sites ≡ None → (operands_size (operands_of sites) < size_of t) × (exprs_size (cuts_of sites) < size_of t + rank file limits)
 rest_small whole t file limits sites small none = elim (rest_less whole t file limits sites small none) [
   | inl lt ↦ (let p = total_parts sites in (omega (arith, p, lt), omega (arith, p, lt)))
-  | inr (a, b, k) ↦ (let n = ap operands_size a in let m = ap terms_size b in let p = size_pos t in (omega (arith, n, p), omega (arith, m, k)))
+  | inr (a, b, k) ↦ (let n = ap operands_size a in let m = ap exprs_size b in let p = size_pos t in (omega (arith, n, p), omega (arith, m, k)))
 ]
 
-taken_whole : (size : ℕ) (free : Bool) (sites : List Site) (q : Slot) → rest size free sites ≡ Some q → total sites ≡ size
+taken_whole : (size : ℕ) (free : Bool) (sites : List LeafModel) (q : Slot) → rest size free sites ≡ Some q → total sites ≡ size
 taken_whole size free [] q h = absurd (cc)
 taken_whole size free (operand home tree whole ∷ []) q h = let e = eq_is (size_of tree) size (picked (size_of tree == size) (Some (home_slot home)) q h).0 in omega (arith, e)
 taken_whole size free (operand id tree whole ∷ s ∷ sites) q h = absurd (cc)
@@ -283,7 +283,7 @@ taken_whole size free (cut shape tree ∷ []) q h = let e = eq_is (size_of tree)
     and_right false b e = absurd (cc)
 taken_whole size free (cut shape tree ∷ s ∷ sites) q h = absurd (cc)
 
-pub rest_some : (whole : Bool) (t : Term) (free : Bool) (sites : List Site) (q : Slot) → Small whole t sites → rest (size_of t) free sites ≡ Some q → ((h : Home) × (sites ≡ operand h t whole ∷ []) × (q ≡ home_slot h)) ⊎ ((shape : Term) × (sites ≡ cut shape t ∷ []) × (whole ≡ false) × (free ≡ true) × (q ≡ Temporary))
+pub rest_some : (whole : Bool) (t : ExprModel) (free : Bool) (sites : List LeafModel) (q : Slot) → Small whole t sites → rest (size_of t) free sites ≡ Some q → ((h : HomeModel) × (sites ≡ operand h t whole ∷ []) × (q ≡ home_slot h)) ⊎ ((shape : ExprModel) × (sites ≡ cut shape t ∷ []) × (whole ≡ false) × (free ≡ true) × (q ≡ Temporary))
 rest_some whole t free sites q (inl (r, e)) h =
     let k = (picked (size_of t == size_of t) (Some (home_slot r)) q (ap (rest (size_of t) free) (sym e) ∙ h)).1 in
     let same : q ≡ home_slot r = cc in inl (r, e, same)

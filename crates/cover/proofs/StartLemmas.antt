@@ -3,54 +3,54 @@ use Rattle.std.proofs.Common.{◌≡◌, ℕ, List, Option, Some, Bool, sym, ap,
 use Rattle.std.specs.Prelude.{slice_get, IfSome}
 use Rattle.std.specs.Option.{option_map}
 use Rattle.std.proofs.lemmas.Option.{slice_get-map}
-use Rattle.net_model.specs.Terms.{Term}
-use Rattle.form_model.specs.Rules.{rule_of, kind_of, Destination}
+use Rattle.net_model.specs.Exprs.{ExprModel}
+use Rattle.form_model.specs.Forms.{model_of_form, model_of_goal, DestinationModel}
 use Rattle.form_model.specs.Matches.{taken}
 use Rattle.form_model.specs.declared.forms.Form.{Form}
 use Rattle.tree_grammar.specs.declared.parts.Match.{Match}
 use Rattle.tree_grammar.specs.Numbers.{HoldsSubtrees}
-use Rattle.tree_grammar.specs.Parts.{found_of, sites_of, AreAt, Stands}
+use Rattle.tree_grammar.specs.Leaves.{model_of_match, models_of_leaves, AreAt, Stands}
 use Rattle.cover.specs.declared.slots.Slot.{Slot}
 use Rattle.cover.specs.declared.instance.Instance.{Instance}
-use Rattle.cover.specs.Inner.Asks.{takes}
+use Rattle.cover.specs.Inner.Subgoals.{takes}
 use Rattle.cover.specs.Inner.Slots.{IsSlot, entry_destination, goal_slot}
-use Rattle.cover.specs.Inner.Rows.{row_ask}
+use Rattle.cover.specs.Inner.Rows.{row_subgoal}
 use Rattle.cover.specs.Inner.Jobs.{instance_stock}
-use Rattle.cover.specs.Inner.Matched.{AreLowSites}
+use Rattle.cover.specs.Inner.Matched.{AreLowLeaves}
 use Rattle.cover.proofs.LowLemmas.{taken_low}
 use Rattle.cover.proofs.SizeLemmas.{Small}
 use Rattle.cover.proofs.OfferLemmas.{row_small}
 use Rattle.cover.proofs.NodeLemmas.{slot_stands}
 
-pub record Start (instance : Instance) (form : Form) (k : ℕ) (goal : Slot) (t : Term) (whole : Bool) (m : Match) : Type 0 where
-  pub listed : slice_get (instance_stock instance).rules k ≡ Some (rule_of form)
-  pub goes : goal_slot (rule_of form).goal whole ≡ Some goal
+pub record Start (instance : Instance) (form : Form) (k : ℕ) (goal : Slot) (t : ExprModel) (whole : Bool) (m : Match) : Type 0 where
+  pub listed : slice_get (instance_stock instance).rules k ≡ Some (model_of_form form)
+  pub goes : goal_slot (model_of_form form).goal whole ≡ Some goal
   pub slot : IsSlot whole goal
-  pub takes_it : takes (instance_stock instance) (rule_of form) (row_ask t whole goal) ≡ Some (found_of m)
-  pub small : Small whole t (sites_of m.parts.items)
+  pub takes_it : takes (instance_stock instance) (model_of_form form) (row_subgoal t whole goal) ≡ Some (model_of_match m)
+  pub small : Small whole t (models_of_leaves m.parts.items)
 
-pub rule_at : (instance : Instance) (k : ℕ) (form : Form) → slice_get instance.forms.now k ≡ Some form → slice_get (instance_stock instance).rules k ≡ Some (rule_of form)
-rule_at instance k form h = slice_get-map rule_of instance.forms.now k ∙ ap (option_map rule_of) h
+pub form_at : (instance : Instance) (k : ℕ) (form : Form) → slice_get instance.forms.now k ≡ Some form → slice_get (instance_stock instance).rules k ≡ Some (model_of_form form)
+form_at instance k form h = slice_get-map model_of_form instance.forms.now k ∙ ap (option_map model_of_form) h
 
-pub start_of : (instance : Instance) (form : Form) (k : ℕ) (goal : Slot) (t : Term) (whole : Bool) (destination : Destination) (g : Option Slot) (o : Option Match) (m : Match) → slice_get instance.forms.now k ≡ Some form → (g ≡ goal_slot (kind_of form.goal) whole) × IfSome g (λ r. IsSlot whole r) → g ≡ Some goal → option_map found_of o ≡ taken instance.temps (rule_of form) destination t whole → o ≡ Some m → destination ≡ entry_destination goal → Start instance form k goal t whole m
+pub start_of : (instance : Instance) (form : Form) (k : ℕ) (goal : Slot) (t : ExprModel) (whole : Bool) (destination : DestinationModel) (g : Option Slot) (o : Option Match) (m : Match) → slice_get instance.forms.now k ≡ Some form → (g ≡ goal_slot (model_of_goal form.goal) whole) × IfSome g (λ r. IsSlot whole r) → g ≡ Some goal → option_map model_of_match o ≡ taken instance.temps (model_of_form form) destination t whole → o ≡ Some m → destination ≡ entry_destination goal → Start instance form k goal t whole m
 start_of instance form k goal t whole destination g o m got goes is found some at =
     let slot : IsSlot whole goal = subst (λ x. IfSome x (λ r. IsSlot whole r)) is goes.1 in
-    let t' : takes (instance_stock instance) (rule_of form) (row_ask t whole goal) ≡ Some (found_of m) =
-    sym (ap (λ p. taken instance.temps (rule_of form) p t whole) at) ∙ sym found ∙ ap (option_map found_of) some in
+    let t' : takes (instance_stock instance) (model_of_form form) (row_subgoal t whole goal) ≡ Some (model_of_match m) =
+    sym (ap (λ p. taken instance.temps (model_of_form form) p t whole) at) ∙ sym found ∙ ap (option_map model_of_match) some in
     record {
-      listed = rule_at instance k form got;
+      listed = form_at instance k form got;
       goes = sym goes.0 ∙ is;
       slot = slot;
       takes_it = t';
-      small = (row_small (instance_stock instance) (rule_of form) t whole goal (found_of m) slot t').1;
+      small = (row_small (instance_stock instance) (model_of_form form) t whole goal (model_of_match m) slot t').1;
     }
 
 -- the operands of a match go to registers that a set of registers has a bit for
-pub start_low : (instance : Instance) (form : Form) (k : ℕ) (goal : Slot) (t : Term) (whole : Bool) (m : Match) → Start instance form k goal t whole m → AreLowSites (sites_of m.parts.items)
-start_low instance form k goal t whole m s = taken_low instance.temps (rule_of form) (entry_destination goal) t whole (found_of m) s.takes_it (instance.low k (rule_of form) s.listed)
+pub start_low : (instance : Instance) (form : Form) (k : ℕ) (goal : Slot) (t : ExprModel) (whole : Bool) (m : Match) → Start instance form k goal t whole m → AreLowLeaves (models_of_leaves m.parts.items)
+start_low instance form k goal t whole m s = taken_low instance.temps (model_of_form form) (entry_destination goal) t whole (model_of_match m) s.takes_it (instance.low k (model_of_form form) s.listed)
 
 -- the numbers of a match's parts are right wherever the tree's subtrees stand
-pub start_at : (number : ℕ) (goal : Slot) (t : Term) (destination : Destination) (o : Option Match) (m : Match) → IfSome o (λ x. (nodes : List Term) → Stands nodes number destination t → AreAt nodes x.parts.items) → o ≡ Some m → destination ≡ entry_destination goal → (nodes : List Term) → HoldsSubtrees nodes number t → AreAt nodes m.parts.items
+pub start_at : (number : ℕ) (goal : Slot) (t : ExprModel) (destination : DestinationModel) (o : Option Match) (m : Match) → IfSome o (λ x. (nodes : List ExprModel) → Stands nodes number destination t → AreAt nodes x.parts.items) → o ≡ Some m → destination ≡ entry_destination goal → (nodes : List ExprModel) → HoldsSubtrees nodes number t → AreAt nodes m.parts.items
 start_at number goal t destination o m at some is nodes holds =
-    let f : (nodes : List Term) → Stands nodes number destination t → AreAt nodes m.parts.items = subst (λ y. IfSome y (λ x. (nodes : List Term) → Stands nodes number destination t → AreAt nodes x.parts.items)) some at in
+    let f : (nodes : List ExprModel) → Stands nodes number destination t → AreAt nodes m.parts.items = subst (λ y. IfSome y (λ x. (nodes : List ExprModel) → Stands nodes number destination t → AreAt nodes x.parts.items)) some at in
     f nodes (subst (λ p. Stands nodes number p t) (sym is) (slot_stands nodes number goal t holds))

@@ -2,14 +2,14 @@
 use Rattle.std.proofs.Common.{◌≡◌, ℕ, Bool, List, [], ◌∷◌, ◌++◌, Option, None, Some, Vec, refl, sym, ap, ◌∙◌, subst, arith, get_or, ◌<◌, length, zero, suc, inl, inr, ◌⊎◌}
 use Rattle.std.specs.Prelude.{slice_get, slice_set}
 use Rattle.std.specs.declared.alloc.Global.{Global}
-use Rattle.net_model.specs.Terms.{Term}
+use Rattle.net_model.specs.Exprs.{ExprModel}
 use Rattle.cover.specs.declared.limits.Limits.{Limits}
 use Rattle.cover.specs.declared.slots.Slot.{Slot}
 use Rattle.cover.specs.declared.instance.Instance.{Instance}
 use Rattle.cover.specs.declared.table.KeptRow.{KeptRow}
 use Rattle.cover.specs.Inner.Least.{IsLeast}
 use Rattle.cover.specs.Inner.Slots.{place, IsEntry, IsSlot}
-use Rattle.cover.specs.Inner.Rows.{row_ask}
+use Rattle.cover.specs.Inner.Rows.{row_subgoal}
 use Rattle.cover.specs.Inner.Jobs.{instance_stock, nodes_of}
 use Rattle.cover.specs.Inner.Tables.{AreEmpty, EachKept, IsKept}
 use Rattle.cover.proofs.OfferLemmas.{get_either}
@@ -21,11 +21,11 @@ same_default [] i o d l e = absurd (omega (arith, l))
 same_default (x ∷ row) zero o d l e = sym e
 same_default (x ∷ row) (suc i) o d l e = same_default row i o d (omega (arith, l)) e
 
-pub entry_right : (instance : Instance) (number : ℕ) (row : KeptRow) (whole : Bool) (limits : Limits) (slot : Slot) (o : Option ℕ) → IsKept instance number row → row.whole ≡ whole → row.limits ≡ limits → IsEntry slot → o ≡ get_or row.costs.items (place slot) o → (t : Term) → slice_get (nodes_of instance) number ≡ Some t → IsSlot whole slot → IsLeast (instance_stock instance) limits (row_ask t whole slot) o
+pub entry_right : (instance : Instance) (number : ℕ) (row : KeptRow) (whole : Bool) (limits : Limits) (slot : Slot) (o : Option ℕ) → IsKept instance number row → row.whole ≡ whole → row.limits ≡ limits → IsEntry slot → o ≡ get_or row.costs.items (place slot) o → (t : ExprModel) → slice_get (nodes_of instance) number ≡ Some t → IsSlot whole slot → IsLeast (instance_stock instance) limits (row_subgoal t whole slot) o
 entry_right instance number row whole limits slot o right ew ea lt e t get is =
-    subst (λ w. IsLeast (instance_stock instance) limits (row_ask t w slot) o) ew
-    (subst (λ a. IsLeast (instance_stock instance) a (row_ask t row.whole slot) o) ea
-    (subst (λ x. IsLeast (instance_stock instance) row.limits (row_ask t row.whole slot) x) (same_default row.costs.items (place slot) o None (let l = right.len in let w = place_within slot lt in omega (arith, l, w)) e) (right.least t get slot (subst (λ w. IsSlot w slot) (sym ew) is))))
+    subst (λ w. IsLeast (instance_stock instance) limits (row_subgoal t w slot) o) ew
+    (subst (λ a. IsLeast (instance_stock instance) a (row_subgoal t row.whole slot) o) ea
+    (subst (λ x. IsLeast (instance_stock instance) row.limits (row_subgoal t row.whole slot) x) (same_default row.costs.items (place slot) o None (let l = right.len in let w = place_within slot lt in omega (arith, l, w)) e) (right.least t get slot (subst (λ w. IsSlot w slot) (sym ew) is))))
 
 -- ---- lists of what is kept
 

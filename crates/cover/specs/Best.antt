@@ -1,9 +1,10 @@
--- The best cover over the trees of a job.
+-- The best cover over the trees of a job: the first of those of least cost. And the forms that the
+-- code was given.
 pub use Rattle.form_model.specs.Covers.{stock_with}
-use Rattle.form_model.specs.Plans.{plan_of}
-use Rattle.form_model.specs.Covers.{Choice}
+use Rattle.form_model.specs.CoverModels.{model_of_cover}
+use Rattle.form_model.specs.Covers.{JobCoverModel}
 use Rattle.cover.specs.declared.covers.JobCover.{JobCover}
 
 -- the choice that the code's cover is
-abbrev pub choice_of : JobCover → Choice
-choice_of c = record { which = c.which; plan = plan_of c.cover }
+abbrev pub model_of_job_cover : JobCover → JobCoverModel
+model_of_job_cover c = record { which = c.which; plan = model_of_cover c.cover }

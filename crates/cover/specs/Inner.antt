@@ -1,6 +1,6 @@
 -- What no public contract cites: what the functions of the crate tell one another, and what only
 -- proofs speak of.
-pub mod Asks
+pub mod Subgoals
 pub mod Least
 pub mod Slots
 pub mod Rows

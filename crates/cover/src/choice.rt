@@ -3,19 +3,19 @@
 
 ghost use Rattle.std.specs.Prelude.{◌≡◌, ℕ, ◌+◌, ◌-◌, ◌<◌, ◌≤◌, ◌≢◌, Some, IfOk, OnOk, IfSome, IfNone, length, remove, slice_get};
 ghost use Rattle.std.specs.Bool.{OnTrue};
-ghost use Rattle.form_model.specs.Plans.{operand_then, cut_then, plan_of, operands_plan, cuts_plan};
-ghost use Rattle.cover.specs.Inner.Asks.{rest};
+ghost use Rattle.form_model.specs.CoverModels.{operand_then, cut_then, model_of_cover, model_of_cover_operands, model_of_cover_cuts};
+ghost use Rattle.cover.specs.Inner.Subgoals.{rest};
 ghost use Rattle.cover.specs.Inner.Least.{AtMost, IsHeld, IsLeast, IsLeastOrder, IsLeastCut, summed};
-ghost use Rattle.form_model.specs.Trees.{tree_term};
+ghost use Rattle.form_model.specs.Trees.{model_of_tree};
 ghost use Rattle.cover.specs.Inner.Slots.{IsSlot};
-ghost use Rattle.cover.specs.Inner.Rows.{row_ask};
+ghost use Rattle.cover.specs.Inner.Rows.{row_subgoal};
 ghost use Rattle.cover.specs.Inner.Matched.{AreMatches};
-ghost use Rattle.cover.specs.Inner.Choice.{ask_of, matches_ask, StandsWant, Begins, BeginsAt, CostsOf, CostsWithin, Starts, StartsCut, IsFirst, IsFirstOrder, IsFirstFrom, IsFirstCuts, AreFirstParts};
+ghost use Rattle.cover.specs.Inner.Choice.{model_of_subgoal, matches_subgoal, StandsWant, Begins, BeginsAt, CostsOf, CostsWithin, Starts, StartsCut, IsFirst, IsFirstOrder, IsFirstFrom, IsFirstCuts, AreFirstParts};
 ghost use Rattle.cover.specs.Inner.Jobs.{instance_stock, nodes_of, open_operands, open_cuts, OperandsAt, CutsAt, AreParts};
 ghost use Rattle.cover.specs.Inner.Tables.{AreRight};
 
 use crate::costs::form_cost;
-use crate::fits::{Fit, Want, cost_of, fit_at};
+use crate::fits::{Fit, Subgoal, cost_of, fit_at};
 use crate::instance::Instance;
 use crate::least::{cuts_cost, floor_of, least, operand_cost, orders, orders_after};
 use crate::limits::{Limits, after_home, keeps_to};
@@ -40,16 +40,16 @@ fn begins<'a>(
     alloc: Global,
     instance: &Instance<'a>,
     table: &mut CostTable<'a>,
-    want: &Want<'a>,
+    want: &Subgoal<'a>,
     limits: Limits,
     n: u64,
     k: usize,
 ) -> Result<Option<Fit<'a>>, NoMemory>
     requires form { k < length instance.now.forms.now }
-    requires least { IsLeast (instance_stock instance.now) limits (ask_of want.now) (Some n) }
+    requires least { IsLeast (instance_stock instance.now) limits (model_of_subgoal want.now) (Some n) }
     requires stands { StandsWant instance.now want.now }
     requires right { AreRight instance.now table.old }
-    ensures begins { IfOk result (λ o. Begins (instance_stock instance.now) limits (ask_of want.now) n k o) }
+    ensures begins { IfOk result (λ o. Begins (instance_stock instance.now) limits (model_of_subgoal want.now) n k o) }
     ensures at { IfOk result (λ o. IfSome o (λ f. OperandsAt (nodes_of instance.now) f.operands.items)) }
     ensures cuts_at { IfOk result (λ o. IfSome o (λ f. CutsAt (nodes_of instance.now) f.cuts.items)) }
     ensures right { OnOk result (AreRight instance.now table.new) }
@@ -137,14 +137,14 @@ pub(crate) fn choose<'a>(
     alloc: Global,
     instance: &Instance<'a>,
     table: &mut CostTable<'a>,
-    want: &Want<'a>,
+    want: &Subgoal<'a>,
     limits: Limits,
     n: u64,
 ) -> Result<Cover, NoMemory>
-    requires least { IsLeast (instance_stock instance.now) limits (ask_of want.now) (Some n) }
+    requires least { IsLeast (instance_stock instance.now) limits (model_of_subgoal want.now) (Some n) }
     requires stands { StandsWant instance.now want.now }
     requires right { AreRight instance.now table.old }
-    ensures first { IfOk result (λ c. IsFirst (instance_stock instance.now) limits (ask_of want.now) (plan_of c)) }
+    ensures first { IfOk result (λ c. IsFirst (instance_stock instance.now) limits (model_of_subgoal want.now) (model_of_cover c)) }
     ensures right { OnOk result (AreRight instance.now table.new) }
 {
     for k in 0..instance.forms.len() {
@@ -206,7 +206,7 @@ fn begins_at<'a>(
 ) -> Result<Option<PartCosts>, NoMemory>
     requires place { i < length matches.now.list.items }
     requires slot { IsSlot matches.now.whole slot }
-    requires least { IsLeast (instance_stock instance.now) limits (matches_ask matches.now slot) (Some n) }
+    requires least { IsLeast (instance_stock instance.now) limits (matches_subgoal matches.now slot) (Some n) }
     requires matches { AreMatches instance.now matches.now }
     requires right { AreRight instance.now table.old }
     ensures begins { IfOk result (λ o. BeginsAt (instance_stock instance.now) limits matches.now slot n i o) }
@@ -271,11 +271,11 @@ fn choose_entry<'a>(
     n: u64,
 ) -> Result<Cover, NoMemory>
     requires slot { IsSlot whole slot }
-    requires least { IsLeast (instance_stock instance.now) limits (row_ask (tree_term tree.now) whole slot) (Some n) }
-    requires number { slice_get (nodes_of instance.now) number ≡ Some (tree_term tree.now) }
+    requires least { IsLeast (instance_stock instance.now) limits (row_subgoal (model_of_tree tree.now) whole slot) (Some n) }
+    requires number { slice_get (nodes_of instance.now) number ≡ Some (model_of_tree tree.now) }
     requires right { AreRight instance.now table.old }
     ensures first { IfOk result (λ c.
-        IsFirst (instance_stock instance.now) limits (row_ask (tree_term tree.now) whole slot) (plan_of c)) }
+        IsFirst (instance_stock instance.now) limits (row_subgoal (model_of_tree tree.now) whole slot) (model_of_cover c)) }
     ensures right { OnOk result (AreRight instance.now table.new) }
 {
     let matches = matches_at(alloc, instance, table, tree, number, whole)?;
@@ -294,11 +294,11 @@ fn choose_among<'a>(
     n: u64,
 ) -> Result<Cover, NoMemory>
     requires slot { IsSlot matches.now.whole slot }
-    requires least { IsLeast (instance_stock instance.now) limits (matches_ask matches.now slot) (Some n) }
+    requires least { IsLeast (instance_stock instance.now) limits (matches_subgoal matches.now slot) (Some n) }
     requires matches { AreMatches instance.now matches.now }
     requires right { AreRight instance.now table.old }
     ensures first { IfOk result (λ c.
-        IsFirst (instance_stock instance.now) limits (matches_ask matches.now slot) (plan_of c)) }
+        IsFirst (instance_stock instance.now) limits (matches_subgoal matches.now slot) (model_of_cover c)) }
     ensures right { OnOk result (AreRight instance.now table.new) }
 {
     for i in 0..matches.list.len() {
@@ -358,7 +358,7 @@ fn operand_first(
     first: Cover,
     rest: CoverOperands,
 ) -> Result<CoverOperands, NoMemory>
-    ensures { IfOk result (λ all. operands_plan all ≡ operand_then place (plan_of first) (operands_plan rest)) }
+    ensures { IfOk result (λ all. model_of_cover_operands all ≡ operand_then place (model_of_cover first) (model_of_cover_operands rest)) }
 {
     Ok(CoverOperands::Then {
         place,
@@ -369,7 +369,7 @@ fn operand_first(
 
 // The covers of cuts from left to right, from that of the first.
 fn cut_first(alloc: Global, first: Cover, rest: CoverCuts) -> Result<CoverCuts, NoMemory>
-    ensures { IfOk result (λ all. cuts_plan all ≡ cut_then (plan_of first) (cuts_plan rest)) }
+    ensures { IfOk result (λ all. model_of_cover_cuts all ≡ cut_then (model_of_cover first) (model_of_cover_cuts rest)) }
 {
     Ok(CoverCuts::Then {
         cover: Box::new(alloc, first)?,
@@ -391,7 +391,7 @@ fn choose_order<'a>(
     requires at { OperandsAt (nodes_of instance.now) ops.now }
     requires right { AreRight instance.now table.old }
     ensures first { IfOk result (λ c.
-        IsFirstOrder (instance_stock instance.now) limits (open_operands ops.now) (operands_plan c)) }
+        IsFirstOrder (instance_stock instance.now) limits (open_operands ops.now) (model_of_cover_operands c)) }
     ensures right { OnOk result (AreRight instance.now table.new) }
 {
     if ops.is_empty() {
@@ -422,7 +422,7 @@ fn order_from<'a>(
     requires at { OperandsAt (nodes_of instance.now) ops.now }
     requires right { AreRight instance.now table.old }
     ensures first { IfOk result (λ c.
-        IsFirstFrom (instance_stock instance.now) limits (open_operands ops.now) i (operands_plan c)) }
+        IsFirstFrom (instance_stock instance.now) limits (open_operands ops.now) i (model_of_cover_operands c)) }
     ensures right { OnOk result (AreRight instance.now table.new) }
 {
     let first = ops[i];
@@ -459,7 +459,7 @@ fn order_without<'a>(
     requires at { OperandsAt (nodes_of instance.now) ops.now }
     requires right { AreRight instance.now table.old }
     ensures first { IfOk result (λ c.
-        IsFirstOrder (instance_stock instance.now) limits (remove (open_operands ops.now) i) (operands_plan c)) }
+        IsFirstOrder (instance_stock instance.now) limits (remove (open_operands ops.now) i) (model_of_cover_operands c)) }
     ensures right { OnOk result (AreRight instance.now table.new) }
 {
     let rest = without(alloc, ops, i)?;
@@ -478,7 +478,7 @@ fn choose_cuts<'a>(
     requires least { IsLeastCut (instance_stock instance.now) (open_cuts cuts.now) (Some n) }
     requires at { CutsAt (nodes_of instance.now) cuts.now }
     requires right { AreRight instance.now table.old }
-    ensures first { IfOk result (λ c. IsFirstCuts (instance_stock instance.now) (open_cuts cuts.now) (cuts_plan c)) }
+    ensures first { IfOk result (λ c. IsFirstCuts (instance_stock instance.now) (open_cuts cuts.now) (model_of_cover_cuts c)) }
     ensures right { OnOk result (AreRight instance.now table.new) }
 {
     if cuts.is_empty() {

@@ -3,12 +3,12 @@
 ghost use Rattle.std.specs.Prelude.{◌≡◌, ◌^◌, ◌<◌, IfOk, OnOk, IfSome, length};
 ghost use Rattle.std.specs.Option.{option_map};
 ghost use Rattle.form_model.specs.Covers.{operands_of, cuts_of};
-ghost use Rattle.tree_grammar.specs.Parts.{sites_of, AreAt};
-ghost use Rattle.cover.specs.Inner.Asks.{free};
+ghost use Rattle.tree_grammar.specs.Leaves.{models_of_leaves, AreAt};
+ghost use Rattle.cover.specs.Inner.Subgoals.{free};
 ghost use Rattle.cover.specs.Inner.Least.{IsLeast, IsLeastForm};
-ghost use Rattle.cover.specs.Inner.Choice.{ask_of, StandsWant, IsFit, FitOf, FitsParts, fit_cost};
+ghost use Rattle.cover.specs.Inner.Choice.{model_of_subgoal, StandsWant, IsFit, FitOf, FitsParts, fit_cost};
 ghost use Rattle.cover.specs.Inner.Jobs.{instance_stock, nodes_of, OperandsAt, CutsAt, AreParts};
-ghost use Rattle.cover.specs.Inner.Matched.{AreLowSites};
+ghost use Rattle.cover.specs.Inner.Matched.{AreLowLeaves};
 ghost use Rattle.cover.specs.Inner.Tables.{AreRight};
 
 use crate::costs::lesser_of;
@@ -21,11 +21,11 @@ use crate::table::CostTable;
 use form_model::Tree;
 use rec_bits::NoMemory;
 use std::alloc::Global;
-use tree_grammar::{Destination, Part, match_at};
+use tree_grammar::{Destination, Leaf, match_at};
 
 /// What is asked for: a tree that goes to a destination, with the number at which its trees begin.
 #[derive(Clone, Copy)]
-pub struct Want<'a> {
+pub struct Subgoal<'a> {
     pub destination: Destination<'a>,
     pub tree: &'a Tree,
     pub whole: bool,
@@ -46,14 +46,14 @@ pub(crate) fn fit_at<'a>(
     alloc: Global,
     instance: &Instance<'a>,
     table: &mut CostTable<'a>,
-    want: &Want<'a>,
+    want: &Subgoal<'a>,
     limits: Limits,
     k: usize,
 ) -> Result<Option<Fit<'a>>, NoMemory>
     requires form { k < length instance.now.forms.now }
     requires stands { StandsWant instance.now want.now }
     requires right { AreRight instance.now table.old }
-    ensures fit { IfOk result (λ o. IsFit (instance_stock instance.now) limits (ask_of want.now) k o) }
+    ensures fit { IfOk result (λ o. IsFit (instance_stock instance.now) limits (model_of_subgoal want.now) k o) }
     ensures at { IfOk result (λ o. IfSome o (λ f. OperandsAt (nodes_of instance.now) f.operands.items)) }
     ensures cuts_at { IfOk result (λ o. IfSome o (λ f. CutsAt (nodes_of instance.now) f.cuts.items)) }
     ensures few { IfOk result (λ o. IfSome o (λ f. fit_cost f < 2 ^ 64)) }
@@ -83,15 +83,15 @@ fn fit_parts<'a>(
     alloc: Global,
     instance: &Instance<'a>,
     table: &mut CostTable<'a>,
-    parts: &[Part<'a>],
+    parts: &[Leaf<'a>],
     limits: Limits,
 ) -> Result<Option<Fit<'a>>, NoMemory>
-    requires low { AreLowSites (sites_of parts.now) }
+    requires low { AreLowLeaves (models_of_leaves parts.now) }
     requires at { AreAt (nodes_of instance.now) parts.now }
-    requires few { AreParts (nodes_of instance.now) (operands_of (sites_of parts.now)) (cuts_of (sites_of parts.now)) }
+    requires few { AreParts (nodes_of instance.now) (operands_of (models_of_leaves parts.now)) (cuts_of (models_of_leaves parts.now)) }
     requires right { AreRight instance.now table.old }
     ensures fit { IfOk result (λ o.
-        FitsParts (instance_stock instance.now) limits (operands_of (sites_of parts.now)) (cuts_of (sites_of parts.now)) o) }
+        FitsParts (instance_stock instance.now) limits (operands_of (models_of_leaves parts.now)) (cuts_of (models_of_leaves parts.now)) o) }
     ensures at { IfOk result (λ o. IfSome o (λ f. OperandsAt (nodes_of instance.now) f.operands.items)) }
     ensures cuts_at { IfOk result (λ o. IfSome o (λ f. CutsAt (nodes_of instance.now) f.cuts.items)) }
     ensures few { IfOk result (λ o. IfSome o (λ f. fit_cost f < 2 ^ 64)) }
@@ -147,13 +147,13 @@ pub(crate) fn form_least<'a>(
     alloc: Global,
     instance: &Instance<'a>,
     table: &mut CostTable<'a>,
-    want: &Want<'a>,
+    want: &Subgoal<'a>,
     k: usize,
 ) -> Result<Option<u64>, NoMemory>
     requires form { k < length instance.now.forms.now }
     requires stands { StandsWant instance.now want.now }
     requires right { AreRight instance.now table.old }
-    ensures least { IfOk result (λ o. IsLeastForm (instance_stock instance.now) (free (instance_stock instance.now)) (ask_of want.now) k o) }
+    ensures least { IfOk result (λ o. IsLeastForm (instance_stock instance.now) (free (instance_stock instance.now)) (model_of_subgoal want.now) k o) }
     ensures right { OnOk result (AreRight instance.now table.new) }
 {
     let free = Limits {
@@ -169,11 +169,11 @@ pub(crate) fn least_of<'a>(
     alloc: Global,
     instance: &Instance<'a>,
     table: &mut CostTable<'a>,
-    want: &Want<'a>,
+    want: &Subgoal<'a>,
 ) -> Result<Option<u64>, NoMemory>
     requires stands { StandsWant instance.now want.now }
     requires right { AreRight instance.now table.old }
-    ensures least { IfOk result (λ o. IsLeast (instance_stock instance.now) (free (instance_stock instance.now)) (ask_of want.now) o) }
+    ensures least { IfOk result (λ o. IsLeast (instance_stock instance.now) (free (instance_stock instance.now)) (model_of_subgoal want.now) o) }
     ensures right { OnOk result (AreRight instance.now table.new) }
 {
     let mut best = None;

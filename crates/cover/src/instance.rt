@@ -1,7 +1,7 @@
 //! What is to be covered, and by what.
 
 ghost use Rattle.form_model.specs.Registers.{AreLow};
-ghost use Rattle.form_model.specs.Rules.{rules_of};
+ghost use Rattle.form_model.specs.Forms.{models_of_forms};
 
 use form_model::{Form, Tree};
 use tree_grammar::Destination;
@@ -16,5 +16,5 @@ pub struct Instance<'a> {
     pub destination: Destination<'a>,
     pub tree: &'a Tree,
     /// A set of registers has a bit for each register that a form names.
-    ghost low: { AreLow (rules_of forms.now) },
+    ghost low: { AreLow (models_of_forms forms.now) },
 }

@@ -1,22 +1,22 @@
 //! Covers of jobs: of one tree, or the better of two.
 
 ghost use Rattle.std.specs.Prelude.{◌≡◌, ◌<◌, Some, Err, IfOk, length, slice_get};
-ghost use Rattle.net_model.specs.Terms.{Term};
-ghost use Rattle.form_model.specs.Trees.{tree_term};
+ghost use Rattle.net_model.specs.Exprs.{ExprModel};
+ghost use Rattle.form_model.specs.Trees.{model_of_tree};
 ghost use Rattle.form_model.specs.Registers.{AreLow};
-ghost use Rattle.form_model.specs.Rules.{destination_of, rules_of};
+ghost use Rattle.form_model.specs.Forms.{aim_destination, models_of_forms};
 ghost use Rattle.form_model.specs.Covers.{IsChosen, HasNoCover, job_cost, stock_with};
-ghost use Rattle.form_model.specs.Plans.{cost, plan_of};
-ghost use Rattle.tree_grammar.specs.Parts.{destination_at};
-ghost use Rattle.cover.specs.Best.{choice_of};
-ghost use Rattle.cover.specs.Inner.Best.{root_ask, IsTreeCover, better_of, IsBest};
+ghost use Rattle.form_model.specs.CoverModels.{cost, model_of_cover};
+ghost use Rattle.tree_grammar.specs.Leaves.{model_of_destination};
+ghost use Rattle.cover.specs.Best.{model_of_job_cover};
+ghost use Rattle.cover.specs.Inner.Best.{root_subgoal, IsTreeCover, better_of, IsBest};
 ghost use Rattle.cover.specs.Jobs.{trees_of};
 ghost use Rattle.cover.specs.Inner.Jobs.{instance_stock};
 ghost use Rattle.cover.specs.Inner.Tables.{AreRight};
 
 use crate::choice::choose;
 use crate::covers::{CoverFault, JobCover, TreeCover};
-use crate::fits::{Want, least_of};
+use crate::fits::{Subgoal, least_of};
 use crate::instance::Instance;
 use crate::limits::Limits;
 use crate::table::{CostTable, new_table};
@@ -28,7 +28,7 @@ use tree_grammar::Destination;
 // The first cover of least cost of the instance's tree, if there is a cover.
 fn cover_tree(alloc: Global, instance: &Instance) -> Result<Option<TreeCover>, NoMemory>
     ensures { IfOk result (λ o. IsTreeCover (instance_stock instance.now)
-        (root_ask (destination_at instance.now.destination) (tree_term instance.now.tree.now)) o) }
+        (root_subgoal (model_of_destination instance.now.destination) (model_of_tree instance.now.tree.now)) o) }
 {
     let mut table = new_table(alloc, instance)?;
     cover_by(alloc, instance, &mut table)
@@ -42,9 +42,9 @@ fn cover_by<'a>(
 ) -> Result<Option<TreeCover>, NoMemory>
     requires right { AreRight instance.now table.old }
     ensures { IfOk result (λ o. IsTreeCover (instance_stock instance.now)
-        (root_ask (destination_at instance.now.destination) (tree_term instance.now.tree.now)) o) }
+        (root_subgoal (model_of_destination instance.now.destination) (model_of_tree instance.now.tree.now)) o) }
 {
-    let want = Want {
+    let want = Subgoal {
         destination: instance.destination,
         tree: instance.tree,
         whole: true,
@@ -88,8 +88,8 @@ fn best_of(
     temps: u32,
     file: u32,
 ) -> Result<Option<JobCover>, NoMemory>
-    requires { AreLow (rules_of forms.now) }
-    ensures { IfOk result (λ o. IsBest (stock_with forms.now temps file) (destination_of job.now.aim)
+    requires { AreLow (models_of_forms forms.now) }
+    ensures { IfOk result (λ o. IsBest (stock_with forms.now temps file) (aim_destination job.now.aim)
         (trees_of job.now.trees.items) (length job.now.trees.items) o) }
 {
     let mut best = None;
@@ -109,10 +109,10 @@ fn cover_tree_at(
     file: u32,
     j: usize,
 ) -> Result<Option<TreeCover>, NoMemory>
-    requires low { AreLow (rules_of forms.now) }
+    requires low { AreLow (models_of_forms forms.now) }
     requires place { j < length job.now.trees.items }
-    ensures { IfOk result (λ o. (t : Term) → slice_get (trees_of job.now.trees.items) j ≡ Some t →
-        IsTreeCover (stock_with forms.now temps file) (root_ask (destination_of job.now.aim) t) o) }
+    ensures { IfOk result (λ o. (t : ExprModel) → slice_get (trees_of job.now.trees.items) j ≡ Some t →
+        IsTreeCover (stock_with forms.now temps file) (root_subgoal (aim_destination job.now.aim) t) o) }
 {
     let instance = Instance {
         forms,
@@ -126,9 +126,9 @@ fn cover_tree_at(
 
 // The cover of a job with the job's cost: that of a test leaves out its branch word.
 fn without_branch(aim: &Aim, c: JobCover) -> JobCover
-    requires { c.cost ≡ cost (plan_of c.cover) }
-    ensures choice { choice_of result ≡ choice_of c }
-    ensures cost { result.cost ≡ job_cost (destination_of aim.now) (plan_of c.cover) }
+    requires { c.cost ≡ cost (model_of_cover c.cover) }
+    ensures choice { model_of_job_cover result ≡ model_of_job_cover c }
+    ensures cost { result.cost ≡ job_cost (aim_destination aim.now) (model_of_cover c.cover) }
 {
     match aim {
         Aim::Test => JobCover {
@@ -149,10 +149,10 @@ fn without_branch(aim: &Aim, c: JobCover) -> JobCover
 /// stands also for a tree or a setting of a form past 64 bits. No cost passes them.
 pub fn cover(alloc: Global, forms: &Forms, job: &Job, temps: u32) -> Result<JobCover, CoverFault>
     ensures chosen { IfOk result (λ c. IsChosen (stock_with forms.now.list.items temps forms.now.file)
-        (destination_of job.now.aim) (trees_of job.now.trees.items) (choice_of c)) }
-    ensures cost { IfOk result (λ c. c.cost ≡ job_cost (destination_of job.now.aim) (plan_of c.cover)) }
+        (aim_destination job.now.aim) (trees_of job.now.trees.items) (model_of_job_cover c)) }
+    ensures cost { IfOk result (λ c. c.cost ≡ job_cost (aim_destination job.now.aim) (model_of_cover c.cover)) }
     ensures none { result ≡ Err CoverFault.NoCover →
-        HasNoCover (stock_with forms.now.list.items temps forms.now.file) (destination_of job.now.aim) (trees_of job.now.trees.items) }
+        HasNoCover (stock_with forms.now.list.items temps forms.now.file) (aim_destination job.now.aim) (trees_of job.now.trees.items) }
 {
     match best_of(alloc, &forms.list, job, temps, forms.file) {
         Ok(Some(c)) => Ok(without_branch(&job.aim, c)),

@@ -2,11 +2,11 @@
 //! cuts.
 
 ghost use Rattle.std.specs.Prelude.{◌≡◌, ◌*◌, ◌<◌, Some, IfOk, OnOk, vec_len, length, slice_get};
-ghost use Rattle.form_model.specs.Trees.{tree_term};
-ghost use Rattle.cover.specs.Inner.Asks.{operand_ask, operands_size};
+ghost use Rattle.form_model.specs.Trees.{model_of_tree};
+ghost use Rattle.cover.specs.Inner.Subgoals.{operand_subgoal, operands_size};
 ghost use Rattle.cover.specs.Inner.Least.{IsLeast, IsLeastOrder, IsLeastAfter, IsLeastFrom, IsLeastCut, IsFloor, IsCostBelow, NoMore};
 ghost use Rattle.cover.specs.Inner.Slots.{IsSlot};
-ghost use Rattle.cover.specs.Inner.Rows.{row_ask, IsBlank, IsCheapOffer, IsLeastRow};
+ghost use Rattle.cover.specs.Inner.Rows.{row_subgoal, IsBlank, IsCheapOffer, IsLeastRow};
 ghost use Rattle.cover.specs.Inner.Jobs.{instance_stock, nodes_of, open_operand, open_operands, open_cuts, OperandsAt, CutsAt, AreParts};
 ghost use Rattle.cover.specs.Inner.Matched.{AreMatches, IsOfferAt};
 ghost use Rattle.cover.specs.Inner.Tables.{AreRight};
@@ -40,10 +40,10 @@ pub(crate) fn least<'a>(
     limits: Limits,
 ) -> Result<Option<u64>, NoMemory>
     requires slot { IsSlot whole slot }
-    requires number { slice_get (nodes_of instance.now) number ≡ Some (tree_term tree.now) }
+    requires number { slice_get (nodes_of instance.now) number ≡ Some (model_of_tree tree.now) }
     requires right { AreRight instance.now table.old }
     ensures least { IfOk result (λ o.
-        IsLeast (instance_stock instance.now) limits (row_ask (tree_term tree.now) whole slot) o) }
+        IsLeast (instance_stock instance.now) limits (row_subgoal (model_of_tree tree.now) whole slot) o) }
     ensures right { OnOk result (AreRight instance.now table.new) }
 {
     let first = first_equal(&table.firsts, number);
@@ -74,10 +74,10 @@ pub(crate) fn operand_cost<'a>(
     operand: OpenOperand<'a>,
     limits: Limits,
 ) -> Result<Option<u64>, NoMemory>
-    requires number { slice_get (nodes_of instance.now) operand.at ≡ Some (tree_term operand.tree.now) }
+    requires number { slice_get (nodes_of instance.now) operand.at ≡ Some (model_of_tree operand.tree.now) }
     requires right { AreRight instance.now table.old }
     ensures least { IfOk result (λ o.
-        IsLeast (instance_stock instance.now) limits (operand_ask (open_operand operand.entry)) o) }
+        IsLeast (instance_stock instance.now) limits (operand_subgoal (open_operand operand.entry)) o) }
     ensures right { OnOk result (AreRight instance.now table.new) }
 {
     let slot = slot_of(operand.home);
@@ -104,10 +104,10 @@ fn least_row<'a>(
     whole: bool,
     limits: Limits,
 ) -> Result<Vec<Option<u64>>, NoMemory>
-    requires number { slice_get (nodes_of instance.now) number ≡ Some (tree_term tree.now) }
+    requires number { slice_get (nodes_of instance.now) number ≡ Some (model_of_tree tree.now) }
     requires right { AreRight instance.now table.old }
     ensures len { IfOk result (λ row. vec_len row ≡ 18) }
-    ensures least { IfOk result (λ row. IsLeastRow (instance_stock instance.now) limits (tree_term tree.now) whole row.items) }
+    ensures least { IfOk result (λ row. IsLeastRow (instance_stock instance.now) limits (model_of_tree tree.now) whole row.items) }
     ensures right { OnOk result (AreRight instance.now table.new) }
 {
     let matches = matches_at(alloc, instance, table, tree, number, whole)?;
@@ -127,7 +127,7 @@ fn row_of<'a>(
     requires right { AreRight instance.now table.old }
     ensures len { IfOk result (λ row. vec_len row ≡ 18) }
     ensures least { IfOk result (λ row.
-        IsLeastRow (instance_stock instance.now) limits (tree_term matches.now.tree.now) matches.now.whole row.items) }
+        IsLeastRow (instance_stock instance.now) limits (model_of_tree matches.now.tree.now) matches.now.whole row.items) }
     ensures right { OnOk result (AreRight instance.now table.new) }
 {
     let mut row = vec![in alloc; None; 18]?;
@@ -151,7 +151,7 @@ fn fill<'a>(
     requires blank { IsBlank row.old.items }
     ensures len { vec_len row.new ≡ 18 }
     ensures least { OnOk result
-        (IsLeastRow (instance_stock instance.now) limits (tree_term matches.now.tree.now) matches.now.whole row.new.items) }
+        (IsLeastRow (instance_stock instance.now) limits (model_of_tree matches.now.tree.now) matches.now.whole row.new.items) }
     ensures right { OnOk result (AreRight instance.now table.new) }
 {
     let mut chains = SmallVec::new(alloc);
@@ -179,7 +179,7 @@ fn offer_at<'a>(
     requires matches { AreMatches instance.now matches.now }
     requires right { AreRight instance.now table.old }
     ensures offer { IfOk result (λ l. IsOfferAt (instance_stock instance.now) limits matches.now row.now i l) }
-    ensures cheap { IfOk result (λ l. IsCheapOffer (tree_term matches.now.tree.now) l) }
+    ensures cheap { IfOk result (λ l. IsCheapOffer (model_of_tree matches.now.tree.now) l) }
     ensures right { OnOk result (AreRight instance.now table.new) }
 {
     let found = &matches.list[i];

@@ -2,10 +2,10 @@
 
 ghost use Rattle.std.specs.Prelude.{◌≡◌, ⊤};
 ghost use Rattle.std.specs.Bool.{OnTrue, OnFalse};
-ghost use Rattle.form_model.specs.Rules.{kind_of};
-ghost use Rattle.form_model.specs.Covers.{kind_cells};
-ghost use Rattle.tree_grammar.specs.Parts.{home_at};
-ghost use Rattle.cover.specs.Inner.Asks.{KeepsTo, after, is_free};
+ghost use Rattle.form_model.specs.Forms.{model_of_goal};
+ghost use Rattle.form_model.specs.Covers.{cells_of_goal};
+ghost use Rattle.tree_grammar.specs.Leaves.{model_of_home};
+ghost use Rattle.cover.specs.Inner.Subgoals.{KeepsTo, after, is_free};
 ghost use Rattle.cover.specs.Inner.Slots.{IsLowHome};
 
 use form_model::{Goal, RegSet};
@@ -21,8 +21,8 @@ pub struct Limits {
 
 // What the operands behind one with this home have to keep to.
 pub(crate) fn after_home(limits: Limits, home: Home) -> Limits
-    requires { IsLowHome (home_at home) }
-    ensures { result ≡ after limits (home_at home.entry) }
+    requires { IsLowHome (model_of_home home) }
+    ensures { result ≡ after limits (model_of_home home.entry) }
 {
     match home {
         Home::Register(id) => Limits {
@@ -45,7 +45,7 @@ pub(crate) fn is_all_free(file: u32, limits: Limits) -> bool
 
 // The cells of the file in which a form leaves its value.
 pub(crate) fn cells_of(goal: &Goal) -> u32
-    ensures { result ≡ kind_cells (kind_of goal.now) }
+    ensures { result ≡ cells_of_goal (model_of_goal goal.now) }
 {
     match goal {
         Goal::File => 1,

@@ -2,17 +2,17 @@
 
 ghost use Rattle.std.specs.Prelude.{◌≡◌, ◌<◌, Some, IfOk, OnOk, length, slice_get};
 ghost use Rattle.std.specs.Option.{option_map};
-ghost use Rattle.form_model.specs.Trees.{tree_term};
-ghost use Rattle.form_model.specs.Rules.{kind_of};
+ghost use Rattle.form_model.specs.Trees.{model_of_tree};
+ghost use Rattle.form_model.specs.Forms.{model_of_goal};
 ghost use Rattle.form_model.specs.Covers.{stock_with};
-ghost use Rattle.tree_grammar.specs.Parts.{destination_at};
-ghost use Rattle.tree_sharing.specs.Sharing.{job_nodes, terms_at};
+ghost use Rattle.tree_grammar.specs.Leaves.{model_of_destination};
+ghost use Rattle.tree_sharing.specs.Sharing.{job_nodes, exprs_at};
 ghost use Rattle.cover.specs.Made.{AreMade, IsLeastCost, part_goal};
 ghost use Rattle.cover.specs.Inner.Made.{Makes, TellsMade};
 ghost use Rattle.cover.specs.Inner.Jobs.{instance_stock, nodes_of};
 ghost use Rattle.cover.specs.Inner.Tables.{AreRight};
 
-use crate::fits::{Want, form_least, least_of};
+use crate::fits::{Subgoal, form_least, least_of};
 use crate::instance::Instance;
 use crate::table::{CostTable, new_table};
 use form_model::{Form, Forms, Goal, Tree};
@@ -23,11 +23,11 @@ use tree_sharing::numbered;
 
 // The least cost of the covers of the instance's tree.
 fn cost_in(alloc: Global, instance: &Instance, whole: bool) -> Result<Option<u64>, NoMemory>
-    ensures { IfOk result (λ o. IsLeastCost (instance_stock instance.now) (destination_at instance.now.destination)
-        (tree_term instance.now.tree.now) whole o) }
+    ensures { IfOk result (λ o. IsLeastCost (instance_stock instance.now) (model_of_destination instance.now.destination)
+        (model_of_tree instance.now.tree.now) whole o) }
 {
     let mut table = new_table(alloc, instance)?;
-    let want = Want {
+    let want = Subgoal {
         destination: instance.destination,
         tree: instance.tree,
         whole,
@@ -49,7 +49,7 @@ pub fn least_cost(
     temps: u32,
 ) -> Result<Option<u64>, NoMemory>
     ensures { IfOk result (λ o. IsLeastCost (stock_with forms.now.list.items temps forms.now.file)
-        (destination_at destination.entry) (tree_term tree.now) whole o) }
+        (model_of_destination destination.entry) (model_of_tree tree.now) whole o) }
 {
     let instance = Instance {
         forms: &forms.list,
@@ -64,7 +64,7 @@ pub fn least_cost(
 /// Where the form puts a part of a job's tree: into its register, the file or a temporary cell. None
 /// for a jump or a branch.
 pub fn part_destination(form: &Form) -> Option<Destination<'static>>
-    ensures { option_map destination_at result ≡ part_goal (kind_of form.now.goal) }
+    ensures { option_map model_of_destination result ≡ part_goal (model_of_goal form.now.goal) }
 {
     match &form.goal {
         Goal::Reg(id) => Some(Destination::Register(*id)),
@@ -84,15 +84,15 @@ fn makes<'a>(
     k: usize,
 ) -> Result<bool, NoMemory>
     requires form { k < length instance.now.forms.now }
-    requires number { slice_get (nodes_of instance.now) at ≡ Some (tree_term tree.now) }
+    requires number { slice_get (nodes_of instance.now) at ≡ Some (model_of_tree tree.now) }
     requires right { AreRight instance.now table.old }
-    ensures makes { IfOk result (λ yes. Makes (instance_stock instance.now) (tree_term tree.now) k yes) }
+    ensures makes { IfOk result (λ yes. Makes (instance_stock instance.now) (model_of_tree tree.now) k yes) }
     ensures right { OnOk result (AreRight instance.now table.new) }
 {
     let Some(destination) = part_destination(&instance.forms[k]) else {
         return Ok(false);
     };
-    let want = Want {
+    let want = Subgoal {
         destination,
         tree,
         whole: false,
@@ -112,9 +112,9 @@ fn is_made<'a>(
     tree: &'a Tree,
     at: u64,
 ) -> Result<bool, NoMemory>
-    requires number { slice_get (nodes_of instance.now) at ≡ Some (tree_term tree.now) }
+    requires number { slice_get (nodes_of instance.now) at ≡ Some (model_of_tree tree.now) }
     requires right { AreRight instance.now table.old }
-    ensures made { IfOk result (λ yes. TellsMade (instance_stock instance.now) (tree_term tree.now) yes) }
+    ensures made { IfOk result (λ yes. TellsMade (instance_stock instance.now) (model_of_tree tree.now) yes) }
     ensures right { OnOk result (AreRight instance.now table.new) }
 {
     for k in 0..instance.forms.len() {
@@ -132,7 +132,7 @@ fn made_among<'a>(
     table: &mut CostTable<'a>,
     nodes: &[&'a Tree],
 ) -> Result<Vec<bool>, NoMemory>
-    requires nodes { terms_at nodes.now ≡ nodes_of instance.now }
+    requires nodes { exprs_at nodes.now ≡ nodes_of instance.now }
     requires right { AreRight instance.now table.old }
     ensures { IfOk result (λ made. AreMade (instance_stock instance.now) (nodes_of instance.now) made.items) }
 {
@@ -163,7 +163,7 @@ pub fn made_parts(
     temps: u32,
 ) -> Result<Vec<bool>, NoMemory>
     ensures { IfOk result (λ made. AreMade (stock_with forms.now.list.items temps forms.now.file)
-        (job_nodes (destination_at destination.entry) (tree_term tree.now)) made.items) }
+        (job_nodes (model_of_destination destination.entry) (model_of_tree tree.now)) made.items) }
 {
     let instance = Instance {
         forms: &forms.list,

@@ -1,11 +1,11 @@
 //! The forms that match a subtree, which are found once for all limits.
 
 ghost use Rattle.std.specs.Prelude.{◌≡◌, ◌<◌, ◌==◌, Some, IfOk, OnOk, length, slice_get};
-ghost use Rattle.form_model.specs.Trees.{tree_term};
-ghost use Rattle.tree_grammar.specs.Parts.{sites_of};
-ghost use Rattle.cover.specs.Inner.Asks.{is_free, start_under};
+ghost use Rattle.form_model.specs.Trees.{model_of_tree};
+ghost use Rattle.tree_grammar.specs.Leaves.{models_of_leaves};
+ghost use Rattle.cover.specs.Inner.Subgoals.{is_free, start_under};
 ghost use Rattle.cover.specs.Inner.Jobs.{nodes_of};
-ghost use Rattle.cover.specs.Inner.Matched.{AddsMatch, AreLowSites, AreMatches, IsOpened, MatchesForm};
+ghost use Rattle.cover.specs.Inner.Matched.{AddsMatch, AreLowLeaves, AreMatches, IsOpened, MatchesForm};
 
 use crate::instance::Instance;
 use crate::limits::{Limits, cells_of, is_all_free};
@@ -17,7 +17,7 @@ use crate::takes::may_take;
 use form_model::{RegSet, Tree};
 use rec_bits::NoMemory;
 use std::alloc::Global;
-use tree_grammar::{Part, match_at};
+use tree_grammar::{Leaf, match_at};
 
 /// A form that matches a tree for an entry of the tree's row, with what its match leaves open.
 #[derive(Drop)]
@@ -66,8 +66,8 @@ fn match_form<'a>(
     k: usize,
 ) -> Result<Option<FormMatch<'a>>, NoMemory>
     requires form { k < length instance.now.forms.now }
-    requires number { slice_get (nodes_of instance.now) number ≡ Some (tree_term tree.now) }
-    ensures { IfOk result (λ o. MatchesForm instance.now (tree_term tree.now) whole k o) }
+    requires number { slice_get (nodes_of instance.now) number ≡ Some (model_of_tree tree.now) }
+    ensures { IfOk result (λ o. MatchesForm instance.now (model_of_tree tree.now) whole k o) }
 {
     let form = &instance.forms[k];
     if !may_take(&form.value, tree) {
@@ -96,14 +96,14 @@ fn match_form<'a>(
 // The match of a form that leaves these parts open.
 fn open_match<'a>(
     alloc: Global,
-    parts: &[Part<'a>],
+    parts: &[Leaf<'a>],
     number: u64,
     form: usize,
     goal: Slot,
     clobbers: RegSet,
     cells: u32,
 ) -> Result<FormMatch<'a>, NoMemory>
-    requires low { AreLowSites (sites_of parts.now) }
+    requires low { AreLowLeaves (models_of_leaves parts.now) }
     ensures { IfOk result (λ m. IsOpened parts.now number form goal clobbers cells m) }
 {
     let start = rest_of(parts, number);
@@ -131,8 +131,8 @@ fn put_match<'a>(
     list: &mut Vec<FormMatch<'a>>,
 ) -> Result<(), NoMemory>
     requires form { k < length instance.now.forms.now }
-    requires number { slice_get (nodes_of instance.now) number ≡ Some (tree_term tree.now) }
-    ensures { OnOk result (AddsMatch instance.now (tree_term tree.now) whole k list.old.items list.new.items) }
+    requires number { slice_get (nodes_of instance.now) number ≡ Some (model_of_tree tree.now) }
+    ensures { OnOk result (AddsMatch instance.now (model_of_tree tree.now) whole k list.old.items list.new.items) }
 {
     let Some(found) = match_form(alloc, instance, tree, number, whole, k)? else {
         return Ok(());
@@ -149,9 +149,9 @@ pub(crate) fn matches_of<'a>(
     number: u64,
     whole: bool,
 ) -> Result<Matches<'a>, NoMemory>
-    requires number { slice_get (nodes_of instance.now) number ≡ Some (tree_term tree.now) }
+    requires number { slice_get (nodes_of instance.now) number ≡ Some (model_of_tree tree.now) }
     ensures matches { IfOk result (λ ms. AreMatches instance.now ms) }
-    ensures tree { IfOk result (λ ms. tree_term ms.tree.now ≡ tree_term tree.now) }
+    ensures tree { IfOk result (λ ms. model_of_tree ms.tree.now ≡ model_of_tree tree.now) }
     ensures whole { IfOk result (λ ms. ms.whole ≡ whole) }
 {
     let mut list = Vec::new(alloc);

@@ -1,6 +1,6 @@
 //! What a match leaves open, with the numbers of its trees.
 
-ghost use Rattle.tree_grammar.specs.Parts.{home_at};
+ghost use Rattle.tree_grammar.specs.Leaves.{model_of_home};
 ghost use Rattle.cover.specs.Inner.Slots.{IsLowHome};
 
 use form_model::Tree;
@@ -15,7 +15,7 @@ pub struct OpenOperand<'a> {
     pub whole: bool,
     pub at: u64,
     /// A set of registers has a bit for its home, if that is a register.
-    ghost low: { IsLowHome (home_at home) },
+    ghost low: { IsLowHome (model_of_home home) },
 }
 
 /// A cut that a match leaves open, with the number of its tree among the job's subtrees.

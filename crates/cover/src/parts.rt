@@ -1,27 +1,27 @@
 //! Operands and cuts among a match's parts, and where it goes on from.
 
 ghost use Rattle.std.specs.Prelude.{◌≡◌, [], ◌∷◌, ◌<◌, IfOk, OnOk, IfSome, length, remove, List};
-ghost use Rattle.net_model.specs.Terms.{Term};
+ghost use Rattle.net_model.specs.Exprs.{ExprModel};
 ghost use Rattle.form_model.specs.Covers.{operands_of, cuts_of};
-ghost use Rattle.tree_grammar.specs.Parts.{part_of, sites_of, AreAt};
+ghost use Rattle.tree_grammar.specs.Leaves.{model_of_leaf, models_of_leaves, AreAt};
 ghost use Rattle.cover.specs.Inner.Jobs.{open_operands, open_cuts, EachOperandAt, EachCutAt, HasOperand, HasCut};
-ghost use Rattle.cover.specs.Inner.Matched.{rest_at, AreLowSites};
+ghost use Rattle.cover.specs.Inner.Matched.{rest_at, AreLowLeaves};
 ghost use Rattle.cover.specs.Inner.Slots.{IsEntry};
 
 use crate::opened::{OpenCut, OpenOperand};
 use crate::slots::{Slot, slot_of};
 use rec_bits::NoMemory;
 use std::alloc::Global;
-use tree_grammar::Part;
+use tree_grammar::Leaf;
 
 // The operands among the parts, from left to right.
 pub(crate) fn operands_in<'a>(
     alloc: Global,
-    parts: &[Part<'a>],
+    parts: &[Leaf<'a>],
 ) -> Result<Vec<OpenOperand<'a>>, NoMemory>
-    requires low { AreLowSites (sites_of parts.now) }
-    ensures operands { IfOk result (λ v. open_operands v.items ≡ operands_of (sites_of parts.now)) }
-    ensures at { IfOk result (λ v. (nodes : List Term) → AreAt nodes parts.now → EachOperandAt nodes v.items) }
+    requires low { AreLowLeaves (models_of_leaves parts.now) }
+    ensures operands { IfOk result (λ v. open_operands v.items ≡ operands_of (models_of_leaves parts.now)) }
+    ensures at { IfOk result (λ v. (nodes : List ExprModel) → AreAt nodes parts.now → EachOperandAt nodes v.items) }
 {
     let mut out = Vec::new(alloc);
     for part in parts {
@@ -30,12 +30,12 @@ pub(crate) fn operands_in<'a>(
     Ok(out)
 }
 
-fn put_operand<'a>(out: &mut Vec<OpenOperand<'a>>, part: Part<'a>) -> Result<(), NoMemory>
-    requires { AreLowSites (part_of part ∷ []) }
+fn put_operand<'a>(out: &mut Vec<OpenOperand<'a>>, part: Leaf<'a>) -> Result<(), NoMemory>
+    requires { AreLowLeaves (model_of_leaf part ∷ []) }
     ensures { OnOk result (HasOperand part.entry out.old.items out.new.items) }
 {
     match part {
-        Part::Operand {
+        Leaf::Operand {
             home,
             tree,
             whole,
@@ -49,14 +49,14 @@ fn put_operand<'a>(out: &mut Vec<OpenOperand<'a>>, part: Part<'a>) -> Result<(),
             })?;
             Ok(())
         }
-        Part::Cut { .. } => Ok(()),
+        Leaf::Cut { .. } => Ok(()),
     }
 }
 
 // The cuts among the parts, from left to right.
-pub(crate) fn cuts_in<'a>(alloc: Global, parts: &[Part<'a>]) -> Result<Vec<OpenCut<'a>>, NoMemory>
-    ensures cuts { IfOk result (λ v. open_cuts v.items ≡ cuts_of (sites_of parts.now)) }
-    ensures at { IfOk result (λ v. (nodes : List Term) → AreAt nodes parts.now → EachCutAt nodes v.items) }
+pub(crate) fn cuts_in<'a>(alloc: Global, parts: &[Leaf<'a>]) -> Result<Vec<OpenCut<'a>>, NoMemory>
+    ensures cuts { IfOk result (λ v. open_cuts v.items ≡ cuts_of (models_of_leaves parts.now)) }
+    ensures at { IfOk result (λ v. (nodes : List ExprModel) → AreAt nodes parts.now → EachCutAt nodes v.items) }
 {
     let mut out = Vec::new(alloc);
     for part in parts {
@@ -65,12 +65,12 @@ pub(crate) fn cuts_in<'a>(alloc: Global, parts: &[Part<'a>]) -> Result<Vec<OpenC
     Ok(out)
 }
 
-fn put_cut<'a>(out: &mut Vec<OpenCut<'a>>, part: Part<'a>) -> Result<(), NoMemory>
+fn put_cut<'a>(out: &mut Vec<OpenCut<'a>>, part: Leaf<'a>) -> Result<(), NoMemory>
     ensures { OnOk result (HasCut part.entry out.old.items out.new.items) }
 {
     match part {
-        Part::Operand { .. } => Ok(()),
-        Part::Cut { tree, at, .. } => {
+        Leaf::Operand { .. } => Ok(()),
+        Leaf::Cut { tree, at, .. } => {
             out.push(OpenCut { tree, at })?;
             Ok(())
         }
@@ -94,8 +94,8 @@ pub(crate) fn without<'a>(
 
 // The entry of the same tree's row from which a match goes on where all is free, if
 // its one part is the whole tree, which alone has the tree's number.
-pub(crate) fn rest_of(parts: &[Part], number: u64) -> Option<Slot>
-    requires low { AreLowSites (sites_of parts.now) }
+pub(crate) fn rest_of(parts: &[Leaf], number: u64) -> Option<Slot>
+    requires low { AreLowLeaves (models_of_leaves parts.now) }
     ensures is { result ≡ rest_at number parts.now }
     ensures register { IfSome result IsEntry }
 {
@@ -105,19 +105,19 @@ pub(crate) fn rest_of(parts: &[Part], number: u64) -> Option<Slot>
     rest_of_one(parts[0], number)
 }
 
-fn rest_of_one(part: Part, number: u64) -> Option<Slot>
-    requires low { AreLowSites (part_of part ∷ []) }
+fn rest_of_one(part: Leaf, number: u64) -> Option<Slot>
+    requires low { AreLowLeaves (model_of_leaf part ∷ []) }
     ensures is { result ≡ rest_at number (part.entry ∷ []) }
     ensures register { IfSome result IsEntry }
 {
     match part {
-        Part::Operand { home, at, .. } => {
+        Leaf::Operand { home, at, .. } => {
             if at != number {
                 return None;
             }
             Some(slot_of(home))
         }
-        Part::Cut { at, .. } => {
+        Leaf::Cut { at, .. } => {
             if at != number {
                 return None;
             }

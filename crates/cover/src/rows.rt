@@ -4,9 +4,9 @@
 ghost use Rattle.std.specs.Prelude.{◌≡◌, ◌-◌, ◌^◌, ◌<◌, Some, OnOk, IfSome, vec_len, length, slice_set, if◌then◌else◌};
 ghost use Rattle.std.specs.Bool.{OnTrue, OnFalse};
 ghost use Rattle.form_model.specs.Registers.{IsLowGoal};
-ghost use Rattle.form_model.specs.Rules.{kind_of};
-ghost use Rattle.form_model.specs.Plans.{cost};
-ghost use Rattle.tree_grammar.specs.Parts.{destination_at};
+ghost use Rattle.form_model.specs.Forms.{model_of_goal};
+ghost use Rattle.form_model.specs.CoverModels.{cost};
+ghost use Rattle.tree_grammar.specs.Leaves.{model_of_destination};
 ghost use Rattle.cover.specs.Inner.Least.{AtMost};
 ghost use Rattle.cover.specs.Inner.Slots.{entry_destination, goal_slot, place, IsEntry, IsSlot};
 ghost use Rattle.cover.specs.Inner.Rows.{entry, IsBelow, IsRoomy, AreWithin, IsWithin, offer_is, Noted, Chained, Swept, IsClosed, Entered};
@@ -39,7 +39,7 @@ pub enum Offer {
 
 // Where the tree of an entry goes.
 pub(crate) fn destination_of_entry(slot: Slot) -> Destination<'static>
-    ensures { destination_at result ≡ entry_destination slot }
+    ensures { model_of_destination result ≡ entry_destination slot }
 {
     match slot {
         Slot::Register(r) => Destination::Register(u32::from(r)),
@@ -50,8 +50,8 @@ pub(crate) fn destination_of_entry(slot: Slot) -> Destination<'static>
 
 // The entry of a row to which the form goes; a whole tree has none for a temporary cell.
 pub(crate) fn goal_of(form: &Form, whole: bool) -> Option<Slot>
-    requires { IsLowGoal (kind_of form.now.goal) }
-    ensures is { result ≡ goal_slot (kind_of form.now.goal) whole }
+    requires { IsLowGoal (model_of_goal form.now.goal) }
+    ensures is { result ≡ goal_slot (model_of_goal form.now.goal) whole }
     ensures slot { IfSome result (λ r. IsSlot whole r) }
 {
     match &form.goal {

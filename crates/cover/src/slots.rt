@@ -2,7 +2,7 @@
 //! for a temporary cell.
 
 ghost use Rattle.std.specs.Prelude.{◌≡◌, ◌<◌};
-ghost use Rattle.tree_grammar.specs.Parts.{home_at};
+ghost use Rattle.tree_grammar.specs.Leaves.{model_of_home};
 ghost use Rattle.cover.specs.Inner.Slots.{place, IsEntry, IsLowHome, home_slot};
 
 use tree_grammar::Home;
@@ -35,8 +35,8 @@ impl Slot {
 
 // The entry for an operand with this home.
 pub(crate) fn slot_of(home: Home) -> Slot
-    requires { IsLowHome (home_at home) }
-    ensures is { result ≡ home_slot (home_at home.entry) }
+    requires { IsLowHome (model_of_home home) }
+    ensures is { result ≡ home_slot (model_of_home home.entry) }
     ensures entry { IsEntry result }
 {
     match home {

@@ -1,13 +1,13 @@
 //! The table of the matches and the rows that were found.
 
 ghost use Rattle.std.specs.Prelude.{◌≡◌, ◌*◌, ◌^◌, ◌<◌, ◌≤◌, Some, IfOk, OnOk, IfSome, slice_get};
-ghost use Rattle.net_model.specs.Terms.{Term};
+ghost use Rattle.net_model.specs.Exprs.{ExprModel};
 ghost use Rattle.std.specs.Bool.{OnTrue, OnFalse};
-ghost use Rattle.cover.specs.Inner.Asks.{AreFew};
+ghost use Rattle.cover.specs.Inner.Subgoals.{AreFew};
 ghost use Rattle.cover.specs.Inner.Least.{IsLeast};
 ghost use Rattle.cover.specs.Inner.Slots.{IsEntry, IsSlot};
-ghost use Rattle.cover.specs.Inner.Rows.{row_ask};
-ghost use Rattle.form_model.specs.Trees.{tree_term};
+ghost use Rattle.cover.specs.Inner.Rows.{row_subgoal};
+ghost use Rattle.form_model.specs.Trees.{model_of_tree};
 ghost use Rattle.cover.specs.Inner.Jobs.{instance_stock, nodes_of};
 ghost use Rattle.cover.specs.Inner.Matched.{AreMatches};
 ghost use Rattle.cover.specs.Inner.Tables.{AreEmpty, AreRight, HasMatches, IsAmong, IsKept};
@@ -112,8 +112,8 @@ pub(crate) fn kept(
 ) -> Option<Option<u64>>
     requires right { AreRight instance.now table.now }
     requires slot { IsEntry slot }
-    ensures { IfSome result (λ o. (t : Term) → slice_get (nodes_of instance.now) number ≡ Some t → IsSlot whole slot →
-        IsLeast (instance_stock instance.now) limits (row_ask t whole slot) o) }
+    ensures { IfSome result (λ o. (t : ExprModel) → slice_get (nodes_of instance.now) number ≡ Some t → IsSlot whole slot →
+        IsLeast (instance_stock instance.now) limits (row_subgoal t whole slot) o) }
 {
     let rows = table.rows.get(number as usize)?;
     let row = row_in(rows, whole, limits)?;
@@ -172,10 +172,10 @@ pub(crate) fn matches_at<'a>(
     number: u64,
     whole: bool,
 ) -> Result<Rc<Matches<'a>>, NoMemory>
-    requires number { slice_get (nodes_of instance.now) number ≡ Some (tree_term tree.now) }
+    requires number { slice_get (nodes_of instance.now) number ≡ Some (model_of_tree tree.now) }
     requires right { AreRight instance.now table.old }
     ensures matches { IfOk result (λ ms. AreMatches instance.now ms.value) }
-    ensures tree { IfOk result (λ ms. tree_term ms.value.tree.now ≡ tree_term tree.now) }
+    ensures tree { IfOk result (λ ms. model_of_tree ms.value.tree.now ≡ model_of_tree tree.now) }
     ensures whole { IfOk result (λ ms. ms.value.whole ≡ whole) }
     ensures right { OnOk result (AreRight instance.now table.new) }
 {
@@ -195,7 +195,7 @@ fn keep_matches<'a>(
     number: u64,
     found: Matches<'a>,
 ) -> Result<Rc<Matches<'a>>, NoMemory>
-    requires tree { slice_get (nodes_of instance.now) number ≡ Some (tree_term found.tree.now) }
+    requires tree { slice_get (nodes_of instance.now) number ≡ Some (model_of_tree found.tree.now) }
     requires matches { AreMatches instance.now found }
     requires right { AreRight instance.now table.old }
     ensures value { IfOk result (λ ms. ms.value ≡ found.entry) }

@@ -3,9 +3,9 @@
 ghost use Rattle.std.specs.Prelude.{◌≡◌, ℕ, Bool, false, Option, None};
 ghost use Rattle.std.specs.Bool.{OnTrue, OnFalse};
 ghost use Rattle.rec_bits.specs.declared.operator.Op2.{Op2};
-ghost use Rattle.net_model.specs.Terms.{Term, term_of, un};
-ghost use Rattle.form_model.specs.Matches.{Found, bin_match, matched, read_match, sext_match, shape_match, slice_match, zext_match};
-ghost use Rattle.form_model.specs.Trees.{is_number, tree_term};
+ghost use Rattle.net_model.specs.Exprs.{ExprModel, model_of_expr, un};
+ghost use Rattle.form_model.specs.Matches.{MatchModel, bin_match, matched, read_match, sext_match, shape_match, slice_match, zext_match};
+ghost use Rattle.form_model.specs.Trees.{is_number, model_of_tree};
 
 use form_model::Tree;
 use net_model::Expr;
@@ -14,13 +14,13 @@ use tree_grammar::{is_field_shape, is_number_tree};
 
 // Whether a field shape may take the tree: it takes numbers alone.
 fn may_be_shown(tree: &Tree) -> bool
-    ensures { OnFalse result ((shape : Term) → shape_match shape (tree_term tree.now) ≡ None) }
+    ensures { OnFalse result ((shape : ExprModel) → shape_match shape (model_of_tree tree.now) ≡ None) }
 {
     is_number_tree(tree)
 }
 
 fn is_read(tree: &Tree) -> bool
-    ensures { OnFalse result ((f : Term → Bool → Option Found) (w : ℕ) → read_match f w (tree_term tree.now) ≡ None) }
+    ensures { OnFalse result ((f : ExprModel → Bool → Option MatchModel) (w : ℕ) → read_match f w (model_of_tree tree.now) ≡ None) }
 {
     match tree {
         Tree::Read(_, _) => true,
@@ -29,8 +29,8 @@ fn is_read(tree: &Tree) -> bool
 }
 
 fn is_bin(tree: &Tree) -> bool
-    ensures yes { OnTrue result (is_number (tree_term tree.now) ≡ false) }
-    ensures no { OnFalse result ((f g : Term → Bool → Option Found) (o : Op2) → bin_match f g o (tree_term tree.now) ≡ None) }
+    ensures yes { OnTrue result (is_number (model_of_tree tree.now) ≡ false) }
+    ensures no { OnFalse result ((f g : ExprModel → Bool → Option MatchModel) (o : Op2) → bin_match f g o (model_of_tree tree.now) ≡ None) }
 {
     match tree {
         Tree::Bin(_, _, _) => true,
@@ -39,8 +39,8 @@ fn is_bin(tree: &Tree) -> bool
 }
 
 fn is_slice(tree: &Tree) -> bool
-    ensures { OnFalse result ((f : Term → Bool → Option Found) (w h l : ℕ) →
-        slice_match f w h l (tree_term tree.now) ≡ None) }
+    ensures { OnFalse result ((f : ExprModel → Bool → Option MatchModel) (w h l : ℕ) →
+        slice_match f w h l (model_of_tree tree.now) ≡ None) }
 {
     match tree {
         Tree::Slice(_, _, _) => true,
@@ -50,7 +50,7 @@ fn is_slice(tree: &Tree) -> bool
 
 fn is_zext(tree: &Tree) -> bool
     ensures { OnFalse result
-        ((f : Term → Bool → Option Found) (v w : ℕ) → zext_match f v w (tree_term tree.now) ≡ None) }
+        ((f : ExprModel → Bool → Option MatchModel) (v w : ℕ) → zext_match f v w (model_of_tree tree.now) ≡ None) }
 {
     match tree {
         Tree::Zext(_, _) => true,
@@ -60,7 +60,7 @@ fn is_zext(tree: &Tree) -> bool
 
 fn is_sext(tree: &Tree) -> bool
     ensures { OnFalse result
-        ((f : Term → Bool → Option Found) (v w : ℕ) → sext_match f v w (tree_term tree.now) ≡ None) }
+        ((f : ExprModel → Bool → Option MatchModel) (v w : ℕ) → sext_match f v w (model_of_tree tree.now) ≡ None) }
 {
     match tree {
         Tree::Sext(_, _) => true,
@@ -73,7 +73,7 @@ fn is_sext(tree: &Tree) -> bool
 #[cycle(taking)]
 pub(crate) fn may_take(value: &Expr, tree: &Tree) -> bool
     ensures { OnFalse result ((temps : ℕ) (whole : Bool) →
-        matched temps (term_of value.now) (tree_term tree.now) whole ≡ None) }
+        matched temps (model_of_expr value.now) (model_of_tree tree.now) whole ≡ None) }
 {
     match value {
         Expr::Word(_) => may_be_shown(tree),
@@ -101,7 +101,7 @@ pub(crate) fn may_take(value: &Expr, tree: &Tree) -> bool
 #[cycle(taking)]
 fn may_take_one(op: Op1, a: &Expr, tree: &Tree) -> bool
     ensures { OnFalse result ((temps : ℕ) (whole : Bool) →
-        matched temps (un op (term_of a.now)) (tree_term tree.now) whole ≡ None) }
+        matched temps (un op (model_of_expr a.now)) (model_of_tree tree.now) whole ≡ None) }
 {
     match tree {
         Tree::Un(o, x) => *o == op && may_take(a, x),
@@ -113,7 +113,7 @@ fn may_take_one(op: Op1, a: &Expr, tree: &Tree) -> bool
 #[cycle(taking)]
 fn may_take_two(op: Op2, a: &Expr, b: &Expr, tree: &Tree) -> bool
     ensures { OnFalse result ((temps : ℕ) →
-        bin_match (matched temps (term_of a.now)) (matched temps (term_of b.now)) op (tree_term tree.now) ≡ None) }
+        bin_match (matched temps (model_of_expr a.now)) (matched temps (model_of_expr b.now)) op (model_of_tree tree.now) ≡ None) }
 {
     match tree {
         Tree::Bin(o, x, y) => *o == op && may_take(a, x) && may_take(b, y),

@@ -5,9 +5,9 @@ use Rattle.std.proofs.lemmas.Bool.{cases_eq, cases_lt}
 use Rattle.std.proofs.lemmas.Bool.Decides.{nat_tests}
 use Rattle.std.proofs.lemmas.List.{length-replicate, length-set}
 use Rattle.std.proofs.lemmas.Option.{get_or_from_slice_get, slice_get_within, slice_get_read, slice_get-get_or}
-use Rattle.net_model.specs.Terms.{Term}
-use Rattle.form_model.specs.Rules.{Destination}
-use Rattle.form_model.specs.Covers.{Stock}
+use Rattle.net_model.specs.Exprs.{ExprModel}
+use Rattle.form_model.specs.Forms.{DestinationModel}
+use Rattle.form_model.specs.Covers.{StockModel}
 use Rattle.tree_sharing.specs.Sharing.{job_nodes}
 use Rattle.cover.specs.Made.{IsMade}
 use Rattle.cover_lacks.specs.Lacks.{RootAsks, PartAsks, RootHasAll, PartHasAll, IsMissed, of_root, of_part, IsLacking}
@@ -56,10 +56,10 @@ some_of (x ∷ xs) b e h = (x, refl)
 
 -- ---- what goes on
 
-flag_more : (nodes : List Term) (old new : List Bool) (t : Term) → ((m : ℕ) → IsSet old m → IsSet new m) → IsFlagged nodes old t → IsFlagged nodes new t
+flag_more : (nodes : List ExprModel) (old new : List Bool) (t : ExprModel) → ((m : ℕ) → IsSet old m → IsSet new m) → IsFlagged nodes old t → IsFlagged nodes new t
 flag_more nodes old new t kept f = (f.0, kept f.0 f.1, f.2)
 
-goes_more : (stock : Stock) (nodes : List Term) (old new : List Bool) (Asks : ℕ → Term → Type 0) → ((m : ℕ) → IsSet old m → IsSet new m) → GoesOn stock nodes old Asks → GoesOn stock nodes new Asks
+goes_more : (stock : StockModel) (nodes : List ExprModel) (old new : List Bool) (Asks : ℕ → ExprModel → Type 0) → ((m : ℕ) → IsSet old m → IsSet new m) → GoesOn stock nodes old Asks → GoesOn stock nodes new Asks
 goes_more stock nodes old new Asks kept g = record {
   form = g.form;
   tree = g.tree;
@@ -69,8 +69,8 @@ goes_more stock nodes old new Asks kept g = record {
 }
 
 -- the forms that ask for a tree are among the first ones, so all that is asked for is listed
-module _ (stock : Stock) (nodes : List Term) (Asks : ℕ → Term → Type 0) (n : ℕ) (bound : (k : ℕ) (t : Term) → Asks k t → k < n) (numbers : List ℕ) (are : AreUnmade stock nodes (FirstAsk Asks n) numbers) where
-  pub has_all : numbers ≡ [] → (k : ℕ) (t : Term) → Asks k t → IsMade stock t
+module _ (stock : StockModel) (nodes : List ExprModel) (Asks : ℕ → ExprModel → Type 0) (n : ℕ) (bound : (k : ℕ) (t : ExprModel) → Asks k t → k < n) (numbers : List ℕ) (are : AreUnmade stock nodes (FirstAsk Asks n) numbers) where
+  pub has_all : numbers ≡ [] → (k : ℕ) (t : ExprModel) → Asks k t → IsMade stock t
   has_all none k t a = elim (are.all t (k, bound k t a, a)) [
     | inl made ↦ made
     | inr w ↦ absurd (let got : slice_get {X = ℕ} [] w.0 ≡ Some w.1 = subst (λ l. slice_get l w.0 ≡ Some w.1) none w.2 in cc)
@@ -89,15 +89,15 @@ module _ (stock : Stock) (nodes : List Term) (Asks : ℕ → Term → Type 0) (n
 
 -- ---- visits
 
-module _ (stock : Stock) (d : Destination) (root : Term) where
-  abbrev Nodes : List Term
+module _ (stock : StockModel) (d : DestinationModel) (root : ExprModel) where
+  abbrev Nodes : List ExprModel
   Nodes = job_nodes d root
 
   root_more : (missed missed' lacking lacking' : List Bool) → ((m : ℕ) → IsSet missed m → IsSet missed' m) → ((m : ℕ) → IsSet lacking m → IsSet lacking' m) → RootVisited stock d root Nodes missed lacking → RootVisited stock d root Nodes missed' lacking'
   root_more missed missed' lacking lacking' more more' (inl h) = inl (flag_more Nodes lacking lacking' root more' h.0, h.1)
   root_more missed missed' lacking lacking' more more' (inr g) = inr (goes_more stock Nodes missed missed' (RootAsks stock d root) more g)
 
-  part_more : (missed missed' lacking lacking' : List Bool) (k : ℕ) (t : Term) → ((m : ℕ) → IsSet missed m → IsSet missed' m) → ((m : ℕ) → IsSet lacking m → IsSet lacking' m) → PartVisited stock Nodes missed lacking k t → PartVisited stock Nodes missed' lacking' k t
+  part_more : (missed missed' lacking lacking' : List Bool) (k : ℕ) (t : ExprModel) → ((m : ℕ) → IsSet missed m → IsSet missed' m) → ((m : ℕ) → IsSet lacking m → IsSet lacking' m) → PartVisited stock Nodes missed lacking k t → PartVisited stock Nodes missed' lacking' k t
   part_more missed missed' lacking lacking' k t more more' (inl h) = inl (more' k h.0, h.1)
   part_more missed missed' lacking lacking' k t more more' (inr g) = inr (goes_more stock Nodes missed missed' (PartAsks stock t) more g.0, (g.1.0, g.1.1, more g.1.0 g.1.2))
 
@@ -124,7 +124,7 @@ module _ (stock : Stock) (d : Destination) (root : Term) where
         visited_parts = λ k t below. absurd (omega (arith, below));
       })
 
-  pub root_goes : (missed missed' lacking : List Bool) (numbers : List ℕ) (n m : ℕ) → ((k : ℕ) (t : Term) → RootAsks stock d root k t → k < n) → AreClear Nodes missed lacking → AreUnmade stock Nodes (FirstAsk (RootAsks stock d root) n) numbers → slice_get numbers 0 ≡ Some m → Marked missed missed' numbers (length numbers) → IsVisited stock d root 0 missed' lacking
+  pub root_goes : (missed missed' lacking : List Bool) (numbers : List ℕ) (n m : ℕ) → ((k : ℕ) (t : ExprModel) → RootAsks stock d root k t → k < n) → AreClear Nodes missed lacking → AreUnmade stock Nodes (FirstAsk (RootAsks stock d root) n) numbers → slice_get numbers 0 ≡ Some m → Marked missed missed' numbers (length numbers) → IsVisited stock d root 0 missed' lacking
   root_goes missed missed' lacking numbers n m bound clear are first marked = record {
     len = long lacking clear.none_lacking;
     missed_len = marked.len ∙ long missed clear.none_missed;
@@ -140,7 +140,7 @@ module _ (stock : Stock) (d : Destination) (root : Term) where
     visited_parts = λ k t below. absurd (omega (arith, below));
   }
 
-  module _ (n : ℕ) (part : Term) (missed lacking : List Bool) (v : IsVisited stock d root n missed lacking) (at : slice_get Nodes n ≡ Some part) (set_n : IsSet missed n) where
+  module _ (n : ℕ) (part : ExprModel) (missed lacking : List Bool) (v : IsVisited stock d root n missed lacking) (at : slice_get Nodes n ≡ Some part) (set_n : IsSet missed n) where
     pub part_lacks : (lacking' : List Bool) → PartHasAll stock part → lacking' ≡ slice_set lacking n true → IsVisited stock d root (n + 1) missed lacking'
     part_lacks lacking' all is =
         let lt : n < length lacking = (let w = slice_get_within Nodes n part at in let l = v.len in omega (arith, w, l)) in
@@ -163,7 +163,7 @@ module _ (stock : Stock) (d : Destination) (root : Term) where
           ];
         })
 
-    pub part_goes : (missed' : List Bool) (numbers : List ℕ) (count m : ℕ) → ((k : ℕ) (t : Term) → PartAsks stock part k t → k < count) → AreUnmade stock Nodes (FirstAsk (PartAsks stock part) count) numbers → AreAfter n numbers → slice_get numbers 0 ≡ Some m → Marked missed missed' numbers (length numbers) → IsVisited stock d root (n + 1) missed' lacking
+    pub part_goes : (missed' : List Bool) (numbers : List ℕ) (count m : ℕ) → ((k : ℕ) (t : ExprModel) → PartAsks stock part k t → k < count) → AreUnmade stock Nodes (FirstAsk (PartAsks stock part) count) numbers → AreAfter n numbers → slice_get numbers 0 ≡ Some m → Marked missed missed' numbers (length numbers) → IsVisited stock d root (n + 1) missed' lacking
     part_goes missed' numbers count m bound are after first marked =
         let set : (i k : ℕ) → slice_get numbers i ≡ Some k → IsSet missed' k = λ i k got. marked.set i k (slice_get_within numbers i k got) got in
         record {
@@ -195,7 +195,7 @@ module _ (stock : Stock) (d : Destination) (root : Term) where
 
   module _ (missed lacking : List Bool) (v : IsVisited stock d root (length Nodes) missed lacking) where
     -- what is missed is flagged so
-    met : (t : Term) → IsMissed stock d root t → IsFlagged Nodes missed t
+    met : (t : ExprModel) → IsMissed stock d root t → IsFlagged Nodes missed t
     met t (of_root form a unmade) = elim v.visited_root [
       | inl h ↦ absurd (unmade (h.1 form t a))
       | inr g ↦ elim (g.all form t a) [ inl made ↦ absurd (unmade made) | inr f ↦ f ]
@@ -210,7 +210,7 @@ module _ (stock : Stock) (d : Destination) (root : Term) where
     pub visited_flags : AreFlags Nodes (IsLacking stock d root) lacking
     visited_flags = record { len = v.len; sound = v.named; all = all }
       where
-        all : (t : Term) → IsLacking stock d root t → IsFlagged Nodes lacking t
+        all : (t : ExprModel) → IsLacking stock d root t → IsFlagged Nodes lacking t
         all t (inl (e, has)) = elim v.visited_root [
           | inl h ↦ subst (IsFlagged Nodes lacking) (sym e) h.0
           | inr g ↦ absurd (g.unmade (has g.form g.tree g.asked))
@@ -222,7 +222,7 @@ module _ (stock : Stock) (d : Destination) (root : Term) where
               | inr g ↦ absurd (g.0.unmade (has g.0.form g.0.tree g.0.asked))
             ]
 
-    tree_at : (n : ℕ) → n < length Nodes → (t : Term) × (slice_get Nodes n ≡ Some t)
+    tree_at : (n : ℕ) → n < length Nodes → (t : ExprModel) × (slice_get Nodes n ≡ Some t)
     tree_at n lt = (get_or Nodes n root, slice_get-get_or Nodes n root lt)
 
     -- from what is missed one comes to what is lacking

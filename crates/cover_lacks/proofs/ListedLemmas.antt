@@ -15,12 +15,12 @@ use Rattle.rec_bits.specs.declared.operator.Op1.TheVariants.{Not, Neg}
 use Rattle.rec_bits.specs.declared.operator.Op2.{Op2}
 use Rattle.rec_bits.specs.declared.operator.Op2.TheVariants.{Add, Sub, Mul, And, Or, Xor, Shl, Shr, Sar, Eq, Ltu, Lts}
 use Rattle.net_model.specs.declared.hardware.Space.TheVariants.{Memory as InMemory}
-use Rattle.net_model.specs.Terms.{Term, const, read, un, bin, slice, zext, sext}
+use Rattle.net_model.specs.Exprs.{ExprModel, const, read, un, bin, slice, zext, sext}
 use Rattle.form_model.specs.Matches.{same_op1, same_op2}
-use Rattle.form_model.specs.Trees.{tree_term}
+use Rattle.form_model.specs.Trees.{model_of_tree}
 use Rattle.form_model.specs.declared.trees.Tree.{Tree}
 use Rattle.form_model.specs.declared.trees.Tree.TheVariants.{Lit, Read', Un', Bin', Slice', Zext', Sext'}
-use Rattle.tree_sharing.specs.Sharing.{IsFirst, terms_at}
+use Rattle.tree_sharing.specs.Sharing.{IsFirst, exprs_at}
 use Rattle.tree_sharing.proofs.SharingLemmas.{exact_op1, exact_op2}
 use Rattle.cover_lacks.specs.Lacks.{AreInOrder}
 use Rattle.cover_lacks.specs.Inner.Flags.{IsFlagged}
@@ -29,7 +29,7 @@ use Rattle.cover_lacks.proofs.Lists.{in_front}
 
 -- ---- equal trees
 
-pub same_exact : (t u : Term) → same_trees t u ≡ true → t ≡ u
+pub same_exact : (t u : ExprModel) → same_trees t u ≡ true → t ≡ u
 same_exact (const w v) (const x u) h =
     let p = both (w == x) (v == u) h in
     let ew : w ≡ x = eqb-true w x p.0 in
@@ -96,7 +96,7 @@ and_true false b h k = absurd (true≢false (sym h))
 number : (n : ℕ) → (n == n) ≡ true
 number n = grind (arith, nat_tests)
 
-pub same_self : (t : Tree) → same_trees (tree_term t) (tree_term t) ≡ true
+pub same_self : (t : Tree) → same_trees (model_of_tree t) (model_of_tree t) ≡ true
 same_self (Lit w v) = and_true _ _ (number w) (number v)
 same_self (Read' p a w) = and_true _ _ (number w) (same_self a)
 same_self (Un' o p a) = and_true _ _ (self_one o) (same_self a)
@@ -105,41 +105,41 @@ same_self (Slice' p a h l) = and_true _ _ (number h) (and_true _ _ (number l) (s
 same_self (Zext' p a w) = and_true _ _ (number w) (same_self a)
 same_self (Sext' p a w) = and_true _ _ (number w) (same_self a)
 
-pub same_none : (t : Tree) (u : Term) → same_trees (tree_term t) u ≡ false → tree_term t ≡ u → ⊥
-same_none t u h e = true≢false (sym (same_self t) ∙ ap (same_trees (tree_term t)) e ∙ h)
+pub same_none : (t : Tree) (u : ExprModel) → same_trees (model_of_tree t) u ≡ false → model_of_tree t ≡ u → ⊥
+same_none t u h e = true≢false (sym (same_self t) ∙ ap (same_trees (model_of_tree t)) e ∙ h)
 
 -- ---- first places
 
-pub first_once : (nodes : List Term) (t : Term) (m n : ℕ) → IsFirst nodes t m → IsFirst nodes t n → m ≡ n
+pub first_once : (nodes : List ExprModel) (t : ExprModel) (m n : ℕ) → IsFirst nodes t m → IsFirst nodes t n → m ≡ n
 first_once nodes t m n a b = let x = a.least n b.at in let y = b.least m a.at in omega (arith, x, y)
 
 -- a first place behind a tree, or that tree's
-place_behind : (x : Bor Tree) (xs : List (Bor Tree)) (t : Term) → (m : ℕ) × IsFirst (terms_at xs) t m → (m : ℕ) × IsFirst (terms_at (x ∷ xs)) t m
-place_behind x xs t (m, first) = go (same_trees (tree_term x.now) t) refl
+place_behind : (x : Bor Tree) (xs : List (Bor Tree)) (t : ExprModel) → (m : ℕ) × IsFirst (exprs_at xs) t m → (m : ℕ) × IsFirst (exprs_at (x ∷ xs)) t m
+place_behind x xs t (m, first) = go (same_trees (model_of_tree x.now) t) refl
   where
-    later : same_trees (tree_term x.now) t ≡ false → (k : ℕ) → slice_get (tree_term x.now ∷ terms_at xs) k ≡ Some t → suc m ≤ k
-    later e zero g = absurd (let same : tree_term x.now ≡ t = cc in same_none x.now t e same)
+    later : same_trees (model_of_tree x.now) t ≡ false → (k : ℕ) → slice_get (model_of_tree x.now ∷ exprs_at xs) k ≡ Some t → suc m ≤ k
+    later e zero g = absurd (let same : model_of_tree x.now ≡ t = cc in same_none x.now t e same)
     later e (suc k) g = let l = first.least k g in omega (arith, l)
 
-    go : (b : Bool) → same_trees (tree_term x.now) t ≡ b → (m : ℕ) × IsFirst (tree_term x.now ∷ terms_at xs) t m
-    go true e = (0, record { at = ap Some (same_exact (tree_term x.now) t e); least = λ k g. omega arith })
+    go : (b : Bool) → same_trees (model_of_tree x.now) t ≡ b → (m : ℕ) × IsFirst (model_of_tree x.now ∷ exprs_at xs) t m
+    go true e = (0, record { at = ap Some (same_exact (model_of_tree x.now) t e); least = λ k g. omega arith })
     go false e = (suc m, record { at = first.at; least = later e })
 
-pub first_place : (trees : List (Bor Tree)) (t : Term) (n : ℕ) → slice_get (terms_at trees) n ≡ Some t → (m : ℕ) × IsFirst (terms_at trees) t m
+pub first_place : (trees : List (Bor Tree)) (t : ExprModel) (n : ℕ) → slice_get (exprs_at trees) n ≡ Some t → (m : ℕ) × IsFirst (exprs_at trees) t m
 first_place [] t n h = absurd (cc)
 first_place (x ∷ xs) t zero h = (0, record { at = h; least = λ m g. omega arith })
 first_place (x ∷ xs) t (suc n) h = place_behind x xs t (first_place xs t n h)
 
-pub index_term : (nodes : List (Bor Tree)) (n : ℕ) (r : Bor Tree) → n < length nodes → r ≡ get_or nodes n r → slice_get (terms_at nodes) n ≡ Some (tree_term r.now)
-index_term nodes n r lt e =
-    slice_get-map (λ (tree : Bor Tree). tree_term tree.now) nodes n ∙ ap (option_map (λ (tree : Bor Tree). tree_term tree.now)) (slice_get_read nodes (length nodes) n r refl lt e)
+pub index_expr : (nodes : List (Bor Tree)) (n : ℕ) (r : Bor Tree) → n < length nodes → r ≡ get_or nodes n r → slice_get (exprs_at nodes) n ≡ Some (model_of_tree r.now)
+index_expr nodes n r lt e =
+    slice_get-map (λ (tree : Bor Tree). model_of_tree tree.now) nodes n ∙ ap (option_map (λ (tree : Bor Tree). model_of_tree tree.now)) (slice_get_read nodes (length nodes) n r refl lt e)
 
 -- none of the first m trees is the one of number n
-abbrev pub NoneBefore : List Term → ℕ → ℕ → Type 0
-NoneBefore ts n m = (k : ℕ) (t : Term) → k < m → slice_get ts k ≡ Some t → slice_get ts n ≡ Some t → ⊥
+abbrev pub NoneBefore : List ExprModel → ℕ → ℕ → Type 0
+NoneBefore ts n m = (k : ℕ) (t : ExprModel) → k < m → slice_get ts k ≡ Some t → slice_get ts n ≡ Some t → ⊥
 
-module _ (ts : List Term) (m n : ℕ) (a b : Term) (at_m : slice_get ts m ≡ Some a) (at_n : slice_get ts n ≡ Some b) where
-  pub not_first : a ≡ b → m < n → (t : Term) → slice_get ts n ≡ Some t → IsFirst ts t n → ⊥
+module _ (ts : List ExprModel) (m n : ℕ) (a b : ExprModel) (at_m : slice_get ts m ≡ Some a) (at_n : slice_get ts n ≡ Some b) where
+  pub not_first : a ≡ b → m < n → (t : ExprModel) → slice_get ts n ≡ Some t → IsFirst ts t n → ⊥
   not_first e lt t here first =
       let same : b ≡ t = cc in
       let le = first.least m (at_m ∙ ap Some (e ∙ same)) in
@@ -155,7 +155,7 @@ module _ (ts : List Term) (m n : ℕ) (a b : Term) (at_m : slice_get ts m ≡ So
         differ (x ∙ sym y))
   ]
 
-pub first_at : (ts : List Term) (n m : ℕ) → n ≤ m → NoneBefore ts n m → (t : Term) → slice_get ts n ≡ Some t → IsFirst ts t n
+pub first_at : (ts : List ExprModel) (n m : ℕ) → n ≤ m → NoneBefore ts n m → (t : ExprModel) → slice_get ts n ≡ Some t → IsFirst ts t n
 first_at ts n m le before t here = record {
   at = here;
   least = λ k at. elim (cases_lt k n) [ inl lt ↦ absurd (before k t (omega (arith, lt, le)) at here) | inr ge ↦ ge ];
@@ -163,8 +163,8 @@ first_at ts n m le before t here = record {
 
 -- ---- the list so far
 
-module _ (nodes : List Term) (flags : List Bool) where
-  pub listed_skip : (n : ℕ) (list : List Term) → ListedBelow nodes flags n list → ((t : Term) → slice_get nodes n ≡ Some t → IsFirst nodes t n → IsFlagged nodes flags t → ⊥) → ListedBelow nodes flags (n + 1) list
+module _ (nodes : List ExprModel) (flags : List Bool) where
+  pub listed_skip : (n : ℕ) (list : List ExprModel) → ListedBelow nodes flags n list → ((t : ExprModel) → slice_get nodes n ≡ Some t → IsFirst nodes t n → IsFlagged nodes flags t → ⊥) → ListedBelow nodes flags (n + 1) list
   listed_skip n list l none = record {
     each = l.each;
     placed = λ i t h. (let p = l.placed i t h in (p.0, (let lt = p.1 in omega (arith, lt)), p.2));
@@ -177,7 +177,7 @@ module _ (nodes : List Term) (flags : List Bool) where
     order = l.order;
   }
 
-  pub listed_more : (n : ℕ) (list : List Term) (tree : Term) → ListedBelow nodes flags n list → IsFirst nodes tree n → IsFlagged nodes flags tree → ListedBelow nodes flags (n + 1) (list ++ tree ∷ [])
+  pub listed_more : (n : ℕ) (list : List ExprModel) (tree : ExprModel) → ListedBelow nodes flags n list → IsFirst nodes tree n → IsFlagged nodes flags tree → ListedBelow nodes flags (n + 1) (list ++ tree ∷ [])
   listed_more n list tree l first flag = record {
     each = λ i t h. elim (pushed_at list tree i t h) [
       | inl w ↦ l.each i t w.1
@@ -212,17 +212,17 @@ module _ (nodes : List Term) (flags : List Bool) where
     ];
   }
 
-pub listed_all : (trees : List (Bor Tree)) (flags : List Bool) (n : ℕ) (list : List Term) → n ≡ length (terms_at trees) → ListedBelow (terms_at trees) flags n list → AreInOrder (terms_at trees) (IsFlagged (terms_at trees) flags) list
+pub listed_all : (trees : List (Bor Tree)) (flags : List Bool) (n : ℕ) (list : List ExprModel) → n ≡ length (exprs_at trees) → ListedBelow (exprs_at trees) flags n list → AreInOrder (exprs_at trees) (IsFlagged (exprs_at trees) flags) list
 listed_all trees flags n list e l = record {
   each = l.each;
   all = λ t flag. (let (m, first) = first_place trees t flag.0 flag.2 in
-      let lt : m < n = (let w = slice_get_within (terms_at trees) m t first.at in omega (arith, w, e)) in
+      let lt : m < n = (let w = slice_get_within (exprs_at trees) m t first.at in omega (arith, w, e)) in
       l.all t m lt first flag);
   placed = λ i t h. (let p = l.placed i t h in (p.0, p.2));
   order = l.order;
 }
 
-pub in_order_same : (nodes : List Term) (P Q : Term → Type 0) (list : List Term) → ((t : Term) → P t → Q t) → ((t : Term) → Q t → P t) → AreInOrder nodes P list → AreInOrder nodes Q list
+pub in_order_same : (nodes : List ExprModel) (P Q : ExprModel → Type 0) (list : List ExprModel) → ((t : ExprModel) → P t → Q t) → ((t : ExprModel) → Q t → P t) → AreInOrder nodes P list → AreInOrder nodes Q list
 in_order_same nodes P Q list to from l = record {
   each = λ i t h. to t (l.each i t h);
   all = λ t q. l.all t (from t q);
@@ -232,5 +232,5 @@ in_order_same nodes P Q list to from l = record {
 
 -- ---- references to trees, one list after the other
 
-pub terms_push : (xs zs : List (Bor Tree)) (x : Bor Tree) → zs ≡ xs ++ x ∷ [] → terms_at zs ≡ terms_at xs ++ tree_term x.now ∷ []
-terms_push xs zs x e = ap terms_at e ∙ map_push (λ (tree : Bor Tree). tree_term tree.now) xs x
+pub exprs_push : (xs zs : List (Bor Tree)) (x : Bor Tree) → zs ≡ xs ++ x ∷ [] → exprs_at zs ≡ exprs_at xs ++ model_of_tree x.now ∷ []
+exprs_push xs zs x e = ap exprs_at e ∙ map_push (λ (tree : Bor Tree). model_of_tree tree.now) xs x

@@ -2,8 +2,8 @@
 
 ghost use Rattle.std.specs.Prelude.{◌≡◌, ◌<◌, Some, IfOk, OnOk, length, slice_get};
 ghost use Rattle.std.specs.Bool.{OnTrue, OnFalse};
-ghost use Rattle.form_model.specs.Trees.{tree_term};
-ghost use Rattle.tree_grammar.specs.Parts.{AreAt, IsPartAt, destination_at};
+ghost use Rattle.form_model.specs.Trees.{model_of_tree};
+ghost use Rattle.tree_grammar.specs.Leaves.{AreAt, IsPartAt, model_of_destination};
 ghost use Rattle.cover_lacks.specs.Lacks.{PartAsks, RootAsks};
 ghost use Rattle.cover_lacks.specs.Inner.Asked.{AddsAsked, AddsOfPart, AddsParts, AddsTree, AreAfter, AreUnmade, FirstAsk, IsBelow, IsSearch, LookStands, part_at, part_tree, search_nodes, search_stock};
 
@@ -11,7 +11,7 @@ use cover::part_destination;
 use form_model::{Form, Tree};
 use rec_bits::NoMemory;
 use std::alloc::Global;
-use tree_grammar::{Destination, Part, match_at, tree_size};
+use tree_grammar::{Destination, Leaf, match_at, tree_size};
 
 /// A tree of a job, and by what it is to be covered.
 #[derive(Clone, Copy)]
@@ -41,8 +41,8 @@ pub struct Look<'a> {
 
 // Whether the tree counts.
 fn is_below(tree: &Tree, below: Option<u64>) -> Result<bool, NoMemory>
-    ensures yes { IfOk result (λ yes. OnTrue yes (IsBelow below (tree_term tree.now))) }
-    ensures no { IfOk result (λ yes. OnFalse yes (IsBelow below (tree_term tree.now) → ⊥)) }
+    ensures yes { IfOk result (λ yes. OnTrue yes (IsBelow below (model_of_tree tree.now))) }
+    ensures no { IfOk result (λ yes. OnFalse yes (IsBelow below (model_of_tree tree.now) → ⊥)) }
 {
     match below {
         None => Ok(true),
@@ -59,8 +59,8 @@ fn add_tree(
     numbers: &mut Vec<u64>,
 ) -> Result<(), NoMemory>
     requires right { IsSearch search.now }
-    requires here { slice_get (search_nodes search.now) at ≡ Some (tree_term tree.now) }
-    ensures { OnOk result (AddsTree (search_stock search.now) below (tree_term tree.now) at
+    requires here { slice_get (search_nodes search.now) at ≡ Some (model_of_tree tree.now) }
+    ensures { OnOk result (AddsTree (search_stock search.now) below (model_of_tree tree.now) at
         numbers.old.items numbers.new.items) }
 {
     if search.made[at as usize] {
@@ -76,7 +76,7 @@ fn add_tree(
 fn add_part(
     search: &Search,
     below: Option<u64>,
-    part: Part,
+    part: Leaf,
     numbers: &mut Vec<u64>,
 ) -> Result<(), NoMemory>
     requires right { IsSearch search.now }
@@ -85,8 +85,8 @@ fn add_part(
         numbers.old.items numbers.new.items) }
 {
     match part {
-        Part::Operand { tree, at, .. } => add_tree(search, below, tree, at, numbers),
-        Part::Cut { tree, at, .. } => add_tree(search, below, tree, at, numbers),
+        Leaf::Operand { tree, at, .. } => add_tree(search, below, tree, at, numbers),
+        Leaf::Cut { tree, at, .. } => add_tree(search, below, tree, at, numbers),
     }
 }
 
@@ -94,7 +94,7 @@ fn add_part(
 fn add_parts(
     search: &Search,
     below: Option<u64>,
-    parts: &[Part],
+    parts: &[Leaf],
     numbers: &mut Vec<u64>,
 ) -> Result<(), NoMemory>
     requires right { IsSearch search.now }
@@ -141,8 +141,8 @@ fn add_asked<'a>(
 pub(crate) fn unmade_of_root(alloc: Global, search: &Search) -> Result<Vec<u64>, NoMemory>
     requires right { IsSearch search.now }
     ensures { IfOk result (λ numbers. AreUnmade (search_stock search.now) (search_nodes search.now)
-        (FirstAsk (RootAsks (search_stock search.now) (destination_at search.now.destination)
-        (tree_term search.now.tree.now)) (length search.now.forms.now)) numbers.items) }
+        (FirstAsk (RootAsks (search_stock search.now) (model_of_destination search.now.destination)
+        (model_of_tree search.now.tree.now)) (length search.now.forms.now)) numbers.items) }
 {
     let look = Look {
         destination: search.destination,
@@ -169,8 +169,8 @@ fn add_of_part(
 ) -> Result<(), NoMemory>
     requires form { k < length search.now.forms.now }
     requires right { IsSearch search.now }
-    requires here { slice_get (search_nodes search.now) at ≡ Some (tree_term part.now) }
-    ensures { OnOk result (AddsOfPart (search_stock search.now) (search_nodes search.now) (tree_term part.now) at k
+    requires here { slice_get (search_nodes search.now) at ≡ Some (model_of_tree part.now) }
+    ensures { OnOk result (AddsOfPart (search_stock search.now) (search_nodes search.now) (model_of_tree part.now) at k
         numbers.old.items numbers.new.items) }
 {
     let Some(destination) = part_destination(&search.forms[k]) else {
@@ -194,9 +194,9 @@ pub(crate) fn unmade_of_part(
     at: u64,
 ) -> Result<Vec<u64>, NoMemory>
     requires right { IsSearch search.now }
-    requires here { slice_get (search_nodes search.now) at ≡ Some (tree_term part.now) }
+    requires here { slice_get (search_nodes search.now) at ≡ Some (model_of_tree part.now) }
     ensures unmade { IfOk result (λ numbers. AreUnmade (search_stock search.now) (search_nodes search.now)
-        (FirstAsk (PartAsks (search_stock search.now) (tree_term part.now)) (length search.now.forms.now))
+        (FirstAsk (PartAsks (search_stock search.now) (model_of_tree part.now)) (length search.now.forms.now))
         numbers.items) }
     ensures after { IfOk result (λ numbers. AreAfter at numbers.items) }
 {

@@ -2,14 +2,14 @@
 
 ghost use Rattle.std.specs.Prelude.{◌≡◌};
 ghost use Rattle.std.specs.Bool.{OnTrue, OnFalse};
-ghost use Rattle.form_model.specs.Trees.{tree_term};
+ghost use Rattle.form_model.specs.Trees.{model_of_tree};
 ghost use Rattle.cover_lacks.specs.Inner.Listed.{same_trees};
 
 use form_model::Tree;
 
 // Whether two trees are equal, operator by operator.
 fn same(a: &Tree, b: &Tree) -> bool
-    ensures { result ≡ same_trees (tree_term a.now) (tree_term b.now) }
+    ensures { result ≡ same_trees (model_of_tree a.now) (model_of_tree b.now) }
 {
     match a {
         Tree::Lit { width, value } => match b {
@@ -45,8 +45,8 @@ fn same(a: &Tree, b: &Tree) -> bool
 
 /// Whether two trees are equal.
 pub fn is_same(a: &Tree, b: &Tree) -> bool
-    ensures yes { OnTrue result (tree_term a.now ≡ tree_term b.now) }
-    ensures no { OnFalse result (tree_term a.now ≡ tree_term b.now → ⊥) }
+    ensures yes { OnTrue result (model_of_tree a.now ≡ model_of_tree b.now) }
+    ensures no { OnFalse result (model_of_tree a.now ≡ model_of_tree b.now → ⊥) }
 {
     same(a, b)
 }

@@ -1,8 +1,8 @@
 //! Which subtrees of a job's tree are missed, and which are lacking.
 
 ghost use Rattle.std.specs.Prelude.{◌≡◌, ◌+◌, ◌<◌, ℕ, Some, IfOk, OnOk, length, slice_get};
-ghost use Rattle.form_model.specs.Trees.{tree_term};
-ghost use Rattle.tree_grammar.specs.Parts.{destination_at};
+ghost use Rattle.form_model.specs.Trees.{model_of_tree};
+ghost use Rattle.tree_grammar.specs.Leaves.{model_of_destination};
 ghost use Rattle.cover_lacks.specs.Lacks.{IsLacking};
 ghost use Rattle.cover_lacks.specs.Inner.Asked.{IsSearch, search_nodes, search_stock};
 ghost use Rattle.cover_lacks.specs.Inner.Flags.{AreClear, AreFlags, IsSome, IsVisited, Marked};
@@ -32,7 +32,7 @@ fn mark(flags: &mut Vec<bool>, numbers: &[u64])
 // The number of the job's tree, which comes behind a store's address.
 fn root_number(search: &Search) -> Result<usize, NoMemory>
     requires { IsSearch search.now }
-    ensures { IfOk result (λ n. slice_get (search_nodes search.now) n ≡ Some (tree_term search.now.tree.now)) }
+    ensures { IfOk result (λ n. slice_get (search_nodes search.now) n ≡ Some (model_of_tree search.now.tree.now)) }
 {
     let size = tree_size(search.tree)?;
     Ok(search.nodes.len() - size as usize)
@@ -42,8 +42,8 @@ fn root_number(search: &Search) -> Result<usize, NoMemory>
 fn visit_root(alloc: Global, search: &Search, flags: &mut Flags) -> Result<(), NoMemory>
     requires right { IsSearch search.now }
     requires clear { AreClear (search_nodes search.now) flags.old.missed.items flags.old.lacking.items }
-    ensures { OnOk result (IsVisited (search_stock search.now) (destination_at search.now.destination)
-        (tree_term search.now.tree.now) 0 flags.new.missed.items flags.new.lacking.items) }
+    ensures { OnOk result (IsVisited (search_stock search.now) (model_of_destination search.now.destination)
+        (model_of_tree search.now.tree.now) 0 flags.new.missed.items flags.new.lacking.items) }
 {
     let numbers = unmade_of_root(alloc, search)?;
     if !numbers.is_empty() {
@@ -59,10 +59,10 @@ fn visit_root(alloc: Global, search: &Search, flags: &mut Flags) -> Result<(), N
 fn visit_part(alloc: Global, search: &Search, at: usize, flags: &mut Flags) -> Result<(), NoMemory>
     requires right { IsSearch search.now }
     requires at { at < length (search_nodes search.now) }
-    requires visited { IsVisited (search_stock search.now) (destination_at search.now.destination)
-        (tree_term search.now.tree.now) at flags.old.missed.items flags.old.lacking.items }
-    ensures { OnOk result (IsVisited (search_stock search.now) (destination_at search.now.destination)
-        (tree_term search.now.tree.now) (at + 1) flags.new.missed.items flags.new.lacking.items) }
+    requires visited { IsVisited (search_stock search.now) (model_of_destination search.now.destination)
+        (model_of_tree search.now.tree.now) at flags.old.missed.items flags.old.lacking.items }
+    ensures { OnOk result (IsVisited (search_stock search.now) (model_of_destination search.now.destination)
+        (model_of_tree search.now.tree.now) (at + 1) flags.new.missed.items flags.new.lacking.items) }
 {
     if !flags.missed[at] {
         return Ok(());
@@ -80,8 +80,8 @@ fn visit_part(alloc: Global, search: &Search, at: usize, flags: &mut Flags) -> R
 fn visit_all(alloc: Global, search: &Search, flags: &mut Flags) -> Result<(), NoMemory>
     requires right { IsSearch search.now }
     requires clear { AreClear (search_nodes search.now) flags.old.missed.items flags.old.lacking.items }
-    ensures { OnOk result (IsVisited (search_stock search.now) (destination_at search.now.destination)
-        (tree_term search.now.tree.now) (length (search_nodes search.now))
+    ensures { OnOk result (IsVisited (search_stock search.now) (model_of_destination search.now.destination)
+        (model_of_tree search.now.tree.now) (length (search_nodes search.now))
         flags.new.missed.items flags.new.lacking.items) }
 {
     visit_root(alloc, search, flags)?;
@@ -95,7 +95,7 @@ fn visit_all(alloc: Global, search: &Search, flags: &mut Flags) -> Result<(), No
 pub(crate) fn lacking_flags(alloc: Global, search: &Search) -> Result<Vec<bool>, NoMemory>
     requires { IsSearch search.now }
     ensures flags { IfOk result (λ flags. AreFlags (search_nodes search.now) (IsLacking (search_stock search.now)
-        (destination_at search.now.destination) (tree_term search.now.tree.now)) flags.items) }
+        (model_of_destination search.now.destination) (model_of_tree search.now.tree.now)) flags.items) }
     ensures some { IfOk result (λ flags. IsSome (search_nodes search.now) flags.items) }
 {
     let count = search.nodes.len();

@@ -1,12 +1,12 @@
 //! What is lacking of a job.
 
 ghost use Rattle.std.specs.Prelude.{◌≡◌, ◌<◌, ℕ, [], Some, IfOk, OnOk, length, slice_get, vec_len};
-ghost use Rattle.net_model.specs.Terms.{Term};
-ghost use Rattle.form_model.specs.Trees.{tree_term};
-ghost use Rattle.form_model.specs.Rules.{destination_of};
+ghost use Rattle.net_model.specs.Exprs.{ExprModel};
+ghost use Rattle.form_model.specs.Trees.{model_of_tree};
+ghost use Rattle.form_model.specs.Forms.{aim_destination};
 ghost use Rattle.form_model.specs.Covers.{stock_with};
-ghost use Rattle.tree_grammar.specs.Parts.{destination_at};
-ghost use Rattle.tree_sharing.specs.Sharing.{job_nodes, terms_at};
+ghost use Rattle.tree_grammar.specs.Leaves.{model_of_destination};
+ghost use Rattle.tree_sharing.specs.Sharing.{job_nodes, exprs_at};
 ghost use Rattle.cover.specs.Jobs.{trees_of};
 ghost use Rattle.cover_lacks.specs.Lacks.{AreLacking, IsUncovered, all_nodes};
 ghost use Rattle.cover_lacks.specs.Inner.Flags.{IsLackingIn};
@@ -32,9 +32,9 @@ fn flags_of(
     tree: &Tree,
     nodes: &[&Tree],
 ) -> Result<Vec<bool>, NoMemory>
-    requires { terms_at nodes.now ≡ job_nodes (destination_at destination) (tree_term tree.now) }
+    requires { exprs_at nodes.now ≡ job_nodes (model_of_destination destination) (model_of_tree tree.now) }
     ensures { IfOk result (λ flags. IsLackingIn (stock_with forms.now.list.items temps forms.now.file)
-        (destination_at destination.entry) (tree_term tree.now) flags.items) }
+        (model_of_destination destination.entry) (model_of_tree tree.now) flags.items) }
 {
     if least_cost(alloc, forms, destination, tree, true, temps)?.is_some() {
         return Ok(vec![in alloc; false; nodes.len()]?);
@@ -62,8 +62,8 @@ fn add_root<'a>(
     nodes: &mut Vec<&'a Tree>,
     flags: &mut Vec<bool>,
 ) -> Result<(), NoMemory>
-    ensures { OnOk result (AddsRoot (stock_with forms.now.list.items temps forms.now.file) (destination_at destination.entry)
-        (tree_term tree.now) nodes.old.items nodes.new.items flags.old.items flags.new.items) }
+    ensures { OnOk result (AddsRoot (stock_with forms.now.list.items temps forms.now.file) (model_of_destination destination.entry)
+        (model_of_tree tree.now) nodes.old.items nodes.new.items flags.old.items flags.new.items) }
 {
     let subtrees = numbered(alloc, destination, tree)?;
     let lacking = flags_of(alloc, forms, temps, destination, tree, &subtrees)?;
@@ -83,10 +83,10 @@ fn add_roots<'a>(
 ) -> Result<(), NoMemory>
     requires nodes { nodes.old.items ≡ [] }
     requires flags { flags.old.items ≡ [] }
-    ensures nodes { OnOk result (terms_at nodes.new.items
-        ≡ all_nodes (destination_of job.now.aim) (trees_of job.now.trees.items)) }
-    ensures added { OnOk result (AreAdded (stock_with forms.now.list.items temps forms.now.file) (destination_of job.now.aim)
-        (trees_of job.now.trees.items) (length job.now.trees.items) (terms_at nodes.new.items) flags.new.items) }
+    ensures nodes { OnOk result (exprs_at nodes.new.items
+        ≡ all_nodes (aim_destination job.now.aim) (trees_of job.now.trees.items)) }
+    ensures added { OnOk result (AreAdded (stock_with forms.now.list.items temps forms.now.file) (aim_destination job.now.aim)
+        (trees_of job.now.trees.items) (length job.now.trees.items) (exprs_at nodes.new.items) flags.new.items) }
 {
     for j in 0..job.trees.len() {
         let destination = Destination::of(&job.aim);
@@ -116,10 +116,10 @@ pub fn lacking<'a>(
     temps: u32,
 ) -> Result<Vec<&'a Tree>, NoMemory>
     ensures list { IfOk result (λ list. AreLacking (stock_with forms.now.list.items temps forms.now.file)
-        (destination_of job.now.aim) (trees_of job.now.trees.items) (terms_at list.items)) }
-    ensures some { IfOk result (λ list. (which : ℕ) (root : Term) →
+        (aim_destination job.now.aim) (trees_of job.now.trees.items) (exprs_at list.items)) }
+    ensures some { IfOk result (λ list. (which : ℕ) (root : ExprModel) →
         slice_get (trees_of job.now.trees.items) which ≡ Some root →
-        IsUncovered (stock_with forms.now.list.items temps forms.now.file) (destination_of job.now.aim) root →
+        IsUncovered (stock_with forms.now.list.items temps forms.now.file) (aim_destination job.now.aim) root →
         0 < vec_len list) }
 {
     let mut nodes = Vec::new(alloc);

@@ -2,9 +2,9 @@
 
 ghost use Rattle.std.specs.Prelude.{◌≡◌, ◌+◌, ◌<◌, IfOk, OnOk, Some, length, slice_get};
 ghost use Rattle.std.specs.Bool.{OnTrue, OnFalse};
-ghost use Rattle.net_model.specs.Terms.{Term};
-ghost use Rattle.form_model.specs.Trees.{tree_term};
-ghost use Rattle.tree_sharing.specs.Sharing.{IsFirst, terms_at};
+ghost use Rattle.net_model.specs.Exprs.{ExprModel};
+ghost use Rattle.form_model.specs.Trees.{model_of_tree};
+ghost use Rattle.tree_sharing.specs.Sharing.{IsFirst, exprs_at};
 ghost use Rattle.cover_lacks.specs.Lacks.{AreInOrder};
 ghost use Rattle.cover_lacks.specs.Inner.Flags.{IsFlagged};
 ghost use Rattle.cover_lacks.specs.Inner.Listed.{ListedBelow};
@@ -17,10 +17,10 @@ use std::alloc::Global;
 // Whether the number is the first of its tree.
 fn is_first(nodes: &[&Tree], n: usize) -> bool
     requires { n < length nodes.now }
-    ensures yes { OnTrue result ((tree : Term) → slice_get (terms_at nodes.now) n ≡ Some tree →
-        IsFirst (terms_at nodes.now) tree n) }
-    ensures no { OnFalse result ((tree : Term) → slice_get (terms_at nodes.now) n ≡ Some tree →
-        IsFirst (terms_at nodes.now) tree n → ⊥) }
+    ensures yes { OnTrue result ((tree : ExprModel) → slice_get (exprs_at nodes.now) n ≡ Some tree →
+        IsFirst (exprs_at nodes.now) tree n) }
+    ensures no { OnFalse result ((tree : ExprModel) → slice_get (exprs_at nodes.now) n ≡ Some tree →
+        IsFirst (exprs_at nodes.now) tree n → ⊥) }
 {
     for m in 0..n {
         if is_same(nodes[m], nodes[n]) {
@@ -33,8 +33,8 @@ fn is_first(nodes: &[&Tree], n: usize) -> bool
 // Whether one of the tree's numbers is flagged.
 fn is_flagged(nodes: &[&Tree], flags: &[bool], tree: &Tree) -> bool
     requires { length flags.now ≡ length nodes.now }
-    ensures yes { OnTrue result (IsFlagged (terms_at nodes.now) flags.now (tree_term tree.now)) }
-    ensures no { OnFalse result (IsFlagged (terms_at nodes.now) flags.now (tree_term tree.now) → ⊥) }
+    ensures yes { OnTrue result (IsFlagged (exprs_at nodes.now) flags.now (model_of_tree tree.now)) }
+    ensures no { OnFalse result (IsFlagged (exprs_at nodes.now) flags.now (model_of_tree tree.now) → ⊥) }
 {
     for n in 0..nodes.len() {
         if flags[n] && is_same(nodes[n], tree) {
@@ -53,8 +53,8 @@ fn add_listed<'a>(
 ) -> Result<(), NoMemory>
     requires len { length flags.now ≡ length nodes.now }
     requires n { n < length nodes.now }
-    requires listed { ListedBelow (terms_at nodes.now) flags.now n (terms_at list.old.items) }
-    ensures { OnOk result (ListedBelow (terms_at nodes.now) flags.now (n + 1) (terms_at list.new.items)) }
+    requires listed { ListedBelow (exprs_at nodes.now) flags.now n (exprs_at list.old.items) }
+    ensures { OnOk result (ListedBelow (exprs_at nodes.now) flags.now (n + 1) (exprs_at list.new.items)) }
 {
     if !is_first(nodes, n) {
         return Ok(());
@@ -72,8 +72,8 @@ pub(crate) fn in_order<'a>(
     flags: &[bool],
 ) -> Result<Vec<&'a Tree>, NoMemory>
     requires { length flags.now ≡ length nodes.now }
-    ensures { IfOk result (λ list. AreInOrder (terms_at nodes.now) (IsFlagged (terms_at nodes.now) flags.now)
-        (terms_at list.items)) }
+    ensures { IfOk result (λ list. AreInOrder (exprs_at nodes.now) (IsFlagged (exprs_at nodes.now) flags.now)
+        (exprs_at list.items)) }
 {
     let mut list = Vec::new(alloc);
     for n in 0..nodes.len() {

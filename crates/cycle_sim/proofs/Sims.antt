@@ -10,7 +10,7 @@ use Rattle.net_model.specs.declared.hardware.Netlist.{Netlist}
 use Rattle.net_model.specs.declared.states.State.{State}
 use Rattle.net_model.specs.CheckedRules.{Ordered}
 use Rattle.net_model.specs.Fixed.{mode_count, mode_in}
-use Rattle.net_model.specs.ModeRules.{AreModesOf, base_at, bases_of, modes_in}
+use Rattle.net_model.specs.ModeRules.{AreModesOfNetlist, base_at, bases_of, modes_in}
 use Rattle.net_model.specs.Modes.{IsBase}
 use Rattle.net_model.specs.Nets.{code_bits}
 use Rattle.net_model.specs.Widths.{IsState, WordFits}
@@ -59,7 +59,7 @@ mode_small : (netlist : Netlist) (special : Option ℕ) (s : State) → IsState 
 mode_small netlist None s h = omega arith
 mode_small netlist (Some id) s h = h.fits.regs id
 
-pub mode_within : (netlist : Netlist) (bases : List Ordered) (s : State) → AreModesOf netlist bases → IsState netlist s → mode_in netlist.special s < length bases
+pub mode_within : (netlist : Netlist) (bases : List Ordered) (s : State) → AreModesOfNetlist netlist bases → IsState netlist s → mode_in netlist.special s < length bases
 mode_within netlist bases s are h =
     let small = mode_small netlist netlist.special s h in
     let long = length_bases netlist (modes_in netlist) in
@@ -87,7 +87,7 @@ module _ (netlist : Netlist) (v : ℕ) where
       }
 
 -- what is read of the modes' netlists is what the netlist is in a mode
-pub base_read : (netlist : Netlist) (bases items : List Ordered) → AreModesOf netlist bases → items ≡ bases → (v : ℕ) (base : Ordered) →
+pub base_read : (netlist : Netlist) (bases items : List Ordered) → AreModesOfNetlist netlist bases → items ≡ bases → (v : ℕ) (base : Ordered) →
     v < length items → base ≡ get_or items v base → base.netlist ≡ base_at netlist v
 base_read netlist bases items are same v base lt is =
     base_is netlist bases are v base (ap (λ (list : List Ordered). slice_get list v) (sym same) ∙ slice_get_read items (length items) v base refl lt is)

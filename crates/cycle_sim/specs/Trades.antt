@@ -1,4 +1,5 @@
--- Which simulators may exchange what they hold.
+-- Which simulators may exchange what they hold. Simulators may exchange what they hold where the
+-- storages of their netlists have the same kinds, widths and sizes (`AreAlike`).
 use Rattle.std.specs.Prelude.{ℕ, ◌≡◌, List, map, Option, Some, None}
 use Rattle.net_model.specs.declared.hardware.Netlist.{Netlist}
 use Rattle.net_model.specs.declared.hardware.Storage.{Storage}

@@ -8,7 +8,7 @@ use Rattle.src_model.specs.declared.program.Var.{Var as Declared}
 use Rattle.src_model.specs.Names.{declared}
 use Rattle.src_model.specs.Meaning.{cells_in}
 use Rattle.src_model.specs.Rules.{temp_count}
-use Rattle.src_model.specs.Written.{Listing}
+use Rattle.src_model.specs.Written.{ProgramModel}
 use Rattle.code_model.specs.declared.image.Place.{Place}
 use Rattle.src_trees.specs.Lowered.{base_of}
 use Rattle.src_trees.specs.Held.{StandFor, LieWithin, IsAlone, AreAlone, HoldsVars, HasCellRoom}
@@ -108,7 +108,7 @@ cell_in_one k base len i (inr le) lt =
 
 -- ---- the layout
 
-module _ (word k bank : ℕ) (in_bank : List Bool) (l : Listing) (fits : FitsBanks word k bank in_bank l) where
+module _ (word k bank : ℕ) (in_bank : List Bool) (l : ProgramModel) (fits : FitsBanks word k bank in_bank l) where
   pub bank_in_one : AreInOne (2 ^ k) (bank_layout word k in_bank l).list
   bank_in_one =
       let memory = fits.memory in

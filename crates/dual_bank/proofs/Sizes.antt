@@ -4,17 +4,17 @@ use Rattle.std.proofs.Common.{ℕ, ◌≡◌, ◌+◌, ◌*◌, ◌-◌, ◌%◌
 use Rattle.std.proofs.lemmas.Bool.{ne_eqb}
 use Rattle.rec_bits.specs.declared.operator.Op2.TheVariants.{Add}
 use Rattle.net_model.specs.declared.hardware.Space.TheVariants.{Memory as InMemory, File as InFile}
-use Rattle.net_model.specs.Terms.{Term, word, reg, const, read, un, bin, slice, cat, zext, sext, select, size_of}
-use Rattle.form_model.specs.Rules.{Destination, into, cell, filed, stored, temporary, tested}
+use Rattle.net_model.specs.Exprs.{ExprModel, word, reg, const, read, un, bin, slice, cat, zext, sext, select, size_of}
+use Rattle.form_model.specs.Forms.{DestinationModel, into, cell, filed, stored, temporary, tested}
 use Rattle.form_model.specs.Trees.{is_number, is_tree}
 use Rattle.form_model.specs.WideNodes.{tree_temps, wide_below, wide_nodes, word_node}
-use Rattle.src_trees.specs.Lowered.{Work}
+use Rattle.src_trees.specs.Lowered.{JobModel}
 use Rattle.src_trees.specs.Measures.{tree_size, IsTreeGoal, TreesAre, AllSmall}
-use Rattle.dual_bank.specs.Banked.{banked_address, banked_destination, banked_tree, banked_work}
+use Rattle.dual_bank.specs.Banked.{banked_address, banked_destination, banked_tree, job_of_banked}
 use Rattle.dual_bank.proofs.Joined.{OfIndex, Told, width_same}
 
 -- an address over both memories, below the bank or in it
-abbrev whole : ℕ → ℕ → ℕ → Term → Bool → Term
+abbrev whole : ℕ → ℕ → ℕ → ExprModel → Bool → ExprModel
 whole k width base index below =
     let address = zext (slice (bin Add index (const width (base % 2 ^ k))) (k - 1) 0) (k + 1) in
     cond below address (bin Add address (const (k + 1) (2 ^ k)))
@@ -26,7 +26,7 @@ and_true false = refl
 -- ---- trees
 
 module _ (k : ℕ) where
-  address_tree : (t : Term) → is_tree (banked_address k t) ≡ is_tree t
+  address_tree : (t : ExprModel) → is_tree (banked_address k t) ≡ is_tree t
   address_tree (slice (bin Add index (const width base)) hi lo) = by (nat_lt base (2 ^ k))
     where
       by : (b : Bool) → is_tree (whole k width base index b) ≡ (is_tree index && true)
@@ -34,7 +34,7 @@ module _ (k : ℕ) where
       by false = and_true (is_tree index && true)
   address_tree t = refl
 
-  tree_kept : (t : Term) → is_tree (banked_tree k t) ≡ is_tree t
+  tree_kept : (t : ExprModel) → is_tree (banked_tree k t) ≡ is_tree t
   tree_kept (word w) = refl
   tree_kept (reg r w) = refl
   tree_kept (const w v) = refl
@@ -50,10 +50,10 @@ module _ (k : ℕ) where
 
   -- ---- sizes
 
-  abbrev Half : Term → Type 0
+  abbrev Half : ExprModel → Type 0
   Half t = size_of (banked_tree k t) + 1 ≤ 2 * size_of t
 
-  address_size : (t : Term) → Half t → OfIndex Half t → size_of (banked_address k (banked_tree k t)) + 1 ≤ 2 * size_of t
+  address_size : (t : ExprModel) → Half t → OfIndex Half t → size_of (banked_address k (banked_tree k t)) + 1 ≤ 2 * size_of t
   address_size (slice (bin Add index (const width base)) hi lo) here left = by (nat_lt base (2 ^ k))
     where
       by : (b : Bool) → size_of (whole k width base (banked_tree k index) b) + 1 ≤ 2 * (size_of index + 1 + 1 + 1)
@@ -67,7 +67,7 @@ module _ (k : ℕ) where
   address_size (read InFile a w) here left = here
   address_size t here left = here
 
-  halved : (t : Term) → Told Half t
+  halved : (t : ExprModel) → Told Half t
   halved (word w) = record { here = omega arith; left = tt; index = tt }
   halved (reg r w) = record { here = omega arith; left = tt; index = tt }
   halved (const w v) = record { here = omega arith; left = tt; index = tt }
@@ -97,7 +97,7 @@ module _ (k : ℕ) where
       let q = (halved b).here in
       record { here = omega (arith, p, r, q); left = tt; index = tt }
 
-  job_size : (destination : Destination) (t : Term) → tree_size (banked_destination k destination) (banked_tree k t) ≤ 2 * tree_size destination t
+  job_size : (destination : DestinationModel) (t : ExprModel) → tree_size (banked_destination k destination) (banked_tree k t) ≤ 2 * tree_size destination t
   job_size (stored address) t =
       let a = halved address in
       let s = address_size address a.here a.index in
@@ -109,7 +109,7 @@ module _ (k : ℕ) where
   job_size filed t = let r = (halved t).here in omega (arith, r)
   job_size tested t = let r = (halved t).here in omega (arith, r)
 
-  goal_kept : (destination : Destination) → IsTreeGoal destination → IsTreeGoal (banked_destination k destination)
+  goal_kept : (destination : DestinationModel) → IsTreeGoal destination → IsTreeGoal (banked_destination k destination)
   goal_kept (stored address) h = address_tree (banked_tree k address) ∙ tree_kept address ∙ h
   goal_kept (into id) h = h
   goal_kept (cell address) h = tt
@@ -119,7 +119,7 @@ module _ (k : ℕ) where
 
   -- ---- numbers
 
-  address_number : (t : Term) → is_number (banked_address k t) ≡ is_number t
+  address_number : (t : ExprModel) → is_number (banked_address k t) ≡ is_number t
   address_number (slice (bin Add index (const width base)) hi lo) = by (nat_lt base (2 ^ k))
     where
       by : (b : Bool) → is_number (whole k width base index b) ≡ false
@@ -127,7 +127,7 @@ module _ (k : ℕ) where
       by false = refl
   address_number t = refl
 
-  number_kept : (t : Term) → is_number (banked_tree k t) ≡ is_number t
+  number_kept : (t : ExprModel) → is_number (banked_tree k t) ≡ is_number t
   number_kept (read InMemory a w) = refl
   number_kept (read InFile a w) = refl
   number_kept t = refl
@@ -138,7 +138,7 @@ module _ (k bits : ℕ) (some : 1 ≤ k) (room : k + 2 ≤ bits) where
   narrow : (n : ℕ) → n < bits → word_node bits n ≡ 0
   narrow n lt = ap (λ b. if b then 1 else 0) (ne_eqb n bits (λ s. omega arith))
 
-  address_wide : (t : Term) → wide_nodes bits (banked_address k t) ≤ wide_nodes bits t
+  address_wide : (t : ExprModel) → wide_nodes bits (banked_address k t) ≤ wide_nodes bits t
   address_wide (slice (bin Add index (const width base)) hi lo) = by (nat_lt base (2 ^ k)) (narrow (k + 1) (omega arith)) (narrow (k - 1 + 1 - 0) (omega arith))
     where
       by : (b : Bool) → word_node bits (k + 1) ≡ 0 → word_node bits (k - 1 + 1 - 0) ≡ 0 → wide_nodes bits (whole k width base index b) ≤ wide_nodes bits (slice (bin Add index (const width base)) hi lo)
@@ -146,7 +146,7 @@ module _ (k bits : ℕ) (some : 1 ≤ k) (room : k + 2 ≤ bits) where
       by false e q = omega (arith, e, q)
   address_wide t = omega arith
 
-  read_wide : (a b : Term) (w : ℕ) → is_number a ≡ is_number b → wide_nodes bits a ≤ wide_nodes bits b
+  read_wide : (a b : ExprModel) (w : ℕ) → is_number a ≡ is_number b → wide_nodes bits a ≤ wide_nodes bits b
       → (if is_number a then 0 else word_node bits w + wide_nodes bits a) ≤ (if is_number b then 0 else word_node bits w + wide_nodes bits b)
   read_wide a b w e h = rw e (by (is_number b))
     where
@@ -154,7 +154,7 @@ module _ (k bits : ℕ) (some : 1 ≤ k) (room : k + 2 ≤ bits) where
       by true = omega arith
       by false = omega (arith, h)
 
-  wide_kept : (t : Term) → wide_nodes bits (banked_tree k t) ≤ wide_nodes bits t
+  wide_kept : (t : ExprModel) → wide_nodes bits (banked_tree k t) ≤ wide_nodes bits t
   wide_kept (word w) = omega arith
   wide_kept (reg r w) = omega arith
   wide_kept (const w v) = omega arith
@@ -187,14 +187,14 @@ module _ (k bits : ℕ) (some : 1 ≤ k) (room : k + 2 ≤ bits) where
       let e = ap (word_node bits) (width_same k a) in
       omega (arith, p, r, q, e)
 
-  read_below : (a b : Term) → is_number a ≡ is_number b → wide_nodes bits a ≤ wide_nodes bits b → (if is_number a then 0 else wide_nodes bits a) ≤ (if is_number b then 0 else wide_nodes bits b)
+  read_below : (a b : ExprModel) → is_number a ≡ is_number b → wide_nodes bits a ≤ wide_nodes bits b → (if is_number a then 0 else wide_nodes bits a) ≤ (if is_number b then 0 else wide_nodes bits b)
   read_below a b e h = rw e (by (is_number b))
     where
       by : (c : Bool) → (if c then 0 else wide_nodes bits a) ≤ (if c then 0 else wide_nodes bits b)
       by true = omega arith
       by false = h
 
-  below_kept : (t : Term) → wide_below bits (banked_tree k t) ≤ wide_below bits t
+  below_kept : (t : ExprModel) → wide_below bits (banked_tree k t) ≤ wide_below bits t
   below_kept (word w) = omega arith
   below_kept (reg r w) = omega arith
   below_kept (const w v) = omega arith
@@ -221,7 +221,7 @@ module _ (k bits : ℕ) (some : 1 ≤ k) (room : k + 2 ≤ bits) where
       let q = wide_kept b in
       omega (arith, p, r, q)
 
-  job_temps : (destination : Destination) (t : Term) → tree_temps bits (banked_destination k destination) (banked_tree k t) ≤ tree_temps bits destination t
+  job_temps : (destination : DestinationModel) (t : ExprModel) → tree_temps bits (banked_destination k destination) (banked_tree k t) ≤ tree_temps bits destination t
   job_temps (stored address) t =
       let p = address_wide (banked_tree k address) in
       let q = wide_kept address in
@@ -236,14 +236,14 @@ module _ (k bits : ℕ) (some : 1 ≤ k) (room : k + 2 ≤ bits) where
   -- ---- jobs
 
   module _ (temps most : ℕ) where
-    trees_small : (destination : Destination) (trees : List Term) → TreesAre bits temps most destination trees → TreesAre bits temps (2 * most) (banked_destination k destination) (map (banked_tree k) trees)
+    trees_small : (destination : DestinationModel) (trees : List ExprModel) → TreesAre bits temps most destination trees → TreesAre bits temps (2 * most) (banked_destination k destination) (map (banked_tree k) trees)
     trees_small destination [] h = tt
     trees_small destination (t ∷ trees) h =
         let n = job_temps destination t in
         let s = job_size k destination t in
         (tree_kept k t ∙ h.0, omega (arith, n, h.1), omega (arith, s, h.2), trees_small destination trees h.3)
 
-    pub banked_small : (works : List Work) → AllSmall bits temps most works → AllSmall bits temps (2 * most) (map (banked_work k) works)
+    pub banked_small : (works : List JobModel) → AllSmall bits temps most works → AllSmall bits temps (2 * most) (map (job_of_banked k) works)
     banked_small [] h = tt
     banked_small (work ∷ later) h = (
       record { destination = goal_kept k work.destination h.0.destination; trees = trees_small work.destination work.trees h.0.trees },

@@ -3,7 +3,7 @@
 -- declarations, arrays whole.
 use Rattle.std.specs.Prelude.{ℕ, ◌+◌, ◌^◌, ◌≡◌, ◌<◌, ◌≤◌, ◌⊎◌, Bool, true, false, List, [], ◌∷◌, length}
 use Rattle.src_model.specs.declared.program.Var.{Var as Declared}
-use Rattle.src_model.specs.Written.{Listing}
+use Rattle.src_model.specs.Written.{ProgramModel}
 use Rattle.src_model.specs.Rules.{temp_count}
 use Rattle.src_model.specs.Meaning.{cells_in}
 use Rattle.code_model.specs.declared.image.Place.{Place}
@@ -32,13 +32,13 @@ places_by low high (false ∷ in_bank) (var ∷ vars) =
 places_by low high _ _ = []
 
 -- the layout of a program for words of so many bits, where addresses of the memory have k
-abbrev pub bank_layout : ℕ → ℕ → List Bool → Listing → Places
+abbrev pub bank_layout : ℕ → ℕ → List Bool → ProgramModel → Places
 bank_layout word k in_bank l = record {
   temps = temp_count word l;
   list = places_by (temp_count word l) (2 ^ k) in_bank l.vars;
 }
 
-abbrev pub memory_need : ℕ → List Bool → Listing → ℕ
+abbrev pub memory_need : ℕ → List Bool → ProgramModel → ℕ
 memory_need word in_bank l = temp_count word l + memory_cells in_bank l.vars
 
 -- there are too few cells in the memory, or else in the bank; both numbers are told
@@ -50,7 +50,7 @@ IsBankFault need cells bank_need bank Memory = Unit {0}
 
 -- a memory with addresses of k bits and a bank of so many cells have room for a program's variables,
 -- of which these are in the bank, and for the temporary cells; words hold addresses of both
-pub record FitsBanks (word k bank : ℕ) (in_bank : List Bool) (l : Listing) : Type 0 where
+pub record FitsBanks (word k bank : ℕ) (in_bank : List Bool) (l : ProgramModel) : Type 0 where
   pub some : 1 ≤ k
   pub wide : k + 2 ≤ word
   pub flags : length in_bank ≡ length l.vars

@@ -2,14 +2,14 @@
 use Rattle.std.specs.Prelude.{ℕ, ◌≡◌, refl, Bool, true, false, List, [], ◌∷◌, Some, None}
 use Rattle.rec_bits.specs.declared.operator.Op2.TheVariants.{Add}
 use Rattle.net_model.specs.declared.hardware.Space.TheVariants.{Memory as InMemory}
-use Rattle.net_model.specs.Terms.{bin, const, read, slice, zext}
+use Rattle.net_model.specs.Exprs.{bin, const, read, slice, zext}
 use Rattle.src_model.specs.declared.program.Var.{Var as Declared}
-use Rattle.src_model.specs.Written.{num, plain, element, assign, Listing}
-use Rattle.form_model.specs.Rules.{cell, stored}
+use Rattle.src_model.specs.Written.{num, plain, element, assign, ProgramModel}
+use Rattle.form_model.specs.Forms.{cell, stored}
 use Rattle.text_lines.specs.Fields.{line_end, parts_at}
 use Rattle.dual_bank.specs.Parts.{newly_named}
 use Rattle.dual_bank.specs.Layouts.{bank_cells, bank_layout, memory_cells}
-use Rattle.dual_bank.specs.Banked.{banked_works, joined_memory}
+use Rattle.dual_bank.specs.Banked.{jobs_of_banked, joined_memory}
 
 abbrev a : List ℕ
 a = 97 ∷ []
@@ -30,7 +30,7 @@ abbrev in_bank : List Bool
 in_bank = false ∷ true ∷ false ∷ []
 
 -- var a, x[4], y[2]; y[a] = x[a]; x[3] = 5;
-abbrev moved : Listing
+abbrev moved : ProgramModel
 moved = record {
   vars = vars;
   body =
@@ -70,7 +70,7 @@ in_bank_four : bank_cells in_bank vars ≡ 4
 in_bank_four = refl
 
 -- an index is added within its memory, and that of the bank put behind; numbers stay
-moved_works : banked_works 8 (joined_memory 16 8 (bank_layout 16 8 in_bank moved).list) moved ≡
+moved_works : jobs_of_banked 8 (joined_memory 16 8 (bank_layout 16 8 in_bank moved).list) moved ≡
     record {
       destination = stored (zext (slice (bin Add (read InMemory (const 9 5) 16) (const 16 6)) 7 0) 9);
       trees = read InMemory

@@ -2,13 +2,13 @@
 
 ghost use Rattle.std.specs.Prelude.{◌≡◌, ◌≤◌, IfOk, IfNone, IfSome, Ok, map};
 ghost use Rattle.rec_bits.specs.declared.operator.Op2.TheVariants.{Add};
-ghost use Rattle.net_model.specs.Terms.{bin, const, slice, zext};
-ghost use Rattle.form_model.specs.Trees.{tree_term};
-ghost use Rattle.form_model.specs.Rules.{destination_of};
-ghost use Rattle.src_model.specs.Written.{listing_of};
-ghost use Rattle.src_trees.specs.Jobs.{work_of, works_of};
-ghost use Rattle.src_trees.specs.Flows.{program_works};
-ghost use Rattle.dual_bank.specs.Banked.{banked_address, banked_destination, banked_tree, banked_work, banked_works, in_memory, joined_memory, summed};
+ghost use Rattle.net_model.specs.Exprs.{bin, const, slice, zext};
+ghost use Rattle.form_model.specs.Trees.{model_of_tree};
+ghost use Rattle.form_model.specs.Forms.{aim_destination};
+ghost use Rattle.src_model.specs.Written.{model_of_program};
+ghost use Rattle.src_trees.specs.Jobs.{model_of_job, models_of_jobs};
+ghost use Rattle.src_trees.specs.Flows.{program_jobs};
+ghost use Rattle.dual_bank.specs.Banked.{banked_address, banked_destination, banked_tree, job_of_banked, jobs_of_banked, in_memory, joined_memory, summed};
 ghost use Rattle.dual_bank.specs.Inner.Sums.{IsSum, IsNoSum};
 
 use code_model::Places;
@@ -28,8 +28,8 @@ struct Sum<'a> {
 
 // The sum that an address is, where it is one.
 fn sum_of(address: &Tree) -> Option<Sum<'_>>
-    ensures some { IfSome result (λ sum. IsSum (tree_term address.now) (tree_term sum.index.now) sum.width sum.base) }
-    ensures none { IfNone result (IsNoSum (tree_term address.now)) }
+    ensures some { IfSome result (λ sum. IsSum (model_of_tree address.now) (model_of_tree sum.index.now) sum.width sum.base) }
+    ensures none { IfNone result (IsNoSum (model_of_tree address.now)) }
 {
     let Tree::Slice(sum, _, _) = address else {
         return None;
@@ -67,14 +67,14 @@ fn boxes<T: Drop>(alloc: Global, x: T, y: T) -> Result<(Box<T>, Box<T>), NoMemor
 }
 
 fn sliced(alloc: Global, tree: Tree, hi: u8) -> Result<Tree, NoMemory>
-    ensures { IfOk result (λ made. tree_term made ≡ slice (tree_term tree) hi 0) }
+    ensures { IfOk result (λ made. model_of_tree made ≡ slice (model_of_tree tree) hi 0) }
 {
     let of = Box::new(alloc, tree)?;
     Ok(Tree::Slice(of, hi, 0))
 }
 
 fn widened(alloc: Global, tree: Tree, width: u8) -> Result<Tree, NoMemory>
-    ensures { IfOk result (λ made. tree_term made ≡ zext (tree_term tree) width) }
+    ensures { IfOk result (λ made. model_of_tree made ≡ zext (model_of_tree tree) width) }
 {
     let of = Box::new(alloc, tree)?;
     Ok(Tree::Zext(of, width))
@@ -82,7 +82,7 @@ fn widened(alloc: Global, tree: Tree, width: u8) -> Result<Tree, NoMemory>
 
 // A tree and a number, added.
 fn plus(alloc: Global, tree: Tree, width: u8, value: u64) -> Result<Tree, NoMemory>
-    ensures { IfOk result (λ made. tree_term made ≡ bin Add (tree_term tree) (const width value)) }
+    ensures { IfOk result (λ made. model_of_tree made ≡ bin Add (model_of_tree tree) (const width value)) }
 {
     let (left, right) = boxes(alloc, tree, Tree::Lit { width, value })?;
     Ok(Tree::Bin(Op2::Add, left, right))
@@ -91,7 +91,7 @@ fn plus(alloc: Global, tree: Tree, width: u8, value: u64) -> Result<Tree, NoMemo
 // An address of `k` bits in the memory that has the cell `base`.
 fn in_memory(alloc: Global, k: u8, base: u64, address: Tree) -> Result<Tree, NoMemory>
     requires { k ≤ 15 }
-    ensures { IfOk result (λ made. tree_term made ≡ in_memory k base (tree_term address)) }
+    ensures { IfOk result (λ made. model_of_tree made ≡ in_memory k base (model_of_tree address)) }
 {
     let wide = widened(alloc, address, k + 1)?;
     let first = 1u64 << k;
@@ -106,7 +106,7 @@ fn in_memory(alloc: Global, k: u8, base: u64, address: Tree) -> Result<Tree, NoM
 fn summed(alloc: Global, k: u8, width: u8, index: Tree, base: u64) -> Result<Tree, NoMemory>
     requires some { 1 ≤ k }
     requires most { k ≤ 15 }
-    ensures { IfOk result (λ made. tree_term made ≡ summed k width (tree_term index) base) }
+    ensures { IfOk result (λ made. model_of_tree made ≡ summed k width (model_of_tree index) base) }
 {
     let sum = plus(alloc, index, width, base % (1u64 << k))?;
     let low = sliced(alloc, sum, k - 1)?;
@@ -118,7 +118,7 @@ fn summed(alloc: Global, k: u8, width: u8, index: Tree, base: u64) -> Result<Tre
 fn banked_address(alloc: Global, k: u8, address: &Tree) -> Result<Tree, NoMemory>
     requires some { 1 ≤ k }
     requires most { k ≤ 15 }
-    ensures { IfOk result (λ made. tree_term made ≡ banked_address k (banked_tree k (tree_term address.now))) }
+    ensures { IfOk result (λ made. model_of_tree made ≡ banked_address k (banked_tree k (model_of_tree address.now))) }
 {
     match sum_of(address) {
         Some(sum) => {
@@ -133,7 +133,7 @@ fn banked_address(alloc: Global, k: u8, address: &Tree) -> Result<Tree, NoMemory
 fn boxed(alloc: Global, k: u8, tree: &Tree) -> Result<Box<Tree>, NoMemory>
     requires some { 1 ≤ k }
     requires most { k ≤ 15 }
-    ensures { IfOk result (λ made. tree_term made.value ≡ banked_tree k (tree_term tree.now)) }
+    ensures { IfOk result (λ made. model_of_tree made.value ≡ banked_tree k (model_of_tree tree.now)) }
 {
     let tree = banked_tree(alloc, k, tree)?;
     let made = Box::new(alloc, tree)?;
@@ -145,7 +145,7 @@ fn boxed(alloc: Global, k: u8, tree: &Tree) -> Result<Box<Tree>, NoMemory>
 fn banked_tree(alloc: Global, k: u8, tree: &Tree) -> Result<Tree, NoMemory>
     requires some { 1 ≤ k }
     requires most { k ≤ 15 }
-    ensures { IfOk result (λ made. tree_term made ≡ banked_tree k (tree_term tree.now)) }
+    ensures { IfOk result (λ made. model_of_tree made ≡ banked_tree k (model_of_tree tree.now)) }
 {
     match tree {
         Tree::Lit { width, value } => Ok(Tree::Lit {
@@ -171,7 +171,7 @@ fn banked_tree(alloc: Global, k: u8, tree: &Tree) -> Result<Tree, NoMemory>
 fn banked_aim(alloc: Global, k: u8, aim: &Aim) -> Result<Aim, NoMemory>
     requires some { 1 ≤ k }
     requires most { k ≤ 15 }
-    ensures { IfOk result (λ made. destination_of made ≡ banked_destination k (destination_of aim.now)) }
+    ensures { IfOk result (λ made. aim_destination made ≡ banked_destination k (aim_destination aim.now)) }
 {
     match aim {
         Aim::Cell(address) => Ok(Aim::Cell(*address)),
@@ -184,7 +184,7 @@ fn banked_aim(alloc: Global, k: u8, aim: &Aim) -> Result<Aim, NoMemory>
 fn banked_trees(alloc: Global, k: u8, trees: &[Tree]) -> Result<Vec<Tree>, NoMemory>
     requires some { 1 ≤ k }
     requires most { k ≤ 15 }
-    ensures { IfOk result (λ made. map tree_term made.items ≡ map (banked_tree k) (map tree_term trees.now)) }
+    ensures { IfOk result (λ made. map model_of_tree made.items ≡ map (banked_tree k) (map model_of_tree trees.now)) }
 {
     let mut made = Vec::new(alloc);
     for tree in trees {
@@ -196,7 +196,7 @@ fn banked_trees(alloc: Global, k: u8, trees: &[Tree]) -> Result<Vec<Tree>, NoMem
 fn banked_job(alloc: Global, k: u8, job: &Job) -> Result<Job, NoMemory>
     requires some { 1 ≤ k }
     requires most { k ≤ 15 }
-    ensures { IfOk result (λ made. work_of made ≡ banked_work k (work_of job.now)) }
+    ensures { IfOk result (λ made. model_of_job made ≡ job_of_banked k (model_of_job job.now)) }
 {
     let trees = banked_trees(alloc, k, &job.trees)?;
     let (trees, aim) = keeping(trees, banked_aim(alloc, k, &job.aim))?;
@@ -206,7 +206,7 @@ fn banked_job(alloc: Global, k: u8, job: &Job) -> Result<Job, NoMemory>
 fn banked_jobs(alloc: Global, k: u8, jobs: &[Job]) -> Result<Vec<Job>, NoMemory>
     requires some { 1 ≤ k }
     requires most { k ≤ 15 }
-    ensures { IfOk result (λ made. works_of made.items ≡ map (banked_work k) (works_of jobs.now)) }
+    ensures { IfOk result (λ made. models_of_jobs made.items ≡ map (job_of_banked k) (models_of_jobs jobs.now)) }
 {
     let mut made = Vec::new(alloc);
     for job in jobs {
@@ -228,12 +228,12 @@ pub fn banked(
 ) -> Result<Blocks, NoMemory>
     requires some { 1 ≤ addr_width }
     requires most { addr_width ≤ 15 }
-    requires jobs { works_of blocks.jobs.items ≡ program_works (joined_memory _typed.now.width addr_width _places.now.list)
-        (listing_of _typed.now.program) }
+    requires jobs { models_of_jobs blocks.jobs.items ≡ program_jobs (joined_memory _typed.now.width addr_width _places.now.list)
+        (model_of_program _typed.now.program) }
     ensures flow { IfOk result (λ made. made.flow ≡ blocks.flow) }
-    ensures jobs { IfOk result (λ made. works_of made.jobs.items
-        ≡ banked_works addr_width (joined_memory _typed.now.width addr_width _places.now.list)
-        (listing_of _typed.now.program)) }
+    ensures jobs { IfOk result (λ made. models_of_jobs made.jobs.items
+        ≡ jobs_of_banked addr_width (joined_memory _typed.now.width addr_width _places.now.list)
+        (model_of_program _typed.now.program)) }
 {
     let made = banked_jobs(alloc, addr_width, &blocks.jobs);
     let (blocks, jobs) = keeping(blocks, made)?;

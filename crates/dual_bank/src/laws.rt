@@ -1,24 +1,24 @@
 //! Laws of programs over two memories, proved here once for all that make code of them.
 
 ghost use Rattle.std.specs.Prelude.{ℕ, ◌≡◌, ◌≤◌, ◌+◌, ◌*◌, ◌^◌, Bool, List, length, map};
-ghost use Rattle.net_model.specs.Terms.{Term};
-ghost use Rattle.src_model.specs.Written.{Listing};
+ghost use Rattle.net_model.specs.Exprs.{ExprModel};
+ghost use Rattle.src_model.specs.Written.{ProgramModel};
 ghost use Rattle.src_model.specs.Rules.{temp_count};
-ghost use Rattle.src_trees.specs.Lowered.{Work};
+ghost use Rattle.src_trees.specs.Lowered.{JobModel};
 ghost use Rattle.src_trees.specs.Held.{HoldsVars, HasCellRoom};
 ghost use Rattle.src_trees.specs.Meant.{DoProgram};
 ghost use Rattle.src_trees.specs.Doing.{done};
 ghost use Rattle.src_trees.specs.Seen.{tree_value};
 ghost use Rattle.src_trees.specs.Measures.{AllSmall};
-ghost use Rattle.dual_bank.specs.Banked.{banked_tree, banked_work, banked_works, joined_memory, IndexesLie, WorkIndexesLie};
+ghost use Rattle.dual_bank.specs.Banked.{banked_tree, job_of_banked, jobs_of_banked, joined_memory, IndexesLie, JobIndexesLie};
 ghost use Rattle.dual_bank.specs.Layouts.{bank_cells, bank_layout, memory_need, FitsBanks};
 
 /// The layout of two memories holds a program's variables, each in one of them, and both memories'
 /// cells are room for them.
 pub fn law_of_banks()
-    ensures held { (word k bank : ℕ) (in_bank : List Bool) (l : Listing) → FitsBanks word k bank in_bank l →
+    ensures held { (word k bank : ℕ) (in_bank : List Bool) (l : ProgramModel) → FitsBanks word k bank in_bank l →
         HoldsVars (temp_count word l) l.vars (joined_memory word k (bank_layout word k in_bank l).list) }
-    ensures room { (word k bank : ℕ) (in_bank : List Bool) (l : Listing) → FitsBanks word k bank in_bank l →
+    ensures room { (word k bank : ℕ) (in_bank : List Bool) (l : ProgramModel) → FitsBanks word k bank in_bank l →
         HasCellRoom (temp_count word l) (joined_memory word k (bank_layout word k in_bank l).list) (2 ^ k + bank) }
 {}
 
@@ -26,18 +26,18 @@ pub fn law_of_banks()
 /// that it has over one, and a job leaves what it leaves over one. The jobs of a program over two do
 /// what the program's statements say.
 pub fn law_of_banked()
-    ensures values { (k : ℕ) (cells : List ℕ) (t : Term) → IndexesLie k cells t →
+    ensures values { (k : ℕ) (cells : List ℕ) (t : ExprModel) → IndexesLie k cells t →
         tree_value cells (banked_tree k t) ≡ tree_value cells t }
-    ensures effects { (k : ℕ) (cells : List ℕ) (work : Work) → WorkIndexesLie k cells work →
-        done (banked_work k work) cells ≡ done work cells }
-    ensures meaning { (word k bank : ℕ) (in_bank : List Bool) (l : Listing) → FitsBanks word k bank in_bank l →
+    ensures effects { (k : ℕ) (cells : List ℕ) (work : JobModel) → JobIndexesLie k cells work →
+        done (job_of_banked k work) cells ≡ done work cells }
+    ensures meaning { (word k bank : ℕ) (in_bank : List Bool) (l : ProgramModel) → FitsBanks word k bank in_bank l →
         DoProgram (joined_memory word k (bank_layout word k in_bank l).list) (temp_count word l) l
-        (banked_works k (joined_memory word k (bank_layout word k in_bank l).list) l) }
+        (jobs_of_banked k (joined_memory word k (bank_layout word k in_bank l).list) l) }
 {}
 
 /// Jobs over two memories need no more temporary cells than over one, and have at most twice the
 /// nodes.
 pub fn law_of_sizes()
-    ensures { (bits temps most k : ℕ) (works : List Work) → 1 ≤ k → k + 2 ≤ bits → AllSmall bits temps most works →
-        AllSmall bits temps (2 * most) (map (banked_work k) works) }
+    ensures { (bits temps most k : ℕ) (works : List JobModel) → 1 ≤ k → k + 2 ≤ bits → AllSmall bits temps most works →
+        AllSmall bits temps (2 * most) (map (job_of_banked k) works) }
 {}

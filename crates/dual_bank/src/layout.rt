@@ -1,7 +1,7 @@
 //! The places of variables in two memories.
 
 ghost use Rattle.std.specs.Prelude.{◌≡◌, ◌+◌, ◌*◌, ◌^◌, ◌<◌, ◌≤◌, IfOk, IfErr, MatchResult, length};
-ghost use Rattle.src_model.specs.Written.{listing_of};
+ghost use Rattle.src_model.specs.Written.{model_of_program};
 ghost use Rattle.src_model.specs.Sizes.{longest};
 ghost use Rattle.src_model.specs.Meaning.{cells_in};
 ghost use Rattle.dual_bank.specs.Layouts.{bank_cells, memory_cells, memory_need, places_by, bank_layout, IsBankFault};
@@ -90,12 +90,12 @@ pub fn bind_banks(
     requires narrow { addr_width ≤ 15 }
     requires bank { bank ≤ 2 ^ addr_width }
     ensures places { IfOk result (λ places. places
-        ≡ bank_layout typed.now.width addr_width in_bank.now.items (listing_of typed.now.program)) }
-    ensures memory { IfOk result (λ _. memory_need typed.now.width in_bank.now.items (listing_of typed.now.program)
+        ≡ bank_layout typed.now.width addr_width in_bank.now.items (model_of_program typed.now.program)) }
+    ensures memory { IfOk result (λ _. memory_need typed.now.width in_bank.now.items (model_of_program typed.now.program)
         ≤ 2 ^ addr_width) }
     ensures enough { IfOk result (λ _. bank_cells in_bank.now.items typed.now.program.vars ≤ bank) }
     ensures refused { IfErr result (IsBankFault
-        (memory_need typed.now.width in_bank.now.items (listing_of typed.now.program)) (2 ^ addr_width)
+        (memory_need typed.now.width in_bank.now.items (model_of_program typed.now.program)) (2 ^ addr_width)
         (bank_cells in_bank.now.items typed.now.program.vars) bank) }
 {
     let flags = in_bank.as_slice();

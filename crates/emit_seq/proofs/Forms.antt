@@ -4,15 +4,15 @@ use Rattle.std.specs.Int.{bit_at}
 use Rattle.std.proofs.lemmas.Nat.Bits.{bit_at-zero, bit_at_or}
 use Rattle.std.proofs.lemmas.Bool.{true≢false, eqb-true, and_parts, cases_Bool}
 use Rattle.net_model.specs.declared.states.State.{State}
-use Rattle.net_model.specs.Terms.{Term, const, term_width}
+use Rattle.net_model.specs.Exprs.{ExprModel, const, expr_width}
 use Rattle.net_model.specs.Meaning.{mean}
 use Rattle.net_model.specs.MemoryText.{with_cell}
 use Rattle.net_model.specs.Patterns.{Pattern}
 use Rattle.form_model.specs.Shapes.{is_shape, shape_setting, shows_below}
-use Rattle.form_model.specs.Rules.{Rule, Kind, into_reg, into_memory, into_file, branches, Destination, into, filed, cell, stored, temporary, tested}
-use Rattle.form_model.specs.Matches.{Found, settled, both, matched, address_match, goal_match}
+use Rattle.form_model.specs.Forms.{FormModel, GoalModel, into_reg, into_memory, into_file, branches, DestinationModel, into, filed, cell, stored, temporary, tested}
+use Rattle.form_model.specs.Matches.{MatchModel, settled, both, matched, address_match, goal_match}
 use Rattle.form_model.specs.Effects.{operation_or_none, operation_of, apply_operation, steps_effect}
-use Rattle.form_model.specs.Steps.{CutCells, bits_or_none, cell_in, tied_cell, address_setting, own_setting, whole_setting, form_step}
+use Rattle.form_model.specs.Steps.{CutCellsModel, bits_or_none, cell_in, tied_cell, address_setting, own_setting, whole_setting, form_step}
 use Rattle.form_model.specs.Bits.{uses}
 use Rattle.emit_seq.specs.Formed.{IsOnce, CellsShown, IsTied, IsIntoReg, IsIntoMemory, IsIntoFile, IsFormed}
 use Rattle.emit_seq.specs.Leaves.{ReadsFrom, placed, DestinationReads}
@@ -22,26 +22,26 @@ use Rattle.emit_seq.proofs.Matched.{Joined, joined, some_bits, shown_below, sett
 use Rattle.emit_seq.proofs.Tied.{HasHomes, matched_homes}
 
 -- where the temporary cell that is written lies
-abbrev pub OwnBelow : Destination → ℕ → ℕ → Type 0
+abbrev pub OwnBelow : DestinationModel → ℕ → ℕ → Type 0
 OwnBelow temporary own temps = own < temps
 OwnBelow destination own temps = Unit {0}
 
 -- the cell of the file that is written: one of the file's, and that of the tied operand
-abbrev pub OwnIn : Destination → Rule → List (Option ℕ) → Option ℕ → ℕ → Type 0
+abbrev pub OwnIn : DestinationModel → FormModel → List (Option ℕ) → Option ℕ → ℕ → Type 0
 OwnIn filed rule homes home size =
     (c : ℕ) × (home ≡ Some c) × (c < size) × ((d : ℕ) → tied_cell rule.tied homes ≡ Some d → d ≡ c)
 OwnIn destination rule homes home size = Unit {0}
 
 module _ (temps size : ℕ) (before now : State) (same : (c : ℕ) → temps ≤ c → slice_index now.cells c ≡ slice_index before.cells c) (file_storage : Option ℕ) (patterns : List Pattern) (count : ℕ) where
   -- a step of a register
-  reg_step : (rule : Rule) (r v setting : ℕ) (f : IsIntoReg patterns count size rule r) → mean rule.value now setting ≡ v
+  reg_step : (rule : FormModel) (r v setting : ℕ) (f : IsIntoReg patterns count size rule r) → mean rule.value now setting ≡ v
       → steps_effect (operation_of file_storage patterns) (record { pattern = rule.pattern; setting = setting } ∷ []) now ≡ record now { regs = slice_set now.regs r v }
   reg_step rule r v setting f e =
       ap (λ (p : Option Pattern). apply_operation (operation_or_none file_storage p setting) now now) f.is
       ∙ ap (λ x. record now { regs = slice_set now.regs r x }) (sym (f.alike.means now setting) ∙ e)
 
   -- a step of the memory
-  memory_step : (rule : Rule) (a v setting : ℕ) (f : IsIntoMemory file_storage patterns size rule) → mean f.at now setting ≡ a → mean rule.value now setting ≡ v
+  memory_step : (rule : FormModel) (a v setting : ℕ) (f : IsIntoMemory file_storage patterns size rule) → mean f.at now setting ≡ a → mean rule.value now setting ≡ v
       → steps_effect (operation_of file_storage patterns) (record { pattern = rule.pattern; setting = setting } ∷ []) now ≡ record now { cells = slice_set now.cells a v }
   memory_step rule a v setting f ea e =
       ap (λ (p : Option Pattern). apply_operation (operation_or_none file_storage p setting) now now) f.is
@@ -50,7 +50,7 @@ module _ (temps size : ℕ) (before now : State) (same : (c : ℕ) → temps ≤
       ∙ ap (λ x. record now { cells = slice_set now.cells a x }) (sym (f.alike_value.means now setting) ∙ e)
 
   -- a step of the file
-  file_step : (rule : Rule) (a v setting : ℕ) (f : IsIntoFile file_storage patterns size rule) → mean f.at now setting ≡ a → mean rule.value now setting ≡ v
+  file_step : (rule : FormModel) (a v setting : ℕ) (f : IsIntoFile file_storage patterns size rule) → mean f.at now setting ≡ a → mean rule.value now setting ≡ v
       → steps_effect (operation_of file_storage patterns) (record { pattern = rule.pattern; setting = setting } ∷ []) now ≡ record now { file = slice_set now.file a v }
   file_step rule a v setting f ea e =
       ap (λ (p : Option Pattern). apply_operation (operation_or_none file_storage p setting) now now) f.is
@@ -59,36 +59,36 @@ module _ (temps size : ℕ) (before now : State) (same : (c : ℕ) → temps ≤
       ∙ ap (λ x. record now { file = slice_set now.file a x }) (sym (f.alike_value.means now setting) ∙ e)
 
   -- the value alone, whose setting has no other bits
-  value_means : (e t : Term) (whole : Bool) (f : Found) (cuts : List CutCells) (homes : List (Option ℕ)) → matched temps e t whole ≡ Some f → IsOnce e → CellsShown size e → ReadsFrom temps before t → Holds temps size before now f.sites cuts homes
+  value_means : (e t : ExprModel) (whole : Bool) (f : MatchModel) (cuts : List CutCellsModel) (homes : List (Option ℕ)) → matched temps e t whole ≡ Some f → IsOnce e → CellsShown size e → ReadsFrom temps before t → Holds temps size before now f.sites cuts homes
       → mean e now (bit_or (bits_in f cuts homes) 0) ≡ mean t before 0
   value_means e t whole f cuts homes h o q r k =
       let m : IsMeant temps size before now e t f cuts homes = matched_meant temps size before now same e o q t whole f cuts homes h r k in
       m.means (bit_or (bits_in f cuts homes) 0) (λ j u. or_left (bits_in f cuts homes) 0 j (bit_at-zero j))
 
   -- an address that is a shape, at a cell
-  shape_address : (at : Term) (a : ℕ) (f : Found) (cuts : List CutCells) (homes : List (Option ℕ)) → (if is_shape at then settled (shape_setting at a) else None) ≡ Some f → Holds temps size before now f.sites cuts homes
-      → IsMeant temps size before now at (const (term_width at) a) f cuts homes
+  shape_address : (at : ExprModel) (a : ℕ) (f : MatchModel) (cuts : List CutCellsModel) (homes : List (Option ℕ)) → (if is_shape at then settled (shape_setting at a) else None) ≡ Some f → Holds temps size before now f.sites cuts homes
+      → IsMeant temps size before now at (const (expr_width at) a) f cuts homes
   shape_address at a f cuts homes h k =
       let p : (is_shape at ≡ true) × (settled (shape_setting at a) ≡ Some f) = picked (is_shape at) (settled (shape_setting at a)) f h in
       let (b, e, q) = settled_some (shape_setting at a) f p.1 in
       let shown : IsSetting at a b = shape_sets at a b e in
-      let none : (cuts ≡ []) × (homes ≡ []) = subst (λ (z : Found). Holds temps size before now z.sites cuts homes) (sym q) k in
+      let none : (cuts ≡ []) × (homes ≡ []) = subst (λ (z : MatchModel). Holds temps size before now z.sites cuts homes) (sym q) k in
       let set : (j : ℕ) → bit_at (bits_in f cuts homes) j ≡ bit_at b j =
-      λ j. ap (λ (z : Found). bit_at (bits_in z cuts homes) j) (sym q) ∙ ap (λ z. bit_at (bit_or b (open_bits [] z homes)) j) none.0
+      λ j. ap (λ (z : MatchModel). bit_at (bits_in z cuts homes) j) (sym q) ∙ ap (λ z. bit_at (bit_or b (open_bits [] z homes)) j) none.0
       ∙ ap (λ z. bit_at (bit_or b (open_bits [] [] z)) j) none.1 ∙ none_open b j in
       record { width = refl; within = λ j u. set j ∙ shown.within j u; means = λ i u. shown.means now i (λ j w. u j w ∙ set j) }
 
   -- a write at an address that the setting or a tree gives
-  address_done : (rule : Rule) (f : IsIntoMemory file_storage patterns size rule) (at_tree tree : Term) (whole : Bool) (o : Option Found) (found : Found) (cuts : List CutCells) (homes : List (Option ℕ))
+  address_done : (rule : FormModel) (f : IsIntoMemory file_storage patterns size rule) (at_tree tree : ExprModel) (whole : Bool) (o : Option MatchModel) (found : MatchModel) (cuts : List CutCellsModel) (homes : List (Option ℕ))
       → both o (matched temps rule.value tree whole) ≡ Some found
-      → ((x : Found) (rs : List CutCells) (hs : List (Option ℕ)) → o ≡ Some x → Holds temps size before now x.sites rs hs → IsMeant temps size before now f.at at_tree x rs hs)
+      → ((x : MatchModel) (rs : List CutCellsModel) (hs : List (Option ℕ)) → o ≡ Some x → Holds temps size before now x.sites rs hs → IsMeant temps size before now f.at at_tree x rs hs)
       → ReadsFrom temps before tree → Holds temps size before now found.sites cuts homes
       → steps_effect (operation_of file_storage patterns) (record { pattern = rule.pattern; setting = bit_or (bits_in found cuts homes) 0 } ∷ []) now
       ≡ record now { cells = slice_set now.cells (mean at_tree before 0) (mean tree before 0) }
   address_done rule f at_tree tree whole o found cuts homes h g r k =
       let j : Joined o (matched temps rule.value tree whole) found = joined _ _ _ h in
       let s : Split temps size before now j.first.sites j.second.sites cuts homes =
-      split temps size before now j.first.sites j.second.sites cuts homes (subst (λ (z : Found). Holds temps size before now z.sites cuts homes) (sym j.is) k) in
+      split temps size before now j.first.sites j.second.sites cuts homes (subst (λ (z : MatchModel). Holds temps size before now z.sites cuts homes) (sym j.is) k) in
       let m : AreMeant temps size before now f.at rule.value at_tree tree found cuts homes =
       two_meant temps size before now f.at rule.value at_tree tree j.first j.second found cuts s.front s.back homes s.fronts s.backs j.is s.bits_of f.apart f.apart_back
       (g j.first s.front s.fronts j.is_first s.first)
@@ -98,7 +98,7 @@ module _ (temps size : ℕ) (before now : State) (same : (c : ℕ) → temps ≤
       (m.first (bit_or (bits_in found cuts homes) 0) (λ i u. set i)) (m.second (bit_or (bits_in found cuts homes) 0) (λ i u. set i))
 
   -- a write into a temporary cell
-  temp_done : (rule : Rule) (f : IsIntoMemory file_storage patterns size rule) (tree : Term) (found : Found) (cuts : List CutCells) (homes : List (Option ℕ)) (own : ℕ)
+  temp_done : (rule : FormModel) (f : IsIntoMemory file_storage patterns size rule) (tree : ExprModel) (found : MatchModel) (cuts : List CutCellsModel) (homes : List (Option ℕ)) (own : ℕ)
       → both (address_match temps (Some f.at) temporary) (matched temps rule.value tree false) ≡ Some found
       → ReadsFrom temps before tree → Holds temps size before now found.sites cuts homes → own < temps
       → steps_effect (operation_of file_storage patterns) (record { pattern = rule.pattern; setting = bit_or (bits_in found cuts homes) (address_setting (Some f.at) own) } ∷ []) now
@@ -109,11 +109,11 @@ module _ (temps size : ℕ) (before now : State) (same : (c : ℕ) → temps ≤
       let q : (is_shape f.at ≡ true) × (shows_below f.at temps ≡ true) = and_parts _ _ p.0 in
       let first : record { setting = 0; sites = [] } ≡ j.first = cc in
       let whole : record { setting = bit_or 0 j.second.setting; sites = j.second.sites } ≡ found =
-      ap (λ (z : Found). record { setting = bit_or z.setting j.second.setting; sites = z.sites ++ j.second.sites }) first ∙ j.is in
-      let held : Holds temps size before now j.second.sites cuts homes = subst (λ (z : Found). Holds temps size before now z.sites cuts homes) (sym whole) k in
+      ap (λ (z : MatchModel). record { setting = bit_or z.setting j.second.setting; sites = z.sites ++ j.second.sites }) first ∙ j.is in
+      let held : Holds temps size before now j.second.sites cuts homes = subst (λ (z : MatchModel). Holds temps size before now z.sites cuts homes) (sym whole) k in
       let m : IsMeant temps size before now rule.value tree j.second cuts homes = matched_meant temps size before now same rule.value f.once_value f.shown_value tree false j.second cuts homes j.is_second r held in
       let set : (i : ℕ) → bit_at (bits_in found cuts homes) i ≡ bit_at (bits_in j.second cuts homes) i =
-      λ i. ap (λ (z : Found). bit_at (bits_in z cuts homes) i) (sym whole)
+      λ i. ap (λ (z : MatchModel). bit_at (bits_in z cuts homes) i) (sym whole)
       ∙ bit_at_or (bit_or 0 j.second.setting) (open_bits j.second.sites cuts homes) i
       ∙ ap (λ n. max n (bit_at (open_bits j.second.sites cuts homes) i)) (or_right 0 j.second.setting i (bit_at-zero i))
       ∙ sym (bit_at_or j.second.setting (open_bits j.second.sites cuts homes) i) in
@@ -126,7 +126,7 @@ module _ (temps size : ℕ) (before now : State) (same : (c : ℕ) → temps ≤
       (λ i u. or_left (bits_in found cuts homes) own_bits i (shown.within i (f.apart_back i u)) ∙ set i))
 
   -- a write into the file, at the cell of the tied operand where there is one
-  file_done : (rule : Rule) (f : IsIntoFile file_storage patterns size rule) (tree : Term) (whole : Bool) (found : Found) (cuts : List CutCells) (homes : List (Option ℕ)) (c : ℕ)
+  file_done : (rule : FormModel) (f : IsIntoFile file_storage patterns size rule) (tree : ExprModel) (whole : Bool) (found : MatchModel) (cuts : List CutCellsModel) (homes : List (Option ℕ)) (c : ℕ)
       → matched temps rule.value tree whole ≡ Some found → ReadsFrom temps before tree → Holds temps size before now found.sites cuts homes → c < size
       → ((d : ℕ) → tied_cell rule.tied homes ≡ Some d → d ≡ c)
       → steps_effect (operation_of file_storage patterns) (record { pattern = rule.pattern; setting = bit_or (bits_in found cuts homes) (address_setting (Some f.at) c) } ∷ []) now
@@ -170,7 +170,7 @@ module _ (temps size : ℕ) (before now : State) (same : (c : ℕ) → temps ≤
       ]
 
   -- the form's own step
-  pub form_done : (rule : Rule) (goal : Kind) (destination : Destination) (tree : Term) (whole : Bool) (found : Found) (cuts : List CutCells) (homes : List (Option ℕ)) (own : ℕ) (home : Option ℕ)
+  pub form_done : (rule : FormModel) (goal : GoalModel) (destination : DestinationModel) (tree : ExprModel) (whole : Bool) (found : MatchModel) (cuts : List CutCellsModel) (homes : List (Option ℕ)) (own : ℕ) (home : Option ℕ)
       → IsFormed file_storage patterns count size rule goal → goal_match temps rule goal destination tree whole ≡ Some found
       → ReadsFrom temps before tree → DestinationReads temps before destination → Holds temps size before now found.sites cuts homes → OwnBelow destination own temps → OwnIn destination rule homes home size
       → steps_effect (operation_of file_storage patterns) (form_step rule destination (whole_setting rule destination found cuts homes own home)) now ≡ placed before now destination own home (mean tree before 0)
@@ -179,27 +179,27 @@ module _ (temps size : ℕ) (before now : State) (same : (c : ℕ) → temps ≤
       reg_step rule q (mean tree before 0) (bit_or (bits_in found cuts homes) 0) f (value_means rule.value tree whole found cuts homes c.1 f.once f.shown r k)
       ∙ ap (λ n. record now { regs = slice_set now.regs n (mean tree before 0) }) (eqb-true q id c.0)
   form_done rule into_memory (cell a) tree whole found cuts homes own home f h r p k l w =
-      address_done rule f (const (term_width f.at) a) tree true (address_match temps rule.addr (cell a)) found cuts homes h
+      address_done rule f (const (expr_width f.at) a) tree true (address_match temps rule.addr (cell a)) found cuts homes h
       (λ x rs hs e v. shape_address f.at a x rs hs (ap (λ z. address_match temps z (cell a)) (sym f.has) ∙ e) v) r k
   form_done rule into_memory (stored address) tree whole found cuts homes own home f h r p k l w =
       address_done rule f address tree false (address_match temps rule.addr (stored address)) found cuts homes h
       (λ x rs hs e v. matched_meant temps size before now same f.at f.once_addr f.shown_addr address false x rs hs
       (ap (λ z. address_match temps z (stored address)) (sym f.has) ∙ e) p v) r k
   form_done rule into_memory temporary tree whole found cuts homes own home f h r p k l w =
-      ap (λ (z : Option Term). steps_effect (operation_of file_storage patterns) (record { pattern = rule.pattern; setting = bit_or (bits_in found cuts homes) (address_setting z own) } ∷ []) now) f.has
+      ap (λ (z : Option ExprModel). steps_effect (operation_of file_storage patterns) (record { pattern = rule.pattern; setting = bit_or (bits_in found cuts homes) (address_setting z own) } ∷ []) now) f.has
       ∙ temp_done rule f tree found cuts homes own
       (ap (λ z. both (address_match temps z temporary) (matched temps rule.value tree false)) (sym f.has) ∙ h) r k l
   form_done rule into_file filed tree whole found cuts homes own home f h r p k l w =
       let (c, e, lt, tied) = w in
       ap (λ (z : Option ℕ). steps_effect (operation_of file_storage patterns) (record { pattern = rule.pattern; setting = bit_or (bits_in found cuts homes) (own_setting filed rule.addr own z) } ∷ []) now) e
-      ∙ ap (λ (z : Option Term). steps_effect (operation_of file_storage patterns) (record { pattern = rule.pattern; setting = bit_or (bits_in found cuts homes) (address_setting z c) } ∷ []) now) f.has
+      ∙ ap (λ (z : Option ExprModel). steps_effect (operation_of file_storage patterns) (record { pattern = rule.pattern; setting = bit_or (bits_in found cuts homes) (address_setting z c) } ∷ []) now) f.has
       ∙ file_done rule f tree whole found cuts homes c h r k lt tied
       ∙ ap (λ (z : Option ℕ). placed before now filed own z (mean tree before 0)) (sym e)
   form_done rule (branches when_one to) tested tree whole found cuts homes own home f h r p k l w = refl
   form_done rule goal destination tree whole found cuts homes own home f h r p k l w = absurd (cc)
 
   -- a branch's condition has the tree's value
-  pub test_means : (rule : Rule) (goal : Kind) (tree : Term) (whole : Bool) (found : Found) (cuts : List CutCells) (homes : List (Option ℕ)) (own : ℕ) (home : Option ℕ)
+  pub test_means : (rule : FormModel) (goal : GoalModel) (tree : ExprModel) (whole : Bool) (found : MatchModel) (cuts : List CutCellsModel) (homes : List (Option ℕ)) (own : ℕ) (home : Option ℕ)
       → IsFormed file_storage patterns count size rule goal → goal_match temps rule goal tested tree whole ≡ Some found
       → ReadsFrom temps before tree → Holds temps size before now found.sites cuts homes
       → mean rule.value now (whole_setting rule tested found cuts homes own home) ≡ mean tree before 0

@@ -5,9 +5,9 @@ use Rattle.std.specs.Prelude.{slice_get, insert}
 use Rattle.std.specs.Int.{bit_at}
 use Rattle.std.proofs.lemmas.Bool.{cases_eq, eqb-true, eq-eqb, ne_eqb}
 use Rattle.std.proofs.lemmas.Nat.Bits.{bit_at-zero, bit_at_or, bit_at-lt, bit_at-pow_same, bit_at-pow_other}
-use Rattle.form_model.specs.Rules.{Rule, Kind, into_reg, into_memory, into_file, jumps, branches}
-use Rattle.form_model.specs.Plans.{Plan, use_form, Operands, no_operands, operand_then}
-use Rattle.form_model.specs.Covers.{Stock, kind_cells, form_cells, left_cells, need, operands_need}
+use Rattle.form_model.specs.Forms.{FormModel, GoalModel, into_reg, into_memory, into_file, jumps, branches}
+use Rattle.form_model.specs.CoverModels.{CoverModel, use_form, CoverOperandsModel, no_operands, operand_then}
+use Rattle.form_model.specs.Covers.{StockModel, cells_of_goal, form_cells, left_cells, need, operands_need}
 use Rattle.form_model.specs.Steps.{free_cell, holding, some_or, cell_in, tied_cell, cell_or, form_cell, cell_of, operand_homes, first_home}
 
 -- how many numbers below n aren't in the set
@@ -132,63 +132,63 @@ free_chosen size held (Some d) c h k = h
 
 -- ---- a form that writes the file leaves its value there, and no other does
 
-pub kind_one : (kind : Kind) → (kind ≡ into_file) ⊎ (kind_cells kind ≡ 0)
-kind_one (into_reg id) = inr refl
-kind_one into_memory = inr refl
-kind_one into_file = inl refl
-kind_one (jumps reach) = inr refl
-kind_one (branches when_one to) = inr refl
+pub goal_one : (kind : GoalModel) → (kind ≡ into_file) ⊎ (cells_of_goal kind ≡ 0)
+goal_one (into_reg id) = inr refl
+goal_one into_memory = inr refl
+goal_one into_file = inl refl
+goal_one (jumps reach) = inr refl
+goal_one (branches when_one to) = inr refl
 
-form_some : (rule : Option Rule) (cells : List (Option ℕ)) (first : Option ℕ) (free : ℕ) → form_cells rule ≡ 1 → (c : ℕ) × (form_cell rule cells first free ≡ Some c)
+form_some : (rule : Option FormModel) (cells : List (Option ℕ)) (first : Option ℕ) (free : ℕ) → form_cells rule ≡ 1 → (c : ℕ) × (form_cell rule cells first free ≡ Some c)
 form_some None cells first free h = absurd (omega (arith, h))
 form_some (Some rule) cells first free h =
-    (cell_or (some_or (tied_cell rule.tied cells) first) free, ap (λ b. if b then Some (cell_or (some_or (tied_cell rule.tied cells) first) free) else None) (eq-eqb (kind_cells rule.goal) 1 h))
+    (cell_or (some_or (tied_cell rule.tied cells) first) free, ap (λ b. if b then Some (cell_or (some_or (tied_cell rule.tied cells) first) free) else None) (eq-eqb (cells_of_goal rule.goal) 1 h))
 
-form_none : (rule : Option Rule) (cells : List (Option ℕ)) (first : Option ℕ) (free : ℕ) → form_cells rule ≡ 0 → form_cell rule cells first free ≡ None
+form_none : (rule : Option FormModel) (cells : List (Option ℕ)) (first : Option ℕ) (free : ℕ) → form_cells rule ≡ 0 → form_cell rule cells first free ≡ None
 form_none None cells first free h = refl
 form_none (Some rule) cells first free h =
-    ap (λ b. if b then Some (cell_or (some_or (tied_cell rule.tied cells) first) free) else None) (ne_eqb (kind_cells rule.goal) 1 (λ z. omega (arith, z, h)))
+    ap (λ b. if b then Some (cell_or (some_or (tied_cell rule.tied cells) first) free) else None) (ne_eqb (cells_of_goal rule.goal) 1 (λ z. omega (arith, z, h)))
 
 -- a form's cell is that of its tied operand
-pub tied_is : (o : Option Rule) (rule : Rule) → o ≡ Some rule → (cells : List (Option ℕ)) (first : Option ℕ) (free c d : ℕ) → form_cell o cells first free ≡ Some c → tied_cell rule.tied cells ≡ Some d → d ≡ c
+pub tied_is : (o : Option FormModel) (rule : FormModel) → o ≡ Some rule → (cells : List (Option ℕ)) (first : Option ℕ) (free c d : ℕ) → form_cell o cells first free ≡ Some c → tied_cell rule.tied cells ≡ Some d → d ≡ c
 tied_is None rule e cells first free c d h t = absurd (cc)
-tied_is (Some r) rule e cells first free c d h t = go (kind_cells r.goal == 1) h
+tied_is (Some r) rule e cells first free c d h t = go (cells_of_goal r.goal == 1) h
   where
     same : r ≡ rule
     same = cc
 
     go : (b : Bool) → (if b then Some (cell_or (some_or (tied_cell r.tied cells) first) free) else None) ≡ Some c → d ≡ c
     go true q =
-        let at : tied_cell r.tied cells ≡ Some d = ap (λ (z : Rule). tied_cell z.tied cells) same ∙ t in
+        let at : tied_cell r.tied cells ≡ Some d = ap (λ (z : FormModel). tied_cell z.tied cells) same ∙ t in
         let is : Some (cell_or (some_or (tied_cell r.tied cells) first) free) ≡ Some d = ap (λ z. Some (cell_or (some_or z first) free)) at in
         cc
     go false q = absurd (cc)
 
-form_free : (size held : ℕ) (rule : Option Rule) (cells : List (Option ℕ)) (first : Option ℕ) (free : ℕ) → AreFree size held cells → IsFree size held first
+form_free : (size held : ℕ) (rule : Option FormModel) (cells : List (Option ℕ)) (first : Option ℕ) (free : ℕ) → AreFree size held cells → IsFree size held first
     → (form_cells rule ≡ 1 → IsFree size held (Some free)) → IsFree size held (form_cell rule cells first free)
 form_free size held None cells first free h k f = tt
-form_free size held (Some rule) cells first free h k f = go (kind_cells rule.goal == 1) refl
+form_free size held (Some rule) cells first free h k f = go (cells_of_goal rule.goal == 1) refl
   where
-    go : (b : Bool) → (kind_cells rule.goal == 1) ≡ b → IsFree size held (if b then Some (cell_or (some_or (tied_cell rule.tied cells) first) free) else None)
-    go true e = free_chosen size held (some_or (tied_cell rule.tied cells) first) free (free_or size held (tied_cell rule.tied cells) first (free_tied size held rule.tied cells h) k) (f (eqb-true (kind_cells rule.goal) 1 e))
+    go : (b : Bool) → (cells_of_goal rule.goal == 1) ≡ b → IsFree size held (if b then Some (cell_or (some_or (tied_cell rule.tied cells) first) free) else None)
+    go true e = free_chosen size held (some_or (tied_cell rule.tied cells) first) free (free_or size held (tied_cell rule.tied cells) first (free_tied size held rule.tied cells h) k) (f (eqb-true (cells_of_goal rule.goal) 1 e))
     go false e = tt
 
-left_few : (stock : Stock) (rule : Option Rule) → form_cells rule ≤ 1
+left_few : (stock : StockModel) (rule : Option FormModel) → form_cells rule ≤ 1
 left_few stock None = omega arith
-left_few stock (Some rule) = elim (kind_one rule.goal) as (λ _. kind_cells rule.goal ≤ 1) [ inl e ↦ (let n = ap kind_cells e in omega (arith, n)) | inr e ↦ omega (arith, e) ]
+left_few stock (Some rule) = elim (goal_one rule.goal) as (λ _. cells_of_goal rule.goal ≤ 1) [ inl e ↦ (let n = ap cells_of_goal e in omega (arith, n)) | inr e ↦ omega (arith, e) ]
 
-module _ (stock : Stock) where
-  pub left_some : (p : Plan) (held : ℕ) → left_cells stock.rules p ≡ 1 → (c : ℕ) × (cell_of stock p held ≡ Some c)
+module _ (stock : StockModel) where
+  pub left_some : (p : CoverModel) (held : ℕ) → left_cells stock.rules p ≡ 1 → (c : ℕ) × (cell_of stock p held ≡ Some c)
   left_some (use_form k ps cs) held h = form_some (slice_get stock.rules k) (operand_homes stock ps held) (first_home stock ps held) (free_cell held stock.file) h
 
-  pub left_none : (p : Plan) (held : ℕ) → left_cells stock.rules p ≡ 0 → cell_of stock p held ≡ None
+  pub left_none : (p : CoverModel) (held : ℕ) → left_cells stock.rules p ≡ 0 → cell_of stock p held ≡ None
   left_none (use_form k ps cs) held h = form_none (slice_get stock.rules k) (operand_homes stock ps held) (first_home stock ps held) (free_cell held stock.file) h
 
-  pub left_one : (p : Plan) → left_cells stock.rules p ≤ 1
+  pub left_one : (p : CoverModel) → left_cells stock.rules p ≤ 1
   left_one (use_form k ps cs) = left_few stock (slice_get stock.rules k)
 
   -- what is free besides an operand's cell
-  pub room_left : (p : Plan) (held n : ℕ) → IsFree stock.file held (cell_of stock p held) → left_cells stock.rules p + n ≤ free_count held stock.file
+  pub room_left : (p : CoverModel) (held n : ℕ) → IsFree stock.file held (cell_of stock p held) → left_cells stock.rules p + n ≤ free_count held stock.file
       → n ≤ free_count (holding held (cell_of stock p held)) stock.file
   room_left p held n f h =
       elim (cases_eq (left_cells stock.rules p) 1) as (λ _. n ≤ free_count (holding held (cell_of stock p held)) stock.file) [
@@ -204,13 +204,13 @@ module _ (stock : Stock) where
 
   mutual
     -- where the file is large enough, the cell of a cover is free
-    pub cell_free : (p : Plan) (held : ℕ) → need stock.rules p ≤ free_count held stock.file → IsFree stock.file held (cell_of stock p held)
+    pub cell_free : (p : CoverModel) (held : ℕ) → need stock.rules p ≤ free_count held stock.file → IsFree stock.file held (cell_of stock p held)
     cell_free (use_form k ps cs) held h =
         let (homes, first) = homes_free ps held (omega (arith, h)) in
         form_free stock.file held (slice_get stock.rules k) (operand_homes stock ps held) (first_home stock ps held) (free_cell held stock.file) homes first
         (λ one. least_free held stock.file (omega (arith, h, one)))
 
-    pub homes_free : (ps : Operands) (held : ℕ) → operands_need stock.rules ps ≤ free_count held stock.file
+    pub homes_free : (ps : CoverOperandsModel) (held : ℕ) → operands_need stock.rules ps ≤ free_count held stock.file
         → AreFree stock.file held (operand_homes stock ps held) × IsFree stock.file held (first_home stock ps held)
     homes_free no_operands held h = (tt, tt)
     homes_free (operand_then i p ps) held h =

@@ -7,30 +7,30 @@ use Rattle.std.specs.Int.{bit_at}
 use Rattle.std.proofs.lemmas.Bool.{true≢false}
 use Rattle.rec_bits.specs.declared.operator.Op2.TheVariants.{Add, Sub}
 use Rattle.net_model.specs.Meaning.{mean}
-use Rattle.net_model.specs.Terms.{Term, reg, const, read, bin, zext, write, term_width}
-use Rattle.form_model.specs.Rules.{Rule, Kind, into_reg, cell}
-use Rattle.form_model.specs.Effects.{register, term_reads}
+use Rattle.net_model.specs.Exprs.{ExprModel, reg, const, read, bin, zext, write, expr_width}
+use Rattle.form_model.specs.Forms.{FormModel, GoalModel, into_reg, cell}
+use Rattle.form_model.specs.Effects.{register, expr_reads}
 use Rattle.form_model.specs.Bits.{uses}
 use Rattle.emit_seq.specs.Formed.{BitsApart, IsOnce, CellsShown, MeansAlike, IsIntoReg, IsFormed, AreFormed}
 use Rattle.emit_seq.specs.Leaves.{LeaveValue}
 use Rattle.emit_seq.specs.Spares.{clobbers_of, AreShared, ReadsCounter, AreSpare}
-use Rattle.emit_seq.specs.Worked.{field, acc_rules, acc_stock, acc_patterns, less_tree, less_plan, less_orderly}
+use Rattle.emit_seq.specs.Worked.{field, acc_forms, acc_stock, acc_patterns, less_tree, less_cover, less_orderly}
 use Rattle.form_model.proofs.Zips.{Each}
 use Rattle.emit_seq.proofs.Leaving.{leave_value}
 use Rattle.emit_seq.proofs.Spared.{steps_spare}
 
-each_at : (P : Rule → Type 0) (rules : List Rule) (k : ℕ) (rule : Rule) → slice_get rules k ≡ Some rule → Each P rules → P rule
+each_at : (P : FormModel → Type 0) (rules : List FormModel) (k : ℕ) (rule : FormModel) → slice_get rules k ≡ Some rule → Each P rules → P rule
 each_at P [] k rule e h = absurd (cc)
 each_at P (x ∷ rules) zero rule e h = subst P (cc) h.0
 each_at P (x ∷ rules) (suc k) rule e h = each_at P rules k rule e h.1
 
-itself : (t : Term) → MeansAlike t t
+itself : (t : ExprModel) → MeansAlike t t
 itself t = record { means = λ s i. refl; reads = λ i r. refl }
 
-no_bit : (a b : Term) → ((k : ℕ) → uses a k ≡ false) → BitsApart a b
+no_bit : (a b : ExprModel) → ((k : ℕ) → uses a k ≡ false) → BitsApart a b
 no_bit a b f k h = absurd (true≢false (sym h ∙ f k))
 
-into : (rule : Rule) (r : ℕ) (value : Term) → slice_get acc_patterns rule.pattern ≡ Some (record { storage = r; move = write value }) → MeansAlike rule.value value → IsOnce rule.value → CellsShown 0 rule.value
+into : (rule : FormModel) (r : ℕ) (value : ExprModel) → slice_get acc_patterns rule.pattern ≡ Some (record { storage = r; move = write value }) → MeansAlike rule.value value → IsOnce rule.value → CellsShown 0 rule.value
     → bit_at rule.clobbers r ≡ 1 → r < 3 → IsIntoReg acc_patterns 3 0 rule r
 into rule r value e a o q c b = record { value = value; is = e; alike = a; once = o; shown = q; clobbered = c; below = b }
 
@@ -40,24 +40,24 @@ or_comm true false = refl
 or_comm false true = refl
 or_comm false false = refl
 
-sum_alike : (a b : Term) → term_width a ≡ term_width b → MeansAlike (bin Add a b) (bin Add b a)
+sum_alike : (a b : ExprModel) → expr_width a ≡ expr_width b → MeansAlike (bin Add a b) (bin Add b a)
 sum_alike a b e = record {
-  means = λ s i. sums (mean a s i) (mean b s i) (term_width a) (term_width b) e;
-  reads = λ i r. or_comm (term_reads i a (register r)) (term_reads i b (register r));
+  means = λ s i. sums (mean a s i) (mean b s i) (expr_width a) (expr_width b) e;
+  reads = λ i r. or_comm (expr_reads i a (register r)) (expr_reads i b (register r));
 }
   where
     sums : (x y m n : ℕ) → m ≡ n → (x + y) % 2 ^ m ≡ (y + x) % 2 ^ n
     sums x y m n e = let c : x + y ≡ y + x = omega arith in rw (e, c) refl
 
-acc_each : Each (λ (rule : Rule). IsFormed None acc_patterns 3 0 rule rule.goal) acc_rules
+acc_each : Each (λ (rule : FormModel). IsFormed None acc_patterns 3 0 rule rule.goal) acc_forms
 acc_each = (
   into _ 0 next refl (itself next) (tt, tt, no_bit pc one (λ k. refl), no_bit one pc (λ k. refl)) (tt, tt) refl (omega arith),
   (
     into _ 0 next refl (sum_alike one pc refl) (tt, tt, no_bit one pc (λ k. refl), no_bit pc one (λ k. refl)) (tt, tt) refl (omega arith),
     (
-      ((tt, tt, no_bit acc zero_term (λ k. refl), no_bit zero_term acc (λ k. refl)), (tt, tt)),
+      ((tt, tt, no_bit acc zero_expr (λ k. refl), no_bit zero_expr acc (λ k. refl)), (tt, tt)),
       (
-        ((tt, tt, no_bit zero_term acc (λ k. refl), no_bit acc zero_term (λ k. refl)), (tt, tt)),
+        ((tt, tt, no_bit zero_expr acc (λ k. refl), no_bit acc zero_expr (λ k. refl)), (tt, tt)),
         (
           tt,
           (
@@ -101,40 +101,40 @@ acc_each = (
   ),
 )
   where
-    pc : Term
+    pc : ExprModel
     pc = reg 0 8
 
-    one : Term
+    one : ExprModel
     one = const 8 1
 
-    next : Term
+    next : ExprModel
     next = bin Add pc one
 
-    acc : Term
+    acc : ExprModel
     acc = reg 1 16
 
-    zero_term : Term
-    zero_term = const 16 0
+    zero_expr : ExprModel
+    zero_expr = const 16 0
 
-    mem : Term
+    mem : ExprModel
     mem = read InMemory field 16
 
-acc_formed : AreFormed None acc_patterns 3 0 acc_rules
-acc_formed k rule e = each_at (λ (r : Rule). IsFormed None acc_patterns 3 0 r r.goal) acc_rules k rule e acc_each
+acc_formed : AreFormed None acc_patterns 3 0 acc_forms
+acc_formed k rule e = each_at (λ (r : FormModel). IsFormed None acc_patterns 3 0 r r.goal) acc_forms k rule e acc_each
 
-acc_own : Each (λ (rule : Rule). clobbers_of acc_rules rule.pattern ≡ rule.clobbers) acc_rules
+acc_own : Each (λ (rule : FormModel). clobbers_of acc_forms rule.pattern ≡ rule.clobbers) acc_forms
 acc_own = (refl, (refl, (refl, (refl, (refl, (refl, (refl, (refl, (refl, (refl, (refl, tt)))))))))))
 
-acc_shared : AreShared acc_rules
+acc_shared : AreShared acc_forms
 acc_shared j k a b ea eb e =
-    sym (each_at (λ (r : Rule). clobbers_of acc_rules r.pattern ≡ r.clobbers) acc_rules j a ea acc_own) ∙ ap (λ p. clobbers_of acc_rules p) e
-    ∙ each_at (λ (r : Rule). clobbers_of acc_rules r.pattern ≡ r.clobbers) acc_rules k b eb acc_own
+    sym (each_at (λ (r : FormModel). clobbers_of acc_forms r.pattern ≡ r.clobbers) acc_forms j a ea acc_own) ∙ ap (λ p. clobbers_of acc_forms p) e
+    ∙ each_at (λ (r : FormModel). clobbers_of acc_forms r.pattern ≡ r.clobbers) acc_forms k b eb acc_own
 
 -- what goes into the program counter reads it
-abbrev Counts : Rule → Type 0
-Counts rule = rule.goal ≡ into_reg 0 → (i : ℕ) × (term_reads i rule.value (register 0) ≡ true)
+abbrev Counts : FormModel → Type 0
+Counts rule = rule.goal ≡ into_reg 0 → (i : ℕ) × (expr_reads i rule.value (register 0) ≡ true)
 
-acc_counts : Each Counts acc_rules
+acc_counts : Each Counts acc_forms
 acc_counts = (
   (λ e. (0, refl)),
   (
@@ -158,22 +158,22 @@ acc_counts = (
   ),
 )
   where
-    number : Kind → ℕ
+    number : GoalModel → ℕ
     number (into_reg r) = r
     number goal = 0
 
     one_zero : into_reg 1 ≡ into_reg 0 → ⊥
     one_zero e = let q : 1 ≡ 0 = ap number e in omega (arith, q)
 
-acc_counter : ReadsCounter acc_rules 0
-acc_counter k rule e = each_at Counts acc_rules k rule e acc_counts
+acc_counter : ReadsCounter acc_forms 0
+acc_counter k rule e = each_at Counts acc_forms k rule e acc_counts
 
 -- from every state of three registers and at least five cells x = (a + b) - (a - b) is done, and no
 -- variable but x changes
-pub acc_leaves : (s : State) → length s.regs ≡ 3 → 5 ≤ length s.cells → LeaveValue (acc_stock 2) None acc_patterns (cell 4) less_tree less_plan s
+pub acc_leaves : (s : State) → length s.regs ≡ 3 → 5 ≤ length s.cells → LeaveValue (acc_stock 2) None acc_patterns (cell 4) less_tree less_cover s
 acc_leaves s r c =
-    leave_value (acc_stock 2) None acc_patterns 3 acc_formed (cell 4) less_tree less_plan s tt less_orderly (omega arith) (omega arith)
+    leave_value (acc_stock 2) None acc_patterns 3 acc_formed (cell 4) less_tree less_cover s tt less_orderly (omega arith) (omega arith)
     (record { regs = r; reads = (((omega arith, tt), (omega arith, tt)), ((omega arith, tt), (omega arith, tt))); aim_reads = tt; aim = omega (arith, c); temps = omega (arith, c); file = omega arith })
 
-pub acc_spares : AreSpare (acc_stock 2) None acc_patterns 0 (cell 4) less_tree less_plan
-acc_spares = steps_spare (acc_stock 2) None acc_patterns 3 0 acc_formed acc_shared acc_counter (cell 4) less_tree less_plan tt less_orderly
+pub acc_spares : AreSpare (acc_stock 2) None acc_patterns 0 (cell 4) less_tree less_cover
+acc_spares = steps_spare (acc_stock 2) None acc_patterns 3 0 acc_formed acc_shared acc_counter (cell 4) less_tree less_cover tt less_orderly

@@ -2,38 +2,38 @@
 use Rattle.std.proofs.Common.{◌≡◌, ℕ, ◌+◌, ◌<◌, ◌≤◌, true, List, Option, length, slice_index, slice_set, refl, sym, ap, ◌∙◌, subst, arith}
 use Rattle.std.proofs.lemmas.List.{get_or-set_same, get_or-set_other, length-set}
 use Rattle.net_model.specs.declared.states.State.{State}
-use Rattle.net_model.specs.Terms.{Term}
+use Rattle.net_model.specs.Exprs.{ExprModel}
 use Rattle.net_model.specs.Meaning.{mean}
 use Rattle.net_model.specs.Patterns.{Pattern}
 use Rattle.form_model.specs.declared.forms.Step.{Step}
-use Rattle.form_model.specs.Rules.{Destination, into, filed, cell, stored, temporary, tested}
-use Rattle.form_model.specs.Plans.{Plan, use_form}
-use Rattle.form_model.specs.Covers.{Stock, need, IsOrderly}
+use Rattle.form_model.specs.Forms.{DestinationModel, into, filed, cell, stored, temporary, tested}
+use Rattle.form_model.specs.CoverModels.{CoverModel, use_form}
+use Rattle.form_model.specs.Covers.{StockModel, need, IsOrderly}
 use Rattle.form_model.specs.Effects.{operation_of, steps_effect}
-use Rattle.form_model.specs.Steps.{cut_count, cell_of, operand_homes, rule_at, found_at, plan_cut_cells, own_steps, cut_steps, cover_steps, branch_setting}
+use Rattle.form_model.specs.Steps.{cut_count, cell_of, operand_homes, form_at, match_at, cover_cut_cells, own_steps, cut_steps, cover_steps, branch_setting}
 use Rattle.emit_seq.specs.Formed.{AreFormed}
 use Rattle.emit_seq.specs.Leaves.{placed, IsCoverStart, IsOfJob, LeaveValue}
 use Rattle.emit_seq.proofs.Walks.{effect-steps, IsLocal, IsKept, kept_local}
-use Rattle.emit_seq.proofs.Opened.{IsOpened, opened_plan}
+use Rattle.emit_seq.proofs.Opened.{IsOpened, opened_cover}
 use Rattle.emit_seq.proofs.Forms.{OwnBelow, test_means}
 use Rattle.emit_seq.proofs.FreeCells.{all_free}
-use Rattle.emit_seq.proofs.Works.{PlanHolds, IsDone, IsGood, good_plan}
+use Rattle.emit_seq.proofs.Works.{CoverHolds, IsDone, IsGood, good_cover}
 
-module _ (stock : Stock) (file_storage : Option ℕ) (patterns : List Pattern) (count : ℕ) (formed : AreFormed file_storage patterns count stock.file stock.rules) where
+module _ (stock : StockModel) (file_storage : Option ℕ) (patterns : List Pattern) (count : ℕ) (formed : AreFormed file_storage patterns count stock.file stock.rules) where
   -- after the steps for the cuts and those of the operands, the form's own step is left
-  record IsBrought (destination : Destination) (tree : Term) (plan : Plan) (s : State) : Type 0 where
+  record IsBrought (destination : DestinationModel) (tree : ExprModel) (plan : CoverModel) (s : State) : Type 0 where
     mid : State
     regs : length mid.regs ≡ length s.regs
     cells : length mid.cells ≡ length s.cells
     file : length mid.file ≡ length s.file
     same : (c : ℕ) → stock.temps ≤ c → slice_index mid.cells c ≡ slice_index s.cells c
-    holds : PlanHolds stock file_storage patterns s plan 0 0 destination tree true mid
+    holds : CoverHolds stock file_storage patterns s plan 0 0 destination tree true mid
     ends : steps_effect (operation_of file_storage patterns) (cover_steps stock destination tree plan) s ≡ placed s mid destination (0 + cut_count plan) (cell_of stock plan 0) (mean tree s 0)
 
-  brought : (destination : Destination) (tree : Term) (plan : Plan) (s : State) → IsOrderly stock destination tree true plan → need stock.rules plan ≤ stock.file → cut_count plan ≤ stock.temps → IsCoverStart stock count destination tree s
+  brought : (destination : DestinationModel) (tree : ExprModel) (plan : CoverModel) (s : State) → IsOrderly stock destination tree true plan → need stock.rules plan ≤ stock.file → cut_count plan ≤ stock.temps → IsCoverStart stock count destination tree s
       → OwnBelow destination (0 + cut_count plan) stock.temps → IsBrought destination tree plan s
   brought destination tree plan s c room f h o =
-      let g : IsGood stock file_storage patterns s plan = good_plan stock file_storage patterns s count formed (sym h.regs) h.temps h.file plan in
+      let g : IsGood stock file_storage patterns s plan = good_cover stock file_storage patterns s count formed (sym h.regs) h.temps h.file plan in
       let inside : List Step = cut_steps stock plan 0 destination tree true in
       let own : List Step = own_steps stock plan 0 0 destination tree true in
       let k : IsKept stock.temps s s = record { regs = refl; cells = refl; file = refl; same = λ e l. refl } in
@@ -72,7 +72,7 @@ module _ (stock : Stock) (file_storage : Option ℕ) (patterns : List Pattern) (
 
   -- the steps of an orderly cover of at most as many cuts as there are temporary cells leave the
   -- value of its tree
-  pub leave_value : (destination : Destination) (tree : Term) (plan : Plan) (s : State) → IsOfJob destination → IsOrderly stock destination tree true plan → need stock.rules plan ≤ stock.file → cut_count plan ≤ stock.temps
+  pub leave_value : (destination : DestinationModel) (tree : ExprModel) (plan : CoverModel) (s : State) → IsOfJob destination → IsOrderly stock destination tree true plan → need stock.rules plan ≤ stock.file → cut_count plan ≤ stock.temps
       → IsCoverStart stock count destination tree s → LeaveValue stock file_storage patterns destination tree plan s
   leave_value (cell a) tree plan s j c room f h =
       let b : IsBrought (cell a) tree plan s = brought (cell a) tree plan s c room f h tt in
@@ -85,12 +85,12 @@ module _ (stock : Stock) (file_storage : Option ℕ) (patterns : List Pattern) (
       record { value = p.value; others = p.others; regs = p.regs; cells = p.cells; file = p.file }
   leave_value tested tree (use_form k ps cs) s j c room f h =
       let b : IsBrought tested tree (use_form k ps cs) s = brought tested tree (use_form k ps cs) s c room f h tt in
-      let w : IsOpened stock k ps cs tested tree true = opened_plan stock k ps cs tested tree true c in
-      let e : mean (rule_at stock k).value b.mid (branch_setting stock tree (use_form k ps cs)) ≡ mean tree s 0 =
-      test_means stock.temps stock.file s b.mid b.same file_storage patterns count (rule_at stock k) (rule_at stock k).goal tree true (found_at stock k tested tree true)
-      (plan_cut_cells (found_at stock k tested tree true).sites ps cs 0) (operand_homes stock ps 0) (0 + cut_count (use_form k ps cs)) (cell_of stock (use_form k ps cs) 0) (formed k (rule_at stock k) w.listed) w.takes h.reads b.holds in
+      let w : IsOpened stock k ps cs tested tree true = opened_cover stock k ps cs tested tree true c in
+      let e : mean (form_at stock k).value b.mid (branch_setting stock tree (use_form k ps cs)) ≡ mean tree s 0 =
+      test_means stock.temps stock.file s b.mid b.same file_storage patterns count (form_at stock k) (form_at stock k).goal tree true (match_at stock k tested tree true)
+      (cover_cut_cells (match_at stock k tested tree true).sites ps cs 0) (operand_homes stock ps 0) (0 + cut_count (use_form k ps cs)) (cell_of stock (use_form k ps cs) 0) (formed k (form_at stock k) w.listed) w.takes h.reads b.holds in
       record {
-        value = ap (λ (z : State). mean (rule_at stock k).value z (branch_setting stock tree (use_form k ps cs))) b.ends ∙ e;
+        value = ap (λ (z : State). mean (form_at stock k).value z (branch_setting stock tree (use_form k ps cs))) b.ends ∙ e;
         others = λ q l n. ap (λ (z : State). slice_index z.cells q) b.ends ∙ b.same q l;
         regs = ap (λ (z : State). length z.regs) b.ends ∙ b.regs;
         cells = ap (λ (z : State). length z.cells) b.ends ∙ b.cells;

@@ -3,7 +3,7 @@ use Rattle.std.proofs.Common.{◌≡◌, ℕ, zero, suc, ◌||◌, ◌&&◌, ◌
 use Rattle.std.specs.Prelude.{insert}
 use Rattle.std.proofs.lemmas.Bool.{true≢false, cases_Bool}
 use Rattle.form_model.specs.declared.forms.Step.{Step}
-use Rattle.form_model.specs.Matches.{Site, operand, cut}
+use Rattle.form_model.specs.Matches.{LeafModel, operand, cut}
 use Rattle.form_model.specs.Effects.{Operation, register, reads, writes}
 use Rattle.form_model.specs.Live.{Regs, group_reads, group_writes, live_before, singles, AllSpare}
 use Rattle.form_model.specs.Steps.{woven}
@@ -102,7 +102,7 @@ module _ {A : Type 0} (m : A → Operation) (c : A → Regs) (pc : ℕ) where
       later r e (inr w) = or_left _ (writes (m x) r) (h r (kept_live (reads (m x) (register r)) (live_before m (singles xs) after r) (writes (m x) r) e w))
 
 module _ (m : Step → Operation) (c : Step → Regs) (pc : ℕ) where
-  pub woven_alone : (sites : List Site) (xs ys : List (List Step)) → Each (IsAlone m c pc) xs → Each (IsAlone m c pc) ys → IsAlone m c pc (woven sites xs ys)
+  pub woven_alone : (sites : List LeafModel) (xs ys : List (List Step)) → Each (IsAlone m c pc) xs → Each (IsAlone m c pc) ys → IsAlone m c pc (woven sites xs ys)
   woven_alone [] xs ys h k = alone_none m c pc
   woven_alone (operand id tree whole ∷ sites) [] ys h k = woven_alone sites [] ys h k
   woven_alone (operand id tree whole ∷ sites) (x ∷ xs) ys h k = alone_append m c pc x (woven sites xs ys) h.0 (woven_alone sites xs ys h.1 k)

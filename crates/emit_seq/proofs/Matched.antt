@@ -11,13 +11,13 @@ use Rattle.rec_bits.specs.declared.operator.Op2.{Op2}
 use Rattle.rec_bits.specs.declared.operator.Op2.TheVariants.{Add, Sub, Mul, And, Or, Xor, Shl, Shr, Sar, Eq, Ltu, Lts}
 use Rattle.net_model.specs.declared.hardware.Space.TheVariants.{Memory as InMemory, File as InFile}
 use Rattle.net_model.specs.declared.states.State.{State}
-use Rattle.net_model.specs.Terms.{Term, word, reg, const, read, un, bin, slice, cat, zext, sext, select, term_width}
+use Rattle.net_model.specs.Exprs.{ExprModel, word, reg, const, read, un, bin, slice, cat, zext, sext, select, expr_width}
 use Rattle.net_model.specs.Meaning.{mean}
 use Rattle.form_model.specs.Trees.{is_number, is_cell}
 use Rattle.form_model.specs.Shapes.{is_shape, shape_setting, shows, shows_below}
-use Rattle.form_model.specs.Matches.{Home, in_register, in_file, Site, operand, cut, Found, settled, open_if, both, shape_match, literal_match, cell_match, read_match, un_match, bin_match, slice_match, zext_match, sext_match, matched, same_op1, same_op2}
+use Rattle.form_model.specs.Matches.{HomeModel, in_register, in_file, LeafModel, operand, cut, MatchModel, settled, open_if, both, shape_match, literal_match, cell_match, read_match, un_match, bin_match, slice_match, zext_match, sext_match, matched, same_op1, same_op2}
 use Rattle.form_model.specs.Covers.{operands_of}
-use Rattle.form_model.specs.Steps.{CutCells, bits_or_none, cells_setting, home_setting, homes_setting, open_setting}
+use Rattle.form_model.specs.Steps.{CutCellsModel, bits_or_none, cells_setting, home_setting, homes_setting, open_setting}
 use Rattle.form_model.specs.Bits.{uses}
 use Rattle.emit_seq.specs.Formed.{BitsApart, IsOnce, CellsShown}
 use Rattle.emit_seq.specs.Leaves.{ReadsFrom}
@@ -48,44 +48,44 @@ same_two a b h = absurd (true≢false (sym h))
 
 -- ---- parts of a match
 
-pub record Joined (a b : Option Found) (f : Found) : Type 0 where
-  pub first : Found
-  pub second : Found
+pub record Joined (a b : Option MatchModel) (f : MatchModel) : Type 0 where
+  pub first : MatchModel
+  pub second : MatchModel
   pub is_first : a ≡ Some first
   pub is_second : b ≡ Some second
   pub is : record { setting = bit_or first.setting second.setting; sites = first.sites ++ second.sites } ≡ f
 
-pub joined : (a b : Option Found) (f : Found) → both a b ≡ Some f → Joined a b f
+pub joined : (a b : Option MatchModel) (f : MatchModel) → both a b ≡ Some f → Joined a b f
 joined None b f h = absurd (cc)
 joined (Some x) None f h = absurd (cc)
 joined (Some x) (Some y) f h = record { first = x; second = y; is_first = refl; is_second = refl; is = cc }
 
 -- the number that a shape takes
-pub record Literal (shape t : Term) (f : Found) : Type 0 where
+pub record Literal (shape t : ExprModel) (f : MatchModel) : Type 0 where
   pub width : ℕ
   pub value : ℕ
   pub bits : ℕ
   pub is_tree : t ≡ const width value
-  pub wide : width ≡ term_width shape
+  pub wide : width ≡ expr_width shape
   pub shown : shape_setting shape value ≡ Some bits
   pub is : record { setting = bits; sites = [] } ≡ f
 
-pub settled_some : (o : Option ℕ) (f : Found) → settled o ≡ Some f → (b : ℕ) × (o ≡ Some b) × (record { setting = b; sites = [] } ≡ f)
+pub settled_some : (o : Option ℕ) (f : MatchModel) → settled o ≡ Some f → (b : ℕ) × (o ≡ Some b) × (record { setting = b; sites = [] } ≡ f)
 settled_some None f h = absurd (cc)
 settled_some (Some b) f h = (b, refl, cc)
 
-pub literal : (shape t : Term) (f : Found) → shape_match shape t ≡ Some f → Literal shape t f
+pub literal : (shape t : ExprModel) (f : MatchModel) → shape_match shape t ≡ Some f → Literal shape t f
 literal shape (const w v) f h =
-    let p : ((w == term_width shape) ≡ true) × (settled (shape_setting shape v) ≡ Some f) = picked _ _ _ h in
+    let p : ((w == expr_width shape) ≡ true) × (settled (shape_setting shape v) ≡ Some f) = picked _ _ _ h in
     let (b, e, k) = settled_some (shape_setting shape v) f p.1 in
-    record { width = w; value = v; bits = b; is_tree = refl; wide = eqb-true w (term_width shape) p.0; shown = e; is = k }
+    record { width = w; value = v; bits = b; is_tree = refl; wide = eqb-true w (expr_width shape) p.0; shown = e; is = k }
 literal shape t f h = absurd (cc)
 
-pub opened : (b : Bool) (site : Site) (f : Found) → open_if b site ≡ Some f → (b ≡ true) × (record { setting = 0; sites = site ∷ [] } ≡ f)
+pub opened : (b : Bool) (site : LeafModel) (f : MatchModel) → open_if b site ≡ Some f → (b ≡ true) × (record { setting = 0; sites = site ∷ [] } ≡ f)
 opened true site f h = (refl, cc)
 opened false site f h = absurd (cc)
 
-pub either : (b : Bool) (x y : Option Found) (f : Found) → (if b then x else y) ≡ Some f → (x ≡ Some f) ⊎ (y ≡ Some f)
+pub either : (b : Bool) (x y : Option MatchModel) (f : MatchModel) → (if b then x else y) ≡ Some f → (x ≡ Some f) ⊎ (y ≡ Some f)
 either true x y f h = inl h
 either false x y f h = inr h
 
@@ -95,7 +95,7 @@ pub some_bits : (o : Option ℕ) → is_some o ≡ true → o ≡ Some (bits_or_
 some_bits None h = absurd (true≢false (sym h))
 some_bits (Some b) h = refl
 
-pub shown_below : (t : Term) (n v : ℕ) → shows_below t n ≡ true → v < n → shows t v ≡ true
+pub shown_below : (t : ExprModel) (n v : ℕ) → shows_below t n ≡ true → v < n → shows t v ≡ true
 shown_below t zero v h l = absurd (omega arith)
 shown_below t (suc n) v h l =
     let p : (shows t n ≡ true) × (shows_below t n ≡ true) = and_parts _ _ h in
@@ -105,11 +105,11 @@ shown_below t (suc n) v h l =
     last v n l = grind arith
 
 -- the bits of the cells that sites leave open
-abbrev pub open_bits : List Site → List CutCells → List (Option ℕ) → ℕ
+abbrev pub open_bits : List LeafModel → List CutCellsModel → List (Option ℕ) → ℕ
 open_bits sites cuts homes = open_setting (operands_of sites) cuts homes
 
 -- the bits of a match and of the cells that it leaves open
-abbrev pub bits_in : Found → List CutCells → List (Option ℕ) → ℕ
+abbrev pub bits_in : MatchModel → List CutCellsModel → List (Option ℕ) → ℕ
 bits_in f cuts homes = bit_or f.setting (open_bits f.sites cuts homes)
 
 -- no bits where nothing is open
@@ -118,13 +118,13 @@ none_open b k = or_left b (bit_or 0 0) k (omega (arith, bit_at_or 0 0 k, bit_at-
 
 module _ (temps size : ℕ) (before now : State) where
   -- an operand is in its home, with the value from before
-  abbrev pub AtHome : Home → Option ℕ → Term → Type 0
+  abbrev pub AtHome : HomeModel → Option ℕ → ExprModel → Type 0
   AtHome (in_register id) h tree = slice_index now.regs id ≡ mean tree before 0
   AtHome (in_file shape) None tree = ⊥
   AtHome (in_file shape) (Some c) tree = (c < size) × (slice_index now.file c ≡ mean tree before 0)
 
   -- operands are in their homes and cuts in their cells
-  abbrev pub Holds : List Site → List CutCells → List (Option ℕ) → Type 0
+  abbrev pub Holds : List LeafModel → List CutCellsModel → List (Option ℕ) → Type 0
   Holds [] cuts homes = (cuts ≡ []) × (homes ≡ [])
   Holds (operand home tree whole ∷ sites) cuts [] = ⊥
   Holds (operand home tree whole ∷ sites) cuts (h ∷ homes) = AtHome home h tree × Holds sites cuts homes
@@ -132,9 +132,9 @@ module _ (temps size : ℕ) (before now : State) where
   Holds (cut shape tree ∷ sites) (cells ∷ cuts) homes =
       (cells.shape ≡ shape) × (cells.cell < temps) × (slice_index now.cells cells.cell ≡ mean tree before 0) × Holds sites cuts homes
 
-  pub record Split (xs ys : List Site) (cuts : List CutCells) (homes : List (Option ℕ)) : Type 0 where
-    pub front : List CutCells
-    pub back : List CutCells
+  pub record Split (xs ys : List LeafModel) (cuts : List CutCellsModel) (homes : List (Option ℕ)) : Type 0 where
+    pub front : List CutCellsModel
+    pub back : List CutCellsModel
     pub fronts : List (Option ℕ)
     pub backs : List (Option ℕ)
     pub first : Holds xs front fronts
@@ -142,7 +142,7 @@ module _ (temps size : ℕ) (before now : State) where
     pub joins : homes ≡ fronts ++ backs
     pub bits_of : (k : ℕ) → bit_at (open_bits (xs ++ ys) cuts homes) k ≡ max (bit_at (open_bits xs front fronts) k) (bit_at (open_bits ys back backs) k)
 
-  pub split : (xs ys : List Site) (cuts : List CutCells) (homes : List (Option ℕ)) → Holds (xs ++ ys) cuts homes → Split xs ys cuts homes
+  pub split : (xs ys : List LeafModel) (cuts : List CutCellsModel) (homes : List (Option ℕ)) → Holds (xs ++ ys) cuts homes → Split xs ys cuts homes
   split [] ys cuts homes h = record {
     front = [];
     back = cuts;
@@ -205,22 +205,22 @@ module _ (temps size : ℕ) (before now : State) where
       }
 
   -- the expression means what the tree meant before, under each setting that has these bits
-  pub record IsMeant (e t : Term) (f : Found) (cuts : List CutCells) (homes : List (Option ℕ)) : Type 0 where
-    pub width : term_width e ≡ term_width t
+  pub record IsMeant (e t : ExprModel) (f : MatchModel) (cuts : List CutCellsModel) (homes : List (Option ℕ)) : Type 0 where
+    pub width : expr_width e ≡ expr_width t
     pub within : (k : ℕ) → uses e k ≡ false → bit_at (bits_in f cuts homes) k ≡ 0
     pub means : (i : ℕ) → ((k : ℕ) → uses e k ≡ true → bit_at i k ≡ bit_at (bits_in f cuts homes) k) → mean e now i ≡ mean t before 0
 
 -- a shape takes a number
-shape_meant : (temps size : ℕ) (before now : State) (e t : Term) (f : Found) (cuts : List CutCells) (homes : List (Option ℕ)) → shape_match e t ≡ Some f → Holds temps size before now f.sites cuts homes → IsMeant temps size before now e t f cuts homes
+shape_meant : (temps size : ℕ) (before now : State) (e t : ExprModel) (f : MatchModel) (cuts : List CutCellsModel) (homes : List (Option ℕ)) → shape_match e t ≡ Some f → Holds temps size before now f.sites cuts homes → IsMeant temps size before now e t f cuts homes
 shape_meant temps size before now e t f cuts homes h k =
     let l : Literal e t f = literal e t f h in
-    let none : (cuts ≡ []) × (homes ≡ []) = subst (λ (z : Found). Holds temps size before now z.sites cuts homes) (sym l.is) k in
+    let none : (cuts ≡ []) × (homes ≡ []) = subst (λ (z : MatchModel). Holds temps size before now z.sites cuts homes) (sym l.is) k in
     let shown : IsSetting e l.value l.bits = shape_sets e l.value l.bits l.shown in
     let set : (j : ℕ) → bit_at (bits_in f cuts homes) j ≡ bit_at l.bits j =
-    λ j. ap (λ (z : Found). bit_at (bits_in z cuts homes) j) (sym l.is) ∙ ap (λ z. bit_at (bit_or l.bits (open_bits [] z homes)) j) none.0
+    λ j. ap (λ (z : MatchModel). bit_at (bits_in z cuts homes) j) (sym l.is) ∙ ap (λ z. bit_at (bit_or l.bits (open_bits [] z homes)) j) none.0
     ∙ ap (λ z. bit_at (bit_or l.bits (open_bits [] [] z)) j) none.1 ∙ none_open l.bits j in
     record {
-      width = sym l.wide ∙ ap term_width (sym l.is_tree);
+      width = sym l.wide ∙ ap expr_width (sym l.is_tree);
       within = λ j u. set j ∙ shown.within j u;
       means = λ i u. shown.means now i (λ j w. u j w ∙ set j) ∙ ap (λ z. mean z before 0) (sym l.is_tree);
     }
@@ -237,11 +237,11 @@ or_two true b e = refl
 or_two false b e = e
 
 -- the bits of two matches that have no bit in common
-pub pair_bits : (x y : Found) (f : Found) (cuts front back : List CutCells) (homes fronts backs : List (Option ℕ)) → record { setting = bit_or x.setting y.setting; sites = x.sites ++ y.sites } ≡ f
+pub pair_bits : (x y : MatchModel) (f : MatchModel) (cuts front back : List CutCellsModel) (homes fronts backs : List (Option ℕ)) → record { setting = bit_or x.setting y.setting; sites = x.sites ++ y.sites } ≡ f
     → ((k : ℕ) → bit_at (open_bits (x.sites ++ y.sites) cuts homes) k ≡ max (bit_at (open_bits x.sites front fronts) k) (bit_at (open_bits y.sites back backs) k))
     → (k : ℕ) → bit_at (bits_in f cuts homes) k ≡ max (bit_at (bits_in x front fronts) k) (bit_at (bits_in y back backs) k)
 pair_bits x y f cuts front back homes fronts backs e g k =
-    ap (λ (z : Found). bit_at (bits_in z cuts homes) k) (sym e)
+    ap (λ (z : MatchModel). bit_at (bits_in z cuts homes) k) (sym e)
     ∙ omega (
       arith,
       bit_at_or (bit_or x.setting y.setting) (open_bits (x.sites ++ y.sites) cuts homes) k,
@@ -253,14 +253,14 @@ pair_bits x y f cuts front back homes fronts backs e g k =
 
 module _ (temps size : ℕ) (before now : State) where
   -- two expressions that have no bit in common, under the setting of both
-  pub record AreMeant (a b t u : Term) (f : Found) (cuts : List CutCells) (homes : List (Option ℕ)) : Type 0 where
-    pub first_width : term_width a ≡ term_width t
-    pub second_width : term_width b ≡ term_width u
+  pub record AreMeant (a b t u : ExprModel) (f : MatchModel) (cuts : List CutCellsModel) (homes : List (Option ℕ)) : Type 0 where
+    pub first_width : expr_width a ≡ expr_width t
+    pub second_width : expr_width b ≡ expr_width u
     pub within : (k : ℕ) → (uses a k || uses b k) ≡ false → bit_at (bits_in f cuts homes) k ≡ 0
     pub first : (i : ℕ) → ((k : ℕ) → (uses a k || uses b k) ≡ true → bit_at i k ≡ bit_at (bits_in f cuts homes) k) → mean a now i ≡ mean t before 0
     pub second : (i : ℕ) → ((k : ℕ) → (uses a k || uses b k) ≡ true → bit_at i k ≡ bit_at (bits_in f cuts homes) k) → mean b now i ≡ mean u before 0
 
-  pub two_meant : (a b t u : Term) (x y f : Found) (cuts front back : List CutCells) (homes fronts backs : List (Option ℕ)) → record { setting = bit_or x.setting y.setting; sites = x.sites ++ y.sites } ≡ f
+  pub two_meant : (a b t u : ExprModel) (x y f : MatchModel) (cuts front back : List CutCellsModel) (homes fronts backs : List (Option ℕ)) → record { setting = bit_or x.setting y.setting; sites = x.sites ++ y.sites } ≡ f
       → ((k : ℕ) → bit_at (open_bits (x.sites ++ y.sites) cuts homes) k ≡ max (bit_at (open_bits x.sites front fronts) k) (bit_at (open_bits y.sites back backs) k))
       → BitsApart a b → BitsApart b a → IsMeant temps size before now a t x front fronts → IsMeant temps size before now b u y back backs → AreMeant a b t u f cuts homes
   two_meant a b t u x y f cuts front back homes fronts backs e g p q m n = record {
@@ -275,7 +275,7 @@ module _ (temps size : ℕ) (before now : State) where
       set = pair_bits x y f cuts front back homes fronts backs e g
 
 -- the bits of one operand in the file are those that name its cell
-pub file_bits : (temps size : ℕ) (before now : State) (a t : Term) (whole : Bool) (cuts : List CutCells) (homes : List (Option ℕ)) (c : ℕ) → Holds temps size before now (operand (in_file a) t whole ∷ []) cuts homes
+pub file_bits : (temps size : ℕ) (before now : State) (a t : ExprModel) (whole : Bool) (cuts : List CutCellsModel) (homes : List (Option ℕ)) (c : ℕ) → Holds temps size before now (operand (in_file a) t whole ∷ []) cuts homes
     → slice_get homes 0 ≡ Some (Some c) → (j : ℕ) → bit_at (bit_or 0 (open_bits (operand (in_file a) t whole ∷ []) cuts homes)) j ≡ bit_at (bits_or_none (shape_setting a c)) j
 file_bits temps size before now a t whole cuts [] c held get j = absurd held
 file_bits temps size before now a t whole cuts (h ∷ hs) c held get j =
@@ -288,16 +288,16 @@ file_bits temps size before now a t whole cuts (h ∷ hs) c held get j =
 
 module _ (temps size : ℕ) (before now : State) (same : (c : ℕ) → temps ≤ c → slice_index now.cells c ≡ slice_index before.cells c) where
   -- what a match of this expression means
-  abbrev Sound : Term → Type 0
-  Sound a = (t : Term) (whole : Bool) (f : Found) (cuts : List CutCells) (homes : List (Option ℕ)) → matched temps a t whole ≡ Some f → ReadsFrom temps before t
+  abbrev Sound : ExprModel → Type 0
+  Sound a = (t : ExprModel) (whole : Bool) (f : MatchModel) (cuts : List CutCellsModel) (homes : List (Option ℕ)) → matched temps a t whole ≡ Some f → ReadsFrom temps before t
       → Holds temps size before now f.sites cuts homes → IsMeant temps size before now a t f cuts homes
 
   reg_meant : (id w : ℕ) → Sound (reg id w)
   reg_meant id w t whole f cuts homes h r k =
-      let p : ((w == term_width t) ≡ true) × (record { setting = 0; sites = operand (in_register id) t whole ∷ [] } ≡ f) = opened _ _ _ h in
-      let held : Holds temps size before now (operand (in_register id) t whole ∷ []) cuts homes = subst (λ (z : Found). Holds temps size before now z.sites cuts homes) (sym p.1) k in
-      let none : (j : ℕ) → bit_at (bits_in f cuts homes) j ≡ 0 = λ j. ap (λ (z : Found). bit_at (bits_in z cuts homes) j) (sym p.1) ∙ no_bits homes j held in
-      record { width = eqb-true w (term_width t) p.0; within = λ j u. none j; means = λ i u. value homes held }
+      let p : ((w == expr_width t) ≡ true) × (record { setting = 0; sites = operand (in_register id) t whole ∷ [] } ≡ f) = opened _ _ _ h in
+      let held : Holds temps size before now (operand (in_register id) t whole ∷ []) cuts homes = subst (λ (z : MatchModel). Holds temps size before now z.sites cuts homes) (sym p.1) k in
+      let none : (j : ℕ) → bit_at (bits_in f cuts homes) j ≡ 0 = λ j. ap (λ (z : MatchModel). bit_at (bits_in z cuts homes) j) (sym p.1) ∙ no_bits homes j held in
+      record { width = eqb-true w (expr_width t) p.0; within = λ j u. none j; means = λ i u. value homes held }
     where
       no_bits : (hs : List (Option ℕ)) (j : ℕ) → Holds temps size before now (operand (in_register id) t whole ∷ []) cuts hs → bit_at (bit_or 0 (open_bits (operand (in_register id) t whole ∷ []) cuts hs)) j ≡ 0
       no_bits [] j held = absurd held
@@ -311,16 +311,16 @@ module _ (temps size : ℕ) (before now : State) (same : (c : ℕ) → temps ≤
       value (c ∷ hs) held = held.0
 
   -- an operand in the file
-  file_meant : (a : Term) (w : ℕ) → shows_below a size ≡ true → Sound (read InFile a w)
+  file_meant : (a : ExprModel) (w : ℕ) → shows_below a size ≡ true → Sound (read InFile a w)
   file_meant a w all t whole f cuts homes h r k =
-      let p : ((w == term_width t) ≡ true) × (record { setting = 0; sites = operand (in_file a) t whole ∷ [] } ≡ f) = opened _ _ _ h in
-      let held : Holds temps size before now (operand (in_file a) t whole ∷ []) cuts homes = subst (λ (z : Found). Holds temps size before now z.sites cuts homes) (sym p.1) k in
+      let p : ((w == expr_width t) ≡ true) × (record { setting = 0; sites = operand (in_file a) t whole ∷ [] } ≡ f) = opened _ _ _ h in
+      let held : Holds temps size before now (operand (in_file a) t whole ∷ []) cuts homes = subst (λ (z : MatchModel). Holds temps size before now z.sites cuts homes) (sym p.1) k in
       let (c, lt, v, bits) = found_cell homes held in
       let shown : IsSetting a c (bits_or_none (shape_setting a c)) = shape_sets a c _ (some_bits (shape_setting a c) (shown_below a size c all lt)) in
       let set : (j : ℕ) → bit_at (bits_in f cuts homes) j ≡ bit_at (bits_or_none (shape_setting a c)) j =
-      λ j. ap (λ (z : Found). bit_at (bits_in z cuts homes) j) (sym p.1) ∙ bits j in
+      λ j. ap (λ (z : MatchModel). bit_at (bits_in z cuts homes) j) (sym p.1) ∙ bits j in
       record {
-        width = eqb-true w (term_width t) p.0;
+        width = eqb-true w (expr_width t) p.0;
         within = λ j u. set j ∙ shown.within j u;
         means = λ i u. ap (λ n. slice_index now.file n) (shown.means now i (λ j x. u j x ∙ set j)) ∙ v;
       }
@@ -332,7 +332,7 @@ module _ (temps size : ℕ) (before now : State) (same : (c : ℕ) → temps ≤
       found_cell (None ∷ hs) held = absurd held.0
       found_cell (Some c ∷ hs) held = (c, held.0.0, held.0.1, file_bits temps size before now a t whole cuts (Some c ∷ hs) c held refl)
 
-  un_meant : (a : Term) (op : Op1) → Sound a → (t : Term) (f : Found) (cuts : List CutCells) (homes : List (Option ℕ)) → un_match (matched temps a) op t ≡ Some f → ReadsFrom temps before t
+  un_meant : (a : ExprModel) (op : Op1) → Sound a → (t : ExprModel) (f : MatchModel) (cuts : List CutCellsModel) (homes : List (Option ℕ)) → un_match (matched temps a) op t ≡ Some f → ReadsFrom temps before t
       → Holds temps size before now f.sites cuts homes → IsMeant temps size before now (un op a) t f cuts homes
   un_meant a op ih (un o b) f cuts homes h r k =
       let p : (same_op1 o op ≡ true) × (matched temps a b false ≡ Some f) = picked _ _ _ h in
@@ -341,7 +341,7 @@ module _ (temps size : ℕ) (before now : State) (same : (c : ℕ) → temps ≤
       record { width = m.width; within = m.within; means = λ i u. cc (e, m.width, m.means i u) }
   un_meant a op ih t f cuts homes h r k = absurd (cc)
 
-  bin_meant : (a b : Term) (op : Op2) → Sound a → Sound b → BitsApart a b → BitsApart b a → (t : Term) (f : Found) (cuts : List CutCells) (homes : List (Option ℕ))
+  bin_meant : (a b : ExprModel) (op : Op2) → Sound a → Sound b → BitsApart a b → BitsApart b a → (t : ExprModel) (f : MatchModel) (cuts : List CutCellsModel) (homes : List (Option ℕ))
       → bin_match (matched temps a) (matched temps b) op t ≡ Some f → ReadsFrom temps before t
       → Holds temps size before now f.sites cuts homes → IsMeant temps size before now (bin op a b) t f cuts homes
   bin_meant a b op iha ihb ab ba (bin o c d) f cuts homes h r k =
@@ -349,7 +349,7 @@ module _ (temps size : ℕ) (before now : State) (same : (c : ℕ) → temps ≤
       let e : o ≡ op = same_two o op p.0 in
       let j : Joined (matched temps a c false) (matched temps b d false) f = joined _ _ _ p.1 in
       let s : Split temps size before now j.first.sites j.second.sites cuts homes =
-      split temps size before now j.first.sites j.second.sites cuts homes (subst (λ (z : Found). Holds temps size before now z.sites cuts homes) (sym j.is) k) in
+      split temps size before now j.first.sites j.second.sites cuts homes (subst (λ (z : MatchModel). Holds temps size before now z.sites cuts homes) (sym j.is) k) in
       let m : AreMeant temps size before now a b c d f cuts homes =
       two_meant temps size before now a b c d j.first j.second f cuts s.front s.back homes s.fronts s.backs j.is s.bits_of ab ba
       (iha c false j.first s.front s.fronts j.is_first r.0 s.first) (ihb d false j.second s.back s.backs j.is_second r.1 s.second) in
@@ -360,7 +360,7 @@ module _ (temps size : ℕ) (before now : State) (same : (c : ℕ) → temps ≤
       }
   bin_meant a b op iha ihb ab ba t f cuts homes h r k = absurd (cc)
 
-  read_meant : (a : Term) (w : ℕ) → Sound a → (t : Term) (f : Found) (cuts : List CutCells) (homes : List (Option ℕ)) → read_match (matched temps a) w t ≡ Some f → ReadsFrom temps before t
+  read_meant : (a : ExprModel) (w : ℕ) → Sound a → (t : ExprModel) (f : MatchModel) (cuts : List CutCellsModel) (homes : List (Option ℕ)) → read_match (matched temps a) w t ≡ Some f → ReadsFrom temps before t
       → Holds temps size before now f.sites cuts homes → IsMeant temps size before now (read InMemory a w) t f cuts homes
   read_meant a w ih (read InMemory b v) f cuts homes h r k =
       let p : ((v == w) ≡ true) × (matched temps a b (is_number b) ≡ Some f) = picked _ _ _ h in
@@ -373,7 +373,7 @@ module _ (temps size : ℕ) (before now : State) (same : (c : ℕ) → temps ≤
   read_meant a w ih t f cuts homes h r k = absurd (cc)
 
   -- a read at a number
-  at_number : (a : Term) (w : ℕ) (t : Term) (f : Found) (cuts : List CutCells) (homes : List (Option ℕ)) → w ≡ term_width t → literal_match a t ≡ Some f → ReadsFrom temps before t
+  at_number : (a : ExprModel) (w : ℕ) (t : ExprModel) (f : MatchModel) (cuts : List CutCellsModel) (homes : List (Option ℕ)) → w ≡ expr_width t → literal_match a t ≡ Some f → ReadsFrom temps before t
       → Holds temps size before now f.sites cuts homes → IsMeant temps size before now (read InMemory a w) t f cuts homes
   at_number a w (read InMemory b v) f cuts homes e h r k =
       let m : IsMeant temps size before now a b f cuts homes = shape_meant temps size before now a b f cuts homes h k in
@@ -385,22 +385,22 @@ module _ (temps size : ℕ) (before now : State) (same : (c : ℕ) → temps ≤
   at_number a w t f cuts homes e h r k = absurd (cc)
 
   -- a cut in its cell
-  at_cut : (a : Term) (w : ℕ) (t : Term) (b : Bool) (f : Found) (cuts : List CutCells) (homes : List (Option ℕ)) → w ≡ term_width t
+  at_cut : (a : ExprModel) (w : ℕ) (t : ExprModel) (b : Bool) (f : MatchModel) (cuts : List CutCellsModel) (homes : List (Option ℕ)) → w ≡ expr_width t
       → open_if (b && shows_below a temps) (cut a t) ≡ Some f
       → Holds temps size before now f.sites cuts homes → IsMeant temps size before now (read InMemory a w) t f cuts homes
   at_cut a w t b f [] homes e h k =
       let p : ((b && shows_below a temps) ≡ true) × (record { setting = 0; sites = cut a t ∷ [] } ≡ f) = opened _ _ _ h in
-      absurd (subst (λ (z : Found). Holds temps size before now z.sites [] homes) (sym p.1) k)
+      absurd (subst (λ (z : MatchModel). Holds temps size before now z.sites [] homes) (sym p.1) k)
   at_cut a w t b f (cells ∷ cuts) homes e h k =
       let p : ((b && shows_below a temps) ≡ true) × (record { setting = 0; sites = cut a t ∷ [] } ≡ f) = opened _ _ _ h in
       let q : (b ≡ true) × (shows_below a temps ≡ true) = and_parts _ _ p.0 in
-      let held : Holds temps size before now (cut a t ∷ []) (cells ∷ cuts) homes = subst (λ (z : Found). Holds temps size before now z.sites (cells ∷ cuts) homes) (sym p.1) k in
+      let held : Holds temps size before now (cut a t ∷ []) (cells ∷ cuts) homes = subst (λ (z : MatchModel). Holds temps size before now z.sites (cells ∷ cuts) homes) (sym p.1) k in
       let own : shape_setting a cells.cell ≡ Some (bits_or_none (shape_setting a cells.cell)) =
       some_bits (shape_setting a cells.cell) (shown_below a temps cells.cell q.1 held.1) in
       let shown : IsSetting a cells.cell (bits_or_none (shape_setting a cells.cell)) = shape_sets a cells.cell _ own in
       let there : ℕ = bits_or_none (shape_setting cells.shape cells.cell) in
       let set : (j : ℕ) → bit_at (bits_in f (cells ∷ cuts) homes) j ≡ bit_at (bits_or_none (shape_setting a cells.cell)) j =
-      λ j. ap (λ (z : Found). bit_at (bits_in z (cells ∷ cuts) homes) j) (sym p.1)
+      λ j. ap (λ (z : MatchModel). bit_at (bits_in z (cells ∷ cuts) homes) j) (sym p.1)
       ∙ ap (λ z. bit_at (bit_or 0 (bit_or (bit_or there (cells_setting z)) (homes_setting [] homes))) j) held.3.0
       ∙ omega (arith, bit_at_or 0 (bit_or (bit_or there 0) 0) j, bit_at_or (bit_or there 0) 0 j, bit_at_or there 0 j, bit_at-zero j)
       ∙ ap (λ z. bit_at (bits_or_none (shape_setting z cells.cell)) j) held.0 in
@@ -410,23 +410,23 @@ module _ (temps size : ℕ) (before now : State) (same : (c : ℕ) → temps ≤
         means = λ i u. ap (λ c. slice_index now.cells c) (shown.means now i (λ j v. u j v ∙ set j)) ∙ held.2;
       }
 
-  cell_meant : (a : Term) (w : ℕ) (t : Term) (whole : Bool) (f : Found) (cuts : List CutCells) (homes : List (Option ℕ)) → cell_match temps a w t whole ≡ Some f → ReadsFrom temps before t
+  cell_meant : (a : ExprModel) (w : ℕ) (t : ExprModel) (whole : Bool) (f : MatchModel) (cuts : List CutCellsModel) (homes : List (Option ℕ)) → cell_match temps a w t whole ≡ Some f → ReadsFrom temps before t
       → Holds temps size before now f.sites cuts homes → IsMeant temps size before now (read InMemory a w) t f cuts homes
   cell_meant a w t whole f cuts homes h r k =
-      let p : ((w == term_width t) ≡ true)
+      let p : ((w == expr_width t) ≡ true)
       × ((if is_cell t then literal_match a t else open_if (not whole && shows_below a temps) (cut a t)) ≡ Some f) = picked _ _ _ h in
       elim (either (is_cell t) (literal_match a t) (open_if (not whole && shows_below a temps) (cut a t)) f p.1)
       as (λ _. IsMeant temps size before now (read InMemory a w) t f cuts homes) [
-        | inl l ↦ at_number a w t f cuts homes (eqb-true w (term_width t) p.0) l r k
-        | inr l ↦ at_cut a w t (not whole) f cuts homes (eqb-true w (term_width t) p.0) l k
+        | inl l ↦ at_number a w t f cuts homes (eqb-true w (expr_width t) p.0) l r k
+        | inr l ↦ at_cut a w t (not whole) f cuts homes (eqb-true w (expr_width t) p.0) l k
       ]
 
-  slice_meant : (a : Term) (hi lo : ℕ) → ((k : ℕ) → uses (slice a hi lo) k ≡ uses a k) → Sound a → (t : Term) (f : Found) (cuts : List CutCells) (homes : List (Option ℕ))
-      → slice_match (matched temps a) (term_width a) hi lo t ≡ Some f → ReadsFrom temps before t
+  slice_meant : (a : ExprModel) (hi lo : ℕ) → ((k : ℕ) → uses (slice a hi lo) k ≡ uses a k) → Sound a → (t : ExprModel) (f : MatchModel) (cuts : List CutCellsModel) (homes : List (Option ℕ))
+      → slice_match (matched temps a) (expr_width a) hi lo t ≡ Some f → ReadsFrom temps before t
       → Holds temps size before now f.sites cuts homes → IsMeant temps size before now (slice a hi lo) t f cuts homes
   slice_meant a hi lo eq ih (slice b h' l') f cuts homes h r k =
-      let p : (((term_width b == term_width a) && ((h' == hi) && (l' == lo))) ≡ true) × (matched temps a b false ≡ Some f) = picked _ _ _ h in
-      let q : ((term_width b == term_width a) ≡ true) × (((h' == hi) && (l' == lo)) ≡ true) = and_parts _ _ p.0 in
+      let p : (((expr_width b == expr_width a) && ((h' == hi) && (l' == lo))) ≡ true) × (matched temps a b false ≡ Some f) = picked _ _ _ h in
+      let q : ((expr_width b == expr_width a) ≡ true) × (((h' == hi) && (l' == lo)) ≡ true) = and_parts _ _ p.0 in
       let q' : ((h' == hi) ≡ true) × ((l' == lo) ≡ true) = and_parts _ _ q.1 in
       let eh : h' ≡ hi = eqb-true _ _ q'.0 in
       let el : l' ≡ lo = eqb-true _ _ q'.1 in
@@ -438,27 +438,27 @@ module _ (temps size : ℕ) (before now : State) (same : (c : ℕ) → temps ≤
       }
   slice_meant a hi lo eq ih t f cuts homes h r k = absurd (cc)
 
-  zext_meant : (a : Term) (w : ℕ) → Sound a → (t : Term) (f : Found) (cuts : List CutCells) (homes : List (Option ℕ)) → zext_match (matched temps a) (term_width a) w t ≡ Some f → ReadsFrom temps before t
+  zext_meant : (a : ExprModel) (w : ℕ) → Sound a → (t : ExprModel) (f : MatchModel) (cuts : List CutCellsModel) (homes : List (Option ℕ)) → zext_match (matched temps a) (expr_width a) w t ≡ Some f → ReadsFrom temps before t
       → Holds temps size before now f.sites cuts homes → IsMeant temps size before now (zext a w) t f cuts homes
   zext_meant a w ih (zext b v) f cuts homes h r k =
-      let p : (((term_width b == term_width a) && (v == w)) ≡ true) × (matched temps a b false ≡ Some f) = picked _ _ _ h in
-      let q : ((term_width b == term_width a) ≡ true) × ((v == w) ≡ true) = and_parts _ _ p.0 in
+      let p : (((expr_width b == expr_width a) && (v == w)) ≡ true) × (matched temps a b false ≡ Some f) = picked _ _ _ h in
+      let q : ((expr_width b == expr_width a) ≡ true) × ((v == w) ≡ true) = and_parts _ _ p.0 in
       let m : IsMeant temps size before now a b f cuts homes = ih b false f cuts homes p.1 r k in
       record { width = sym (eqb-true v w q.1); within = m.within; means = m.means }
   zext_meant a w ih t f cuts homes h r k = absurd (cc)
 
-  sext_meant : (a : Term) (w : ℕ) → Sound a → (t : Term) (f : Found) (cuts : List CutCells) (homes : List (Option ℕ)) → sext_match (matched temps a) (term_width a) w t ≡ Some f → ReadsFrom temps before t
+  sext_meant : (a : ExprModel) (w : ℕ) → Sound a → (t : ExprModel) (f : MatchModel) (cuts : List CutCellsModel) (homes : List (Option ℕ)) → sext_match (matched temps a) (expr_width a) w t ≡ Some f → ReadsFrom temps before t
       → Holds temps size before now f.sites cuts homes → IsMeant temps size before now (sext a w) t f cuts homes
   sext_meant a w ih (sext b v) f cuts homes h r k =
-      let p : (((term_width b == term_width a) && (v == w)) ≡ true) × (matched temps a b false ≡ Some f) = picked _ _ _ h in
-      let q : ((term_width b == term_width a) ≡ true) × ((v == w) ≡ true) = and_parts _ _ p.0 in
+      let p : (((expr_width b == expr_width a) && (v == w)) ≡ true) × (matched temps a b false ≡ Some f) = picked _ _ _ h in
+      let q : ((expr_width b == expr_width a) ≡ true) × ((v == w) ≡ true) = and_parts _ _ p.0 in
       let m : IsMeant temps size before now a b f cuts homes = ih b false f cuts homes p.1 r k in
       let ev : v ≡ w = eqb-true v w q.1 in
-      let ew : term_width b ≡ term_width a = eqb-true _ _ q.0 in
+      let ew : expr_width b ≡ expr_width a = eqb-true _ _ q.0 in
       record { width = sym ev; within = m.within; means = λ i u. cc (ev, ew, m.means i u) }
   sext_meant a w ih t f cuts homes h r k = absurd (cc)
 
-  pub matched_meant : (e : Term) → IsOnce e → CellsShown size e → Sound e
+  pub matched_meant : (e : ExprModel) → IsOnce e → CellsShown size e → Sound e
   matched_meant (word w) o q t whole f cuts homes h r k = shape_meant temps size before now (word w) t f cuts homes h k
   matched_meant (const w v) o q t whole f cuts homes h r k = shape_meant temps size before now (const w v) t f cuts homes h k
   matched_meant (reg id w) o q t whole f cuts homes h r k = reg_meant id w t whole f cuts homes h r k
@@ -477,12 +477,12 @@ module _ (temps size : ℕ) (before now : State) (same : (c : ℕ) → temps ≤
   matched_meant (slice (word w) hi lo) o q t whole f cuts homes h r k = shape_meant temps size before now (slice (word w) hi lo) t f cuts homes h k
   matched_meant (slice a hi lo) o q t whole f cuts homes h r k = slice_meant a hi lo (λ j. refl) (matched_meant a o q) t f cuts homes h r k
   matched_meant (zext a w) o q t whole f cuts homes h r k =
-      elim (either (is_shape (zext a w)) (shape_match (zext a w) t) (zext_match (matched temps a) (term_width a) w t) f h) as (λ _. IsMeant temps size before now (zext a w) t f cuts homes) [
+      elim (either (is_shape (zext a w)) (shape_match (zext a w) t) (zext_match (matched temps a) (expr_width a) w t) f h) as (λ _. IsMeant temps size before now (zext a w) t f cuts homes) [
         | inl l ↦ shape_meant temps size before now (zext a w) t f cuts homes l k
         | inr l ↦ zext_meant a w (matched_meant a o q) t f cuts homes l r k
       ]
   matched_meant (sext a w) o q t whole f cuts homes h r k =
-      elim (either (is_shape (sext a w)) (shape_match (sext a w) t) (sext_match (matched temps a) (term_width a) w t) f h) as (λ _. IsMeant temps size before now (sext a w) t f cuts homes) [
+      elim (either (is_shape (sext a w)) (shape_match (sext a w) t) (sext_match (matched temps a) (expr_width a) w t) f h) as (λ _. IsMeant temps size before now (sext a w) t f cuts homes) [
         | inl l ↦ shape_meant temps size before now (sext a w) t f cuts homes l k
         | inr l ↦ sext_meant a w (matched_meant a o q) t f cuts homes l r k
       ]

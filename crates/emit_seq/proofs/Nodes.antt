@@ -4,11 +4,11 @@ use Rattle.std.proofs.lemmas.Bool.{and_parts, eq-eqb, eqb-true}
 use Rattle.rec_bits.specs.declared.operator.Op1.{Op1}
 use Rattle.rec_bits.specs.declared.operator.Op2.{Op2}
 use Rattle.net_model.specs.declared.hardware.Space.TheVariants.{Memory as InMemory, File as InFile}
-use Rattle.net_model.specs.Terms.{Term, word, reg, const, read, un, bin, slice, cat, zext, sext, select, term_width}
+use Rattle.net_model.specs.Exprs.{ExprModel, word, reg, const, read, un, bin, slice, cat, zext, sext, select, expr_width}
 use Rattle.form_model.specs.Trees.{is_number, is_cell}
 use Rattle.form_model.specs.Shapes.{is_shape, shape_setting, shows_below}
-use Rattle.form_model.specs.Rules.{Rule, Kind, into_reg, into_memory, into_file, branches, Destination, into, filed, cell, stored, temporary, tested}
-use Rattle.form_model.specs.Matches.{Home, in_register, in_file, Site, operand, cut, Found, settled, open_if, both, shape_match, literal_match, cell_match, read_match, un_match, bin_match, slice_match, zext_match, sext_match, matched, address_match, goal_match, same_op1, same_op2}
+use Rattle.form_model.specs.Forms.{FormModel, GoalModel, into_reg, into_memory, into_file, branches, DestinationModel, into, filed, cell, stored, temporary, tested}
+use Rattle.form_model.specs.Matches.{HomeModel, in_register, in_file, LeafModel, operand, cut, MatchModel, settled, open_if, both, shape_match, literal_match, cell_match, read_match, un_match, bin_match, slice_match, zext_match, sext_match, matched, address_match, goal_match, same_op1, same_op2}
 use Rattle.form_model.specs.Covers.{Operand, operands_of, cuts_of}
 use Rattle.form_model.specs.WideNodes.{wide_below, wide_nodes}
 use Rattle.form_model.proofs.WideLaws.{below_nodes, one_more}
@@ -18,11 +18,11 @@ use Rattle.emit_seq.proofs.Matched.{Joined, joined, Literal, literal, opened, se
 
 module _ (temps bits : ℕ) where
   -- the nodes of a word's width of a tree, its root among them unless it is whole
-  abbrev pub tree_nodes : Term → Bool → ℕ
+  abbrev pub tree_nodes : ExprModel → Bool → ℕ
   tree_nodes t whole = if whole then wide_below bits t else wide_nodes bits t
 
   -- and those of a tree for a destination
-  abbrev pub goal_nodes : Destination → Term → Bool → ℕ
+  abbrev pub goal_nodes : DestinationModel → ExprModel → Bool → ℕ
   goal_nodes (into id) tree whole = tree_nodes tree whole
   goal_nodes filed tree whole = tree_nodes tree whole
   goal_nodes (cell address) tree whole = tree_nodes tree true
@@ -30,17 +30,17 @@ module _ (temps bits : ℕ) where
   goal_nodes temporary tree whole = tree_nodes tree false
   goal_nodes tested tree whole = tree_nodes tree true
 
-  below_tree : (t : Term) (whole : Bool) → wide_below bits t ≤ tree_nodes t whole
+  below_tree : (t : ExprModel) (whole : Bool) → wide_below bits t ≤ tree_nodes t whole
   below_tree t true = omega arith
   below_tree t false = below_nodes bits t
 
   -- a tree that is a cut counts itself
-  cut_tree : (t : Term) (whole : Bool) → not whole ≡ true → (term_width t == bits) ≡ true → is_cell t ≡ false → wide_below bits t + 1 ≤ tree_nodes t whole
+  cut_tree : (t : ExprModel) (whole : Bool) → not whole ≡ true → (expr_width t == bits) ≡ true → is_cell t ≡ false → wide_below bits t + 1 ≤ tree_nodes t whole
   cut_tree t true n w c = absurd (cc)
   cut_tree t false n w c = let e = one_more bits t w c in omega (arith, e)
 
   -- a number that is a read's address isn't counted
-  address_sum : (b : Term) (n : ℕ) → n ≤ tree_nodes b (is_number b) → n ≤ (if is_number b then 0 else wide_nodes bits b)
+  address_sum : (b : ExprModel) (n : ℕ) → n ≤ tree_nodes b (is_number b) → n ≤ (if is_number b then 0 else wide_nodes bits b)
   address_sum (word w) n h = h
   address_sum (reg r w) n h = h
   address_sum (const w v) n h = h
@@ -58,113 +58,113 @@ module _ (temps bits : ℕ) where
   operands_sum [] = 0
   operands_sum (o ∷ os) = tree_nodes o.tree o.whole + operands_sum os
 
-  abbrev pub cuts_sum : List Term → ℕ
+  abbrev pub cuts_sum : List ExprModel → ℕ
   cuts_sum [] = 0
   cuts_sum (t ∷ ts) = wide_below bits t + 1 + cuts_sum ts
 
-  abbrev pub sites_sum : List Site → ℕ
-  sites_sum sites = operands_sum (operands_of sites) + cuts_sum (cuts_of sites)
+  abbrev pub leaves_sum : List LeafModel → ℕ
+  leaves_sum sites = operands_sum (operands_of sites) + cuts_sum (cuts_of sites)
 
-  sum-append : (xs ys : List Site) → sites_sum (xs ++ ys) ≡ sites_sum xs + sites_sum ys
+  sum-append : (xs ys : List LeafModel) → leaves_sum (xs ++ ys) ≡ leaves_sum xs + leaves_sum ys
   sum-append [] ys = sym (omega arith)
   sum-append (operand id tree whole ∷ xs) ys = let e = sum-append xs ys in omega (arith, e)
   sum-append (cut shape tree ∷ xs) ys = let e = sum-append xs ys in omega (arith, e)
 
   -- a match takes the tree itself, as an operand or as a cut, or parts below its root
-  pub data MatchKind : Term → Bool → Found → Type 0 where
-    itself : {t : Term} {whole : Bool} {f : Found} → (home : Home) → f.sites ≡ operand home t whole ∷ [] → MatchKind t whole f
-    stored_whole : {t : Term} {whole : Bool} {f : Found} → (shape : Term) → f.sites ≡ cut shape t ∷ [] → wide_below bits t + 1 ≤ tree_nodes t whole → MatchKind t whole f
-    parts : {t : Term} {whole : Bool} {f : Found} → sites_sum f.sites ≤ wide_below bits t → MatchKind t whole f
+  pub data MatchKind : ExprModel → Bool → MatchModel → Type 0 where
+    itself : {t : ExprModel} {whole : Bool} {f : MatchModel} → (home : HomeModel) → f.sites ≡ operand home t whole ∷ [] → MatchKind t whole f
+    stored_whole : {t : ExprModel} {whole : Bool} {f : MatchModel} → (shape : ExprModel) → f.sites ≡ cut shape t ∷ [] → wide_below bits t + 1 ≤ tree_nodes t whole → MatchKind t whole f
+    parts : {t : ExprModel} {whole : Bool} {f : MatchModel} → leaves_sum f.sites ≤ wide_below bits t → MatchKind t whole f
 
-  pub kind_sum : (t : Term) (whole : Bool) (f : Found) → MatchKind t whole f → sites_sum f.sites ≤ tree_nodes t whole
-  kind_sum t whole f (itself home e) = let q : sites_sum f.sites ≡ sites_sum (operand home t whole ∷ []) = ap sites_sum e in omega (arith, q)
+  pub kind_sum : (t : ExprModel) (whole : Bool) (f : MatchModel) → MatchKind t whole f → leaves_sum f.sites ≤ tree_nodes t whole
+  kind_sum t whole f (itself home e) = let q : leaves_sum f.sites ≡ leaves_sum (operand home t whole ∷ []) = ap leaves_sum e in omega (arith, q)
   kind_sum t whole f (stored_whole shape e c) =
-      let q : sites_sum f.sites ≡ sites_sum (cut shape t ∷ []) = ap sites_sum e in omega (arith, q, c)
+      let q : leaves_sum f.sites ≡ leaves_sum (cut shape t ∷ []) = ap leaves_sum e in omega (arith, q, c)
   kind_sum t whole f (parts h) = let b = below_tree t whole in omega (arith, h, b)
 
   -- what each match of this expression takes
-  abbrev MatchKinds : Term → Type 0
-  MatchKinds a = (t : Term) (whole : Bool) (f : Found) → matched temps a t whole ≡ Some f → MatchKind t whole f
+  abbrev MatchKinds : ExprModel → Type 0
+  MatchKinds a = (t : ExprModel) (whole : Bool) (f : MatchModel) → matched temps a t whole ≡ Some f → MatchKind t whole f
 
-  shape_kind : (e t : Term) (whole : Bool) (f : Found) → shape_match e t ≡ Some f → MatchKind t whole f
+  shape_kind : (e t : ExprModel) (whole : Bool) (f : MatchModel) → shape_match e t ≡ Some f → MatchKind t whole f
   shape_kind e t whole f h =
       let l : Literal e t f = literal e t f h in
-      let q : sites_sum f.sites ≡ 0 = ap (λ (z : Found). sites_sum z.sites) (sym l.is) in
+      let q : leaves_sum f.sites ≡ 0 = ap (λ (z : MatchModel). leaves_sum z.sites) (sym l.is) in
       parts (omega (arith, q))
 
   reg_kind : (id w : ℕ) → MatchKinds (reg id w)
   reg_kind id w t whole f h =
-      let p : ((w == term_width t) ≡ true) × (record { setting = 0; sites = operand (in_register id) t whole ∷ [] } ≡ f) = opened _ _ _ h in
-      itself (in_register id) (ap (λ (z : Found). z.sites) (sym p.1))
+      let p : ((w == expr_width t) ≡ true) × (record { setting = 0; sites = operand (in_register id) t whole ∷ [] } ≡ f) = opened _ _ _ h in
+      itself (in_register id) (ap (λ (z : MatchModel). z.sites) (sym p.1))
 
-  file_kind : (a : Term) (w : ℕ) → MatchKinds (read InFile a w)
+  file_kind : (a : ExprModel) (w : ℕ) → MatchKinds (read InFile a w)
   file_kind a w t whole f h =
-      let p : ((w == term_width t) ≡ true) × (record { setting = 0; sites = operand (in_file a) t whole ∷ [] } ≡ f) = opened _ _ _ h in
-      itself (in_file a) (ap (λ (z : Found). z.sites) (sym p.1))
+      let p : ((w == expr_width t) ≡ true) × (record { setting = 0; sites = operand (in_file a) t whole ∷ [] } ≡ f) = opened _ _ _ h in
+      itself (in_file a) (ap (λ (z : MatchModel). z.sites) (sym p.1))
 
-  un_kind : (a : Term) (op : Op1) → MatchKinds a → (t : Term) (whole : Bool) (f : Found) → un_match (matched temps a) op t ≡ Some f → MatchKind t whole f
+  un_kind : (a : ExprModel) (op : Op1) → MatchKinds a → (t : ExprModel) (whole : Bool) (f : MatchModel) → un_match (matched temps a) op t ≡ Some f → MatchKind t whole f
   un_kind a op ih (un o b) whole f h =
       let p : (same_op1 o op ≡ true) × (matched temps a b false ≡ Some f) = picked _ _ _ h in
       parts (kind_sum b false f (ih b false f p.1))
   un_kind a op ih t whole f h = absurd (cc)
 
-  bin_kind : (a b : Term) (op : Op2) → MatchKinds a → MatchKinds b → (t : Term) (whole : Bool) (f : Found) → bin_match (matched temps a) (matched temps b) op t ≡ Some f → MatchKind t whole f
+  bin_kind : (a b : ExprModel) (op : Op2) → MatchKinds a → MatchKinds b → (t : ExprModel) (whole : Bool) (f : MatchModel) → bin_match (matched temps a) (matched temps b) op t ≡ Some f → MatchKind t whole f
   bin_kind a b op iha ihb (bin o c d) whole f h =
       let p : (same_op2 o op ≡ true) × (both (matched temps a c false) (matched temps b d false) ≡ Some f) = picked _ _ _ h in
       let j : Joined (matched temps a c false) (matched temps b d false) f = joined _ _ _ p.1 in
-      let q : sites_sum f.sites ≡ sites_sum (j.first.sites ++ j.second.sites) = ap (λ (z : Found). sites_sum z.sites) (sym j.is) in
+      let q : leaves_sum f.sites ≡ leaves_sum (j.first.sites ++ j.second.sites) = ap (λ (z : MatchModel). leaves_sum z.sites) (sym j.is) in
       parts (omega (arith, q, sum-append j.first.sites j.second.sites, kind_sum c false j.first (iha c false j.first j.is_first), kind_sum d false j.second (ihb d false j.second j.is_second)))
   bin_kind a b op iha ihb t whole f h = absurd (cc)
 
-  read_kind : (a : Term) (w : ℕ) → MatchKinds a → (t : Term) (whole : Bool) (f : Found) → read_match (matched temps a) w t ≡ Some f → MatchKind t whole f
+  read_kind : (a : ExprModel) (w : ℕ) → MatchKinds a → (t : ExprModel) (whole : Bool) (f : MatchModel) → read_match (matched temps a) w t ≡ Some f → MatchKind t whole f
   read_kind a w ih (read InMemory b v) whole f h =
       let p : ((v == w) ≡ true) × (matched temps a b (is_number b) ≡ Some f) = picked _ _ _ h in
-      parts (address_sum b (sites_sum f.sites) (kind_sum b (is_number b) f (ih b (is_number b) f p.1)))
+      parts (address_sum b (leaves_sum f.sites) (kind_sum b (is_number b) f (ih b (is_number b) f p.1)))
   read_kind a w ih t whole f h = absurd (cc)
 
-  number_kind : (a t : Term) (whole : Bool) (f : Found) → literal_match a t ≡ Some f → MatchKind t whole f
+  number_kind : (a t : ExprModel) (whole : Bool) (f : MatchModel) → literal_match a t ≡ Some f → MatchKind t whole f
   number_kind a (read InMemory b v) whole f h =
       let l : Literal a b f = literal a b f h in
-      let q : sites_sum f.sites ≡ 0 = ap (λ (z : Found). sites_sum z.sites) (sym l.is) in
+      let q : leaves_sum f.sites ≡ 0 = ap (λ (z : MatchModel). leaves_sum z.sites) (sym l.is) in
       parts (omega (arith, q))
   number_kind a t whole f h = absurd (cc)
 
-  cell_kind : (a : Term) (w : ℕ) (t : Term) (whole : Bool) (f : Found) → w ≡ bits → cell_match temps a w t whole ≡ Some f → MatchKind t whole f
+  cell_kind : (a : ExprModel) (w : ℕ) (t : ExprModel) (whole : Bool) (f : MatchModel) → w ≡ bits → cell_match temps a w t whole ≡ Some f → MatchKind t whole f
   cell_kind a w t whole f wide h =
-      let p : ((w == term_width t) ≡ true)
+      let p : ((w == expr_width t) ≡ true)
       × ((if is_cell t then literal_match a t else open_if (not whole && shows_below a temps) (cut a t)) ≡ Some f) = picked _ _ _ h in
-      fork (eq-eqb _ _ (sym (eqb-true w (term_width t) p.0) ∙ wide)) (is_cell t) refl p.1
+      fork (eq-eqb _ _ (sym (eqb-true w (expr_width t) p.0) ∙ wide)) (is_cell t) refl p.1
     where
-      fork : (term_width t == bits) ≡ true → (b : Bool) → is_cell t ≡ b → (if b then literal_match a t else open_if (not whole && shows_below a temps) (cut a t)) ≡ Some f → MatchKind t whole f
+      fork : (expr_width t == bits) ≡ true → (b : Bool) → is_cell t ≡ b → (if b then literal_match a t else open_if (not whole && shows_below a temps) (cut a t)) ≡ Some f → MatchKind t whole f
       fork of_words true e k = number_kind a t whole f k
       fork of_words false e k =
           let p : ((not whole && shows_below a temps) ≡ true) × (record { setting = 0; sites = cut a t ∷ [] } ≡ f) = opened _ _ _ k in
           let q : (not whole ≡ true) × (shows_below a temps ≡ true) = and_parts _ _ p.0 in
-          stored_whole a (ap (λ (z : Found). z.sites) (sym p.1)) (cut_tree t whole q.0 of_words e)
+          stored_whole a (ap (λ (z : MatchModel). z.sites) (sym p.1)) (cut_tree t whole q.0 of_words e)
 
-  slice_kind : (a : Term) (hi lo : ℕ) → MatchKinds a → (t : Term) (whole : Bool) (f : Found) → slice_match (matched temps a) (term_width a) hi lo t ≡ Some f → MatchKind t whole f
+  slice_kind : (a : ExprModel) (hi lo : ℕ) → MatchKinds a → (t : ExprModel) (whole : Bool) (f : MatchModel) → slice_match (matched temps a) (expr_width a) hi lo t ≡ Some f → MatchKind t whole f
   slice_kind a hi lo ih (slice b h' l') whole f h =
-      let p : (((term_width b == term_width a) && ((h' == hi) && (l' == lo))) ≡ true) × (matched temps a b false ≡ Some f) = picked _ _ _ h in
+      let p : (((expr_width b == expr_width a) && ((h' == hi) && (l' == lo))) ≡ true) × (matched temps a b false ≡ Some f) = picked _ _ _ h in
       parts (kind_sum b false f (ih b false f p.1))
   slice_kind a hi lo ih t whole f h = absurd (cc)
 
-  zext_kind : (a : Term) (w : ℕ) → MatchKinds a → (t : Term) (whole : Bool) (f : Found) → zext_match (matched temps a) (term_width a) w t ≡ Some f → MatchKind t whole f
+  zext_kind : (a : ExprModel) (w : ℕ) → MatchKinds a → (t : ExprModel) (whole : Bool) (f : MatchModel) → zext_match (matched temps a) (expr_width a) w t ≡ Some f → MatchKind t whole f
   zext_kind a w ih (zext b v) whole f h =
-      let p : (((term_width b == term_width a) && (v == w)) ≡ true) × (matched temps a b false ≡ Some f) = picked _ _ _ h in
+      let p : (((expr_width b == expr_width a) && (v == w)) ≡ true) × (matched temps a b false ≡ Some f) = picked _ _ _ h in
       parts (kind_sum b false f (ih b false f p.1))
   zext_kind a w ih t whole f h = absurd (cc)
 
-  sext_kind : (a : Term) (w : ℕ) → MatchKinds a → (t : Term) (whole : Bool) (f : Found) → sext_match (matched temps a) (term_width a) w t ≡ Some f → MatchKind t whole f
+  sext_kind : (a : ExprModel) (w : ℕ) → MatchKinds a → (t : ExprModel) (whole : Bool) (f : MatchModel) → sext_match (matched temps a) (expr_width a) w t ≡ Some f → MatchKind t whole f
   sext_kind a w ih (sext b v) whole f h =
-      let p : (((term_width b == term_width a) && (v == w)) ≡ true) × (matched temps a b false ≡ Some f) = picked _ _ _ h in
+      let p : (((expr_width b == expr_width a) && (v == w)) ≡ true) × (matched temps a b false ≡ Some f) = picked _ _ _ h in
       parts (kind_sum b false f (ih b false f p.1))
   sext_kind a w ih t whole f h = absurd (cc)
 
-  pick : (b : Bool) (x y : Option Found) (f : Found) → (if b then x else y) ≡ Some f → (x ≡ Some f) ⊎ (y ≡ Some f)
+  pick : (b : Bool) (x y : Option MatchModel) (f : MatchModel) → (if b then x else y) ≡ Some f → (x ≡ Some f) ⊎ (y ≡ Some f)
   pick true x y f h = inl h
   pick false x y f h = inr h
 
-  pub matched_kind : (e : Term) → ReadsWords bits e → MatchKinds e
+  pub matched_kind : (e : ExprModel) → ReadsWords bits e → MatchKinds e
   matched_kind (word w) o t whole f h = shape_kind (word w) t whole f h
   matched_kind (const w v) o t whole f h = shape_kind (const w v) t whole f h
   matched_kind (reg id w) o t whole f h = reg_kind id w t whole f h
@@ -181,17 +181,17 @@ module _ (temps bits : ℕ) where
         | inr l ↦ bin_kind a b op (matched_kind a o.0) (matched_kind b o.1) t whole f l
       ]
   matched_kind (slice a hi lo) o t whole f h =
-      elim (pick (is_shape (slice a hi lo)) (shape_match (slice a hi lo) t) (slice_match (matched temps a) (term_width a) hi lo t) f h) as (λ _. MatchKind t whole f) [
+      elim (pick (is_shape (slice a hi lo)) (shape_match (slice a hi lo) t) (slice_match (matched temps a) (expr_width a) hi lo t) f h) as (λ _. MatchKind t whole f) [
         | inl l ↦ shape_kind (slice a hi lo) t whole f l
         | inr l ↦ slice_kind a hi lo (matched_kind a o) t whole f l
       ]
   matched_kind (zext a w) o t whole f h =
-      elim (pick (is_shape (zext a w)) (shape_match (zext a w) t) (zext_match (matched temps a) (term_width a) w t) f h) as (λ _. MatchKind t whole f) [
+      elim (pick (is_shape (zext a w)) (shape_match (zext a w) t) (zext_match (matched temps a) (expr_width a) w t) f h) as (λ _. MatchKind t whole f) [
         | inl l ↦ shape_kind (zext a w) t whole f l
         | inr l ↦ zext_kind a w (matched_kind a o) t whole f l
       ]
   matched_kind (sext a w) o t whole f h =
-      elim (pick (is_shape (sext a w)) (shape_match (sext a w) t) (sext_match (matched temps a) (term_width a) w t) f h) as (λ _. MatchKind t whole f) [
+      elim (pick (is_shape (sext a w)) (shape_match (sext a w) t) (sext_match (matched temps a) (expr_width a) w t) f h) as (λ _. MatchKind t whole f) [
         | inl l ↦ shape_kind (sext a w) t whole f l
         | inr l ↦ sext_kind a w (matched_kind a o) t whole f l
       ]
@@ -201,7 +201,7 @@ module _ (temps bits : ℕ) where
   -- ---- whole forms
 
   -- whether the tree counts as whole at a destination
-  abbrev pub whole_at : Destination → Bool → Bool
+  abbrev pub whole_at : DestinationModel → Bool → Bool
   whole_at (into id) whole = whole
   whole_at filed whole = whole
   whole_at (cell a) whole = true
@@ -210,37 +210,37 @@ module _ (temps bits : ℕ) where
   whole_at tested whole = true
 
   -- a destination without a tree of its own for the address
-  abbrev pub IsPlain : Destination → Type 0
+  abbrev pub IsPlain : DestinationModel → Type 0
   IsPlain (stored a) = ⊥
   IsPlain destination = Unit {0}
 
   -- the address takes nothing there
-  address_none : (o : Option Term) (destination : Destination) (x : Found) → IsPlain destination → address_match temps o destination ≡ Some x → x.sites ≡ []
+  address_none : (o : Option ExprModel) (destination : DestinationModel) (x : MatchModel) → IsPlain destination → address_match temps o destination ≡ Some x → x.sites ≡ []
   address_none None destination x p h = absurd (cc)
   address_none (Some addr) (cell a) x p h =
       let c : (is_shape addr ≡ true) × (settled (shape_setting addr a) ≡ Some x) = picked (is_shape addr) (settled (shape_setting addr a)) x h in
-      let (b, e, q) = settled_some (shape_setting addr a) x c.1 in ap (λ (z : Found). z.sites) (sym q)
+      let (b, e, q) = settled_some (shape_setting addr a) x c.1 in ap (λ (z : MatchModel). z.sites) (sym q)
   address_none (Some addr) temporary x p h =
       let c : ((is_shape addr && shows_below addr temps) ≡ true) × (settled (Some 0) ≡ Some x) = picked (is_shape addr && shows_below addr temps) (settled (Some 0)) x h in
-      let q : record { setting = 0; sites = [] } ≡ x = cc in ap (λ (z : Found). z.sites) (sym q)
+      let q : record { setting = 0; sites = [] } ≡ x = cc in ap (λ (z : MatchModel). z.sites) (sym q)
   address_none (Some addr) (stored a) x p h = absurd p
   address_none (Some addr) (into id) x p h = absurd (cc)
   address_none (Some addr) filed x p h = absurd (cc)
   address_none (Some addr) tested x p h = absurd (cc)
 
-  kind_moved : (t : Term) (whole : Bool) (f g : Found) → g.sites ≡ f.sites → MatchKind t whole f → MatchKind t whole g
+  kind_moved : (t : ExprModel) (whole : Bool) (f g : MatchModel) → g.sites ≡ f.sites → MatchKind t whole f → MatchKind t whole g
   kind_moved t whole f g e (itself id q) = itself id (e ∙ q)
   kind_moved t whole f g e (stored_whole shape q c) = stored_whole shape (e ∙ q) c
-  kind_moved t whole f g e (parts h) = parts (subst (λ z. sites_sum z ≤ wide_below bits t) (sym e) h)
+  kind_moved t whole f g e (parts h) = parts (subst (λ z. leaves_sum z ≤ wide_below bits t) (sym e) h)
 
-  memory_kind : (rule : Rule) (destination : Destination) (tree : Term) (whole : Bool) (found : Found) → ReadsWords bits rule.value → IsPlain destination
+  memory_kind : (rule : FormModel) (destination : DestinationModel) (tree : ExprModel) (whole : Bool) (found : MatchModel) → ReadsWords bits rule.value → IsPlain destination
       → both (address_match temps rule.addr destination) (matched temps rule.value tree whole) ≡ Some found → MatchKind tree whole found
   memory_kind rule destination tree whole found o p h =
       let j : Joined (address_match temps rule.addr destination) (matched temps rule.value tree whole) found = joined _ _ _ h in
-      let e : found.sites ≡ j.second.sites = ap (λ (z : Found). z.sites) (sym j.is) ∙ ap (λ z. z ++ j.second.sites) (address_none rule.addr destination j.first p j.is_first) in
+      let e : found.sites ≡ j.second.sites = ap (λ (z : MatchModel). z.sites) (sym j.is) ∙ ap (λ z. z ++ j.second.sites) (address_none rule.addr destination j.first p j.is_first) in
       kind_moved tree whole j.second found e (matched_kind rule.value o tree whole j.second j.is_second)
 
-  pub goal_kind : (rule : Rule) (goal : Kind) (destination : Destination) (tree : Term) (whole : Bool) (found : Found) → ReadsWords bits rule.value → IsPlain destination → goal_match temps rule goal destination tree whole ≡ Some found
+  pub goal_kind : (rule : FormModel) (goal : GoalModel) (destination : DestinationModel) (tree : ExprModel) (whole : Bool) (found : MatchModel) → ReadsWords bits rule.value → IsPlain destination → goal_match temps rule goal destination tree whole ≡ Some found
       → MatchKind tree (whole_at destination whole) found
   goal_kind rule (into_reg q) (into id) tree whole found o p h =
       let c : ((q == id) ≡ true) × (matched temps rule.value tree whole ≡ Some found) = picked (q == id) (matched temps rule.value tree whole) found h in
@@ -252,12 +252,12 @@ module _ (temps bits : ℕ) where
   goal_kind rule (branches when_one to) tested tree whole found o p h = matched_kind rule.value o tree true found h
   goal_kind rule goal destination tree whole found o p h = absurd (cc)
 
-  store_sum : (rule : Rule) (address tree : Term) (at : Option Term) (found : Found) → AddressReadsWords bits at → ReadsWords bits rule.value
-      → both (address_match temps at (stored address)) (matched temps rule.value tree false) ≡ Some found → sites_sum found.sites ≤ tree_nodes address false + tree_nodes tree false
+  store_sum : (rule : FormModel) (address tree : ExprModel) (at : Option ExprModel) (found : MatchModel) → AddressReadsWords bits at → ReadsWords bits rule.value
+      → both (address_match temps at (stored address)) (matched temps rule.value tree false) ≡ Some found → leaves_sum found.sites ≤ tree_nodes address false + tree_nodes tree false
   store_sum rule address tree None found u v h = absurd (cc)
   store_sum rule address tree (Some addr) found u v h =
       let j : Joined (matched temps addr address false) (matched temps rule.value tree false) found = joined _ _ _ h in
-      let q : sites_sum found.sites ≡ sites_sum (j.first.sites ++ j.second.sites) = ap (λ (z : Found). sites_sum z.sites) (sym j.is) in
+      let q : leaves_sum found.sites ≡ leaves_sum (j.first.sites ++ j.second.sites) = ap (λ (z : MatchModel). leaves_sum z.sites) (sym j.is) in
       omega (
         arith,
         q,
@@ -266,8 +266,8 @@ module _ (temps bits : ℕ) where
         kind_sum tree false j.second (matched_kind rule.value v tree false j.second j.is_second),
       )
 
-  pub goal_sum : (rule : Rule) (goal : Kind) (destination : Destination) (tree : Term) (whole : Bool) (found : Found) → AddressReadsWords bits rule.addr → ReadsWords bits rule.value
-      → goal_match temps rule goal destination tree whole ≡ Some found → sites_sum found.sites ≤ goal_nodes destination tree whole
+  pub goal_sum : (rule : FormModel) (goal : GoalModel) (destination : DestinationModel) (tree : ExprModel) (whole : Bool) (found : MatchModel) → AddressReadsWords bits rule.addr → ReadsWords bits rule.value
+      → goal_match temps rule goal destination tree whole ≡ Some found → leaves_sum found.sites ≤ goal_nodes destination tree whole
   goal_sum rule (into_reg q) (into id) tree whole found u v h = kind_sum tree whole found (goal_kind rule (into_reg q) (into id) tree whole found v tt h)
   goal_sum rule into_file filed tree whole found u v h = kind_sum tree whole found (goal_kind rule into_file filed tree whole found v tt h)
   goal_sum rule into_memory (cell a) tree whole found u v h = kind_sum tree true found (memory_kind rule (cell a) tree true found v tt h)

@@ -5,43 +5,43 @@ use Rattle.std.specs.Int.{bit_at}
 use Rattle.std.proofs.lemmas.Nat.Bits.{bit_at-zero, bit_at_and, bit_at_or, bit_at-pow_same, bit_at-lt}
 use Rattle.std.proofs.lemmas.Bool.{eqb-true}
 use Rattle.net_model.specs.declared.states.State.{State}
-use Rattle.net_model.specs.Terms.{Term}
+use Rattle.net_model.specs.Exprs.{ExprModel}
 use Rattle.net_model.specs.Patterns.{Pattern}
-use Rattle.form_model.specs.Rules.{Rule, Kind, into_reg, into_memory, into_file, branches, Destination, into, filed, cell, stored, temporary, tested}
-use Rattle.form_model.specs.Matches.{in_register, Site, Found, settled, both, matched, address_match, goal_match, taken}
+use Rattle.form_model.specs.Forms.{FormModel, GoalModel, into_reg, into_memory, into_file, branches, DestinationModel, into, filed, cell, stored, temporary, tested}
+use Rattle.form_model.specs.Matches.{in_register, LeafModel, MatchModel, settled, both, matched, address_match, goal_match, taken}
 use Rattle.form_model.specs.Shapes.{is_shape, shape_setting, shows_below}
-use Rattle.form_model.specs.Plans.{Plan, use_form, Operands, no_operands, operand_then, Cuts, no_cuts, cut_then}
-use Rattle.form_model.specs.Covers.{Stock, Operand, operands_of, cuts_of, form_clobbers, written, all_written, home_destination, home_set, IsOrderly, AreOrderly, AreCut}
-use Rattle.form_model.specs.Steps.{OperandCells, holding, cell_of, operand_homes, cut_count, operands_count, cuts_count, operand_counts, cut_counts, rule_or_none, found_or_none, operand_cells_or_none, rule_at, found_at}
+use Rattle.form_model.specs.CoverModels.{CoverModel, use_form, CoverOperandsModel, no_operands, operand_then, CoverCutsModel, no_cuts, cut_then}
+use Rattle.form_model.specs.Covers.{StockModel, Operand, operands_of, cuts_of, form_clobbers, written, all_written, home_destination, home_set, IsOrderly, AreOrderly, AreCut}
+use Rattle.form_model.specs.Steps.{OperandCellsModel, holding, cell_of, operand_homes, cut_count, operands_count, cuts_count, operand_counts, cut_counts, form_or_none, match_or_none, operand_cells_or_none, form_at, match_at}
 use Rattle.emit_seq.specs.Formed.{IsFormed}
 use Rattle.emit_seq.specs.Leaves.{ReadsFrom, DestinationReads}
 use Rattle.form_model.proofs.SettingLaws.{picked}
 use Rattle.emit_seq.proofs.Matched.{Joined, joined, settled_some}
-use Rattle.emit_seq.proofs.Sites.{SitesRead, read-append, matched_taken}
+use Rattle.emit_seq.proofs.Sites.{LeavesRead, read-append, matched_taken}
 use Rattle.form_model.proofs.Zips.{get_mapped, length_in, length_out, map-remove, total, total-insert}
 use Rattle.emit_seq.specs.Inner.CellLists.{operands_in}
-use Rattle.emit_seq.proofs.Walks.{past_sites, past_total}
+use Rattle.emit_seq.proofs.Walks.{past_leaves, past_total}
 
-pub record IsOpened (stock : Stock) (k : ℕ) (ps : Operands) (cs : Cuts) (destination : Destination) (tree : Term) (whole : Bool) : Type 0 where
-  pub listed : slice_get stock.rules k ≡ Some (rule_at stock k)
-  pub takes : taken stock.temps (rule_at stock k) destination tree whole ≡ Some (found_at stock k destination tree whole)
-  pub operands : AreOrderly stock (operands_of (found_at stock k destination tree whole).sites) ps
-  pub cuts : AreCut stock (cuts_of (found_at stock k destination tree whole).sites) cs
+pub record IsOpened (stock : StockModel) (k : ℕ) (ps : CoverOperandsModel) (cs : CoverCutsModel) (destination : DestinationModel) (tree : ExprModel) (whole : Bool) : Type 0 where
+  pub listed : slice_get stock.rules k ≡ Some (form_at stock k)
+  pub takes : taken stock.temps (form_at stock k) destination tree whole ≡ Some (match_at stock k destination tree whole)
+  pub operands : AreOrderly stock (operands_of (match_at stock k destination tree whole).sites) ps
+  pub cuts : AreCut stock (cuts_of (match_at stock k destination tree whole).sites) cs
 
-pub opened_plan : (stock : Stock) (k : ℕ) (ps : Operands) (cs : Cuts) (destination : Destination) (tree : Term) (whole : Bool) → IsOrderly stock destination tree whole (use_form k ps cs)
+pub opened_cover : (stock : StockModel) (k : ℕ) (ps : CoverOperandsModel) (cs : CoverCutsModel) (destination : DestinationModel) (tree : ExprModel) (whole : Bool) → IsOrderly stock destination tree whole (use_form k ps cs)
     → IsOpened stock k ps cs destination tree whole
-opened_plan stock k ps cs destination tree whole c =
-    let er : rule_at stock k ≡ c.0 = ap rule_or_none c.1 in
-    let et : taken stock.temps (rule_at stock k) destination tree whole ≡ Some c.2 = ap (λ r. taken stock.temps r destination tree whole) er ∙ c.3 in
-    let em : found_at stock k destination tree whole ≡ c.2 = ap found_or_none et in
+opened_cover stock k ps cs destination tree whole c =
+    let er : form_at stock k ≡ c.0 = ap form_or_none c.1 in
+    let et : taken stock.temps (form_at stock k) destination tree whole ≡ Some c.2 = ap (λ r. taken stock.temps r destination tree whole) er ∙ c.3 in
+    let em : match_at stock k destination tree whole ≡ c.2 = ap match_or_none et in
     record {
-      listed = c.1 ∙ ap (λ (r : Rule). Some r) (sym er);
-      takes = et ∙ ap (λ (f : Found). Some f) (sym em);
-      operands = subst (λ (f : Found). AreOrderly stock (operands_of f.sites) ps) (sym em) c.4;
-      cuts = subst (λ (f : Found). AreCut stock (cuts_of f.sites) cs) (sym em) c.5;
+      listed = c.1 ∙ ap (λ (r : FormModel). Some r) (sym er);
+      takes = et ∙ ap (λ (f : MatchModel). Some f) (sym em);
+      operands = subst (λ (f : MatchModel). AreOrderly stock (operands_of f.sites) ps) (sym em) c.4;
+      cuts = subst (λ (f : MatchModel). AreCut stock (cuts_of f.sites) cs) (sym em) c.5;
     }
 
-pub record IsOpenedOperand (stock : Stock) (left : List OperandCells) (i : ℕ) (cells : OperandCells) (p : Plan) (ps : Operands) : Type 0 where
+pub record IsOpenedOperand (stock : StockModel) (left : List OperandCellsModel) (i : ℕ) (cells : OperandCellsModel) (p : CoverModel) (ps : CoverOperandsModel) : Type 0 where
   pub at : slice_get left i ≡ Some cells
   pub orderly : IsOrderly stock (home_destination cells.operand.home) cells.operand.tree cells.operand.whole p
   pub apart : (r : ℕ) → cells.operand.home ≡ in_register r → bit_at (all_written stock.rules ps) r ≡ 0
@@ -52,58 +52,58 @@ apart_bit n k e =
     let h : bit_at (bit_and n (2 ^ k)) k ≡ 0 = ap (λ z. bit_at z k) e ∙ bit_at-zero k in
     omega (arith, bit_at_and n (2 ^ k) k, bit_at-pow_same k, bit_at-lt n k, h)
 
-pub opened_operand : (stock : Stock) (left : List OperandCells) (i : ℕ) (p : Plan) (ps : Operands) → AreOrderly stock (operands_in left) (operand_then i p ps)
+pub opened_operand : (stock : StockModel) (left : List OperandCellsModel) (i : ℕ) (p : CoverModel) (ps : CoverOperandsModel) → AreOrderly stock (operands_in left) (operand_then i p ps)
     → IsOpenedOperand stock left i (operand_cells_or_none (slice_get left i)) p ps
 opened_operand stock left i p ps c =
-    let (cells, e, eo) = get_mapped (λ (s : OperandCells). s.operand) left i c.0 c.1 in
+    let (cells, e, eo) = get_mapped (λ (s : OperandCellsModel). s.operand) left i c.0 c.1 in
     let es : operand_cells_or_none (slice_get left i) ≡ cells = ap operand_cells_or_none e in
-    let eq : (operand_cells_or_none (slice_get left i)).operand ≡ c.0 = ap (λ (s : OperandCells). s.operand) es ∙ eo in
+    let eq : (operand_cells_or_none (slice_get left i)).operand ≡ c.0 = ap (λ (s : OperandCellsModel). s.operand) es ∙ eo in
     record {
-      at = e ∙ ap (λ (s : OperandCells). Some s) (sym es);
+      at = e ∙ ap (λ (s : OperandCellsModel). Some s) (sym es);
       orderly = subst (λ (o : Operand). IsOrderly stock (home_destination o.home) o.tree o.whole p) (sym eq) c.2;
       apart = λ r h. apart_bit (all_written stock.rules ps) r (ap (λ z. bit_and (all_written stock.rules ps) (home_set z)) (sym (ap (λ (o : Operand). o.home) (sym eq) ∙ h)) ∙ c.3);
-      rest = subst (λ z. AreOrderly stock z ps) (sym (map-remove (λ (s : OperandCells). s.operand) left i)) c.4;
+      rest = subst (λ z. AreOrderly stock z ps) (sym (map-remove (λ (s : OperandCellsModel). s.operand) left i)) c.4;
     }
 
 -- ---- how many operands, cuts and cells there are
 
-pub operands_long : (stock : Stock) (ps : Operands) (left : List Operand) → AreOrderly stock left ps → length (operand_counts ps) ≡ length left
+pub operands_long : (stock : StockModel) (ps : CoverOperandsModel) (left : List Operand) → AreOrderly stock left ps → length (operand_counts ps) ≡ length left
 operands_long stock no_operands left c = sym (ap length c)
 operands_long stock (operand_then i p ps) left c =
     let h = operands_long stock ps (remove left i) c.4 in
     omega (arith, h, length_in (operand_counts ps) i (cut_count p), length_out left i c.0 c.1)
 
 -- as many homes as there are operands
-pub homes_places : (stock : Stock) (ps : Operands) (held : ℕ) → length (operand_homes stock ps held) ≡ length (operand_counts ps)
+pub homes_places : (stock : StockModel) (ps : CoverOperandsModel) (held : ℕ) → length (operand_homes stock ps held) ≡ length (operand_counts ps)
 homes_places stock no_operands held = refl
 homes_places stock (operand_then i p ps) held =
     let h = homes_places stock ps (holding held (cell_of stock p held)) in
     length_in (operand_homes stock ps (holding held (cell_of stock p held))) i _ ∙ ap (λ n. suc n) h ∙ sym (length_in (operand_counts ps) i (cut_count p))
 
-pub homes_long : (stock : Stock) (ps : Operands) (left : List Operand) (held : ℕ) → AreOrderly stock left ps → length (operand_homes stock ps held) ≡ length left
+pub homes_long : (stock : StockModel) (ps : CoverOperandsModel) (left : List Operand) (held : ℕ) → AreOrderly stock left ps → length (operand_homes stock ps held) ≡ length left
 homes_long stock ps left held c = homes_places stock ps held ∙ operands_long stock ps left c
 
-pub cuts_long : (stock : Stock) (cs : Cuts) (cuts : List Term) → AreCut stock cuts cs → length (cut_counts cs) ≡ length cuts
+pub cuts_long : (stock : StockModel) (cs : CoverCutsModel) (cuts : List ExprModel) → AreCut stock cuts cs → length (cut_counts cs) ≡ length cuts
 cuts_long stock no_cuts cuts c = sym (ap length c)
 cuts_long stock (cut_then p cs) cuts c = let h = cuts_long stock cs c.1 c.5 in omega (arith, h, ap length c.2)
 
-operands_total : (ps : Operands) → total (operand_counts ps) ≡ operands_count ps
+operands_total : (ps : CoverOperandsModel) → total (operand_counts ps) ≡ operands_count ps
 operands_total no_operands = refl
 operands_total (operand_then i p ps) = let h = operands_total ps in omega (arith, h, total-insert (operand_counts ps) i (cut_count p))
 
-cuts_total : (cs : Cuts) → total (cut_counts cs) + length (cut_counts cs) ≡ cuts_count cs
+cuts_total : (cs : CoverCutsModel) → total (cut_counts cs) + length (cut_counts cs) ≡ cuts_count cs
 cuts_total no_cuts = refl
 cuts_total (cut_then p cs) = let h = cuts_total cs in omega (arith, h)
 
 -- the cell past those of all sites is the one past the cover's
-pub past_plan : (stock : Stock) (sites : List Site) (ps : Operands) (cs : Cuts) (n : ℕ) → AreOrderly stock (operands_of sites) ps → AreCut stock (cuts_of sites) cs
-    → past_sites sites (operand_counts ps) (cut_counts cs) n ≡ n + (operands_count ps + cuts_count cs)
-past_plan stock sites ps cs n o c =
+pub past_cover : (stock : StockModel) (sites : List LeafModel) (ps : CoverOperandsModel) (cs : CoverCutsModel) (n : ℕ) → AreOrderly stock (operands_of sites) ps → AreCut stock (cuts_of sites) cs
+    → past_leaves sites (operand_counts ps) (cut_counts cs) n ≡ n + (operands_count ps + cuts_count cs)
+past_cover stock sites ps cs n o c =
     omega (arith, past_total sites (operand_counts ps) (cut_counts cs) n (operands_long stock ps (operands_of sites) o) (cuts_long stock cs (cuts_of sites) c), operands_total ps, cuts_total cs)
 
 -- ---- a form that goes into a register is one of that register
 
-pub into_formed : (temps : ℕ) (file_storage : Option ℕ) (patterns : List Pattern) (count size : ℕ) (rule : Rule) (goal : Kind) (id : ℕ) (tree : Term) (whole : Bool) (found : Found)
+pub into_formed : (temps : ℕ) (file_storage : Option ℕ) (patterns : List Pattern) (count size : ℕ) (rule : FormModel) (goal : GoalModel) (id : ℕ) (tree : ExprModel) (whole : Bool) (found : MatchModel)
     → IsFormed file_storage patterns count size rule goal → goal_match temps rule goal (into id) tree whole ≡ Some found → (id < count) × (bit_at rule.clobbers id ≡ 1)
 into_formed temps file_storage patterns count size rule (into_reg q) id tree whole found f h =
     let c : ((q == id) ≡ true) × (matched temps rule.value tree whole ≡ Some found) = picked (q == id) (matched temps rule.value tree whole) found h in
@@ -111,40 +111,40 @@ into_formed temps file_storage patterns count size rule (into_reg q) id tree who
     (subst (λ z. z < count) e f.below, subst (λ z. bit_at rule.clobbers z ≡ 1) e f.clobbered)
 into_formed temps file_storage patterns count size rule goal id tree whole found f h = absurd (cc)
 
-pub writes_own : (rules : List Rule) (k : ℕ) (rule : Rule) (ps : Operands) (cs : Cuts) (id : ℕ) → slice_get rules k ≡ Some rule → bit_at rule.clobbers id ≡ 1
+pub writes_own : (rules : List FormModel) (k : ℕ) (rule : FormModel) (ps : CoverOperandsModel) (cs : CoverCutsModel) (id : ℕ) → slice_get rules k ≡ Some rule → bit_at rule.clobbers id ≡ 1
     → bit_at (written rules (use_form k ps cs)) id ≡ 1
 writes_own rules k rule ps cs id e h =
     let c : bit_at (form_clobbers (slice_get rules k)) id ≡ 1 = ap (λ z. bit_at (form_clobbers z) id) e ∙ h in
     omega (arith, bit_at_or (form_clobbers (slice_get rules k)) (all_written rules ps) id, c, bit_at-lt (all_written rules ps) id)
 
 -- the trees of all sites of a form read nothing below, those of a store's address among them
-address_sites : (temps : ℕ) (before : State) (o : Option Term) (destination : Destination) (x : Found) → address_match temps o destination ≡ Some x → DestinationReads temps before destination
-    → SitesRead temps before x.sites
+address_sites : (temps : ℕ) (before : State) (o : Option ExprModel) (destination : DestinationModel) (x : MatchModel) → address_match temps o destination ≡ Some x → DestinationReads temps before destination
+    → LeavesRead temps before x.sites
 address_sites temps before None destination x h p = absurd (cc)
 address_sites temps before (Some addr) (cell a) x h p =
     let c : (is_shape addr ≡ true) × (settled (shape_setting addr a) ≡ Some x) = picked (is_shape addr) (settled (shape_setting addr a)) x h in
     let (b, e, q) = settled_some (shape_setting addr a) x c.1 in
-    subst (λ (z : Found). SitesRead temps before z.sites) q tt
+    subst (λ (z : MatchModel). LeavesRead temps before z.sites) q tt
 address_sites temps before (Some addr) (stored address) x h p = (matched_taken temps before addr address false x h).sites p
 address_sites temps before (Some addr) temporary x h p =
     let c : ((is_shape addr && shows_below addr temps) ≡ true) × (settled (Some 0) ≡ Some x) = picked (is_shape addr && shows_below addr temps) (settled (Some 0)) x h in
     let q : record { setting = 0; sites = [] } ≡ x = cc in
-    subst (λ (z : Found). SitesRead temps before z.sites) q tt
+    subst (λ (z : MatchModel). LeavesRead temps before z.sites) q tt
 address_sites temps before (Some addr) (into id) x h p = absurd (cc)
 address_sites temps before (Some addr) filed x h p = absurd (cc)
 address_sites temps before (Some addr) tested x h p = absurd (cc)
 
-memory_sites : (temps : ℕ) (before : State) (rule : Rule) (destination : Destination) (tree : Term) (whole : Bool) (found : Found)
+memory_sites : (temps : ℕ) (before : State) (rule : FormModel) (destination : DestinationModel) (tree : ExprModel) (whole : Bool) (found : MatchModel)
     → both (address_match temps rule.addr destination) (matched temps rule.value tree whole) ≡ Some found
-    → ReadsFrom temps before tree → DestinationReads temps before destination → SitesRead temps before found.sites
+    → ReadsFrom temps before tree → DestinationReads temps before destination → LeavesRead temps before found.sites
 memory_sites temps before rule destination tree whole found h r p =
     let j : Joined (address_match temps rule.addr destination) (matched temps rule.value tree whole) found = joined _ _ _ h in
-    subst (λ (z : Found). SitesRead temps before z.sites) j.is
+    subst (λ (z : MatchModel). LeavesRead temps before z.sites) j.is
     (read-append temps before j.first.sites j.second.sites (address_sites temps before rule.addr destination j.first j.is_first p)
     ((matched_taken temps before rule.value tree whole j.second j.is_second).sites r))
 
-pub goal_sites : (temps : ℕ) (before : State) (rule : Rule) (goal : Kind) (destination : Destination) (tree : Term) (whole : Bool) (found : Found)
-    → goal_match temps rule goal destination tree whole ≡ Some found → ReadsFrom temps before tree → DestinationReads temps before destination → SitesRead temps before found.sites
+pub goal_sites : (temps : ℕ) (before : State) (rule : FormModel) (goal : GoalModel) (destination : DestinationModel) (tree : ExprModel) (whole : Bool) (found : MatchModel)
+    → goal_match temps rule goal destination tree whole ≡ Some found → ReadsFrom temps before tree → DestinationReads temps before destination → LeavesRead temps before found.sites
 goal_sites temps before rule (into_reg q) (into id) tree whole found h r p =
     let c : ((q == id) ≡ true) × (matched temps rule.value tree whole ≡ Some found) = picked (q == id) (matched temps rule.value tree whole) found h in
     (matched_taken temps before rule.value tree whole found c.1).sites r

@@ -4,18 +4,18 @@ use Rattle.std.specs.Prelude.{slice_get, remove}
 use Rattle.std.specs.Int.{bit_at}
 use Rattle.std.proofs.lemmas.Nat.Bits.{bit_at_or, bit_at-lt}
 use Rattle.std.proofs.lemmas.Bool.{true≢false, eqb-true, eq-eqb, cases_Bool, and_parts}
-use Rattle.net_model.specs.Terms.{Term}
+use Rattle.net_model.specs.Exprs.{ExprModel}
 use Rattle.net_model.specs.Symbolic.{no_state}
 use Rattle.net_model.specs.Patterns.{Pattern}
 use Rattle.form_model.specs.declared.forms.Step.{Step}
 use Rattle.form_model.specs.Shapes.{is_shape, shape_setting, shows_below}
-use Rattle.form_model.specs.Rules.{Rule, Kind, into_reg, into_memory, into_file, branches, Destination, into, filed, cell, stored, temporary, tested}
-use Rattle.form_model.specs.Matches.{Home, in_register, in_file, Site, Found, settled, both, matched, address_match, goal_match}
-use Rattle.form_model.specs.Plans.{Plan, use_form, Operands, no_operands, operand_then, Cuts, no_cuts, cut_then}
-use Rattle.form_model.specs.Covers.{Stock, Operand, operands_of, home_destination, written, all_written, IsOrderly, AreOrderly, AreCut}
-use Rattle.form_model.specs.Effects.{Operation, operation_or_none, operation_of, register, reads, writes, term_reads}
+use Rattle.form_model.specs.Forms.{FormModel, GoalModel, into_reg, into_memory, into_file, branches, DestinationModel, into, filed, cell, stored, temporary, tested}
+use Rattle.form_model.specs.Matches.{HomeModel, in_register, in_file, LeafModel, MatchModel, settled, both, matched, address_match, goal_match}
+use Rattle.form_model.specs.CoverModels.{CoverModel, use_form, CoverOperandsModel, no_operands, operand_then, CoverCutsModel, no_cuts, cut_then}
+use Rattle.form_model.specs.Covers.{StockModel, Operand, operands_of, home_destination, written, all_written, IsOrderly, AreOrderly, AreCut}
+use Rattle.form_model.specs.Effects.{Operation, operation_or_none, operation_of, register, reads, writes, expr_reads}
 use Rattle.form_model.specs.Live.{Regs, no_regs, live_before, singles, AllSpare}
-use Rattle.form_model.specs.Steps.{OperandCells, CutCells, holding, cell_of, operand_counts, cut_counts, plan_operand_cells, plan_cut_cells, operand_cells_or_none, rule_at, found_at, own_steps, operand_steps, cut_steps, inside_operands, into_cells, plan_setting, branch_setting, form_step, cover_steps}
+use Rattle.form_model.specs.Steps.{OperandCellsModel, CutCellsModel, holding, cell_of, operand_counts, cut_counts, cover_operand_cells, cover_cut_cells, operand_cells_or_none, form_at, match_at, own_steps, operand_steps, cut_steps, inside_operands, into_cells, cover_setting, branch_setting, form_step, cover_steps}
 use Rattle.emit_seq.specs.Formed.{CellsShown, IsIntoMemory, IsIntoFile, IsFormed, AreFormed}
 use Rattle.emit_seq.specs.Leaves.{IsOfJob}
 use Rattle.emit_seq.specs.Spares.{clobbers_of, step_clobbers, AreShared, ReadsCounter, AreDefined, wanted, AreSpare}
@@ -25,22 +25,22 @@ use Rattle.emit_seq.proofs.Sites.{IsIdOf, operands-append, id_left, id_right, sh
 use Rattle.form_model.proofs.Zips.{Each}
 use Rattle.emit_seq.specs.Inner.CellLists.{operands_in, trees_in}
 use Rattle.emit_seq.proofs.Walks.{cells_operands, cells_trees}
-use Rattle.emit_seq.proofs.Opened.{IsOpened, opened_plan, IsOpenedOperand, opened_operand, writes_own}
+use Rattle.emit_seq.proofs.Opened.{IsOpened, opened_cover, IsOpenedOperand, opened_operand, writes_own}
 use Rattle.emit_seq.proofs.Lives.{spare-append, apart-append, live-steps, IsTidy, tidy_append, IsAlone, alone_append, each_in, given_of, woven_alone}
 
 -- ---- what a form's own step reads, writes and clobbers
 
 -- the register that the destination is
-abbrev pub IsOwn : Destination → ℕ → Type 0
+abbrev pub IsOwn : DestinationModel → ℕ → Type 0
 IsOwn (into id) r = id ≡ r
 IsOwn destination r = ⊥
 
 -- a destination other than a test, which has no step of its own
-abbrev pub HasStep : Destination → Type 0
+abbrev pub HasStep : DestinationModel → Type 0
 HasStep tested = ⊥
 HasStep destination = Unit {0}
 
-record IsFormStep (file_storage : Option ℕ) (patterns : List Pattern) (rule : Rule) (destination : Destination) (found : Found) : Type 0 where
+record IsFormStep (file_storage : Option ℕ) (patterns : List Pattern) (rule : FormModel) (destination : DestinationModel) (found : MatchModel) : Type 0 where
   read : (i r : ℕ) → reads (operation_of file_storage patterns (record { pattern = rule.pattern; setting = i })) (register r) ≡ true → IsIdOf (operands_of found.sites) r
   owns : (i r : ℕ) → IsOwn destination r → writes (operation_of file_storage patterns (record { pattern = rule.pattern; setting = i })) r ≡ true
   owned : (i r : ℕ) → writes (operation_of file_storage patterns (record { pattern = rule.pattern; setting = i })) r ≡ true → IsOwn destination r
@@ -49,7 +49,7 @@ or_some : (a b : Bool) → (a || b) ≡ true → (a ≡ true) ⊎ (b ≡ true)
 or_some true b h = inl refl
 or_some false b h = inr h
 
-address_given : (temps size : ℕ) (at : Term) (destination : Destination) (x : Found) → CellsShown size at → address_match temps (Some at) destination ≡ Some x → (i r : ℕ) → term_reads i at (register r) ≡ true
+address_given : (temps size : ℕ) (at : ExprModel) (destination : DestinationModel) (x : MatchModel) → CellsShown size at → address_match temps (Some at) destination ≡ Some x → (i r : ℕ) → expr_reads i at (register r) ≡ true
     → IsIdOf (operands_of x.sites) r
 address_given temps size at (cell a) x q h i r e =
     let c : (is_shape at ≡ true) × (settled (shape_setting at a) ≡ Some x) = picked (is_shape at) (settled (shape_setting at a)) x h in
@@ -63,39 +63,39 @@ address_given temps size at (into id) x q h i r e = absurd (cc)
 address_given temps size at filed x q h i r e = absurd (cc)
 address_given temps size at tested x q h i r e = absurd (cc)
 
-memory_step : (temps size : ℕ) (file_storage : Option ℕ) (patterns : List Pattern) (rule : Rule) (destination : Destination) (tree : Term) (whole : Bool) (found : Found) → IsIntoMemory file_storage patterns size rule
+memory_step : (temps size : ℕ) (file_storage : Option ℕ) (patterns : List Pattern) (rule : FormModel) (destination : DestinationModel) (tree : ExprModel) (whole : Bool) (found : MatchModel) → IsIntoMemory file_storage patterns size rule
     → both (address_match temps rule.addr destination) (matched temps rule.value tree whole) ≡ Some found → (i r : ℕ)
     → reads (operation_of file_storage patterns (record { pattern = rule.pattern; setting = i })) (register r) ≡ true → IsIdOf (operands_of found.sites) r
 memory_step temps size file_storage patterns rule destination tree whole found f h i r e =
     let j : Joined (address_match temps rule.addr destination) (matched temps rule.value tree whole) found = joined _ _ _ h in
-    let e' : (term_reads i f.addr (register r) || term_reads i f.value (register r)) ≡ true = sym (ap (λ (p : Option Pattern). reads (operation_or_none file_storage p i) (register r)) f.is) ∙ e in
-    subst (λ (z : Found). IsIdOf (operands_of z.sites) r) j.is
+    let e' : (expr_reads i f.addr (register r) || expr_reads i f.value (register r)) ≡ true = sym (ap (λ (p : Option Pattern). reads (operation_or_none file_storage p i) (register r)) f.is) ∙ e in
+    subst (λ (z : MatchModel). IsIdOf (operands_of z.sites) r) j.is
     (subst (λ z. IsIdOf z r) (sym (operands-append j.first.sites j.second.sites))
-    (elim (or_some (term_reads i f.addr (register r)) (term_reads i f.value (register r)) e') as (λ _. IsIdOf (operands_of j.first.sites ++ operands_of j.second.sites) r) [
+    (elim (or_some (expr_reads i f.addr (register r)) (expr_reads i f.value (register r)) e') as (λ _. IsIdOf (operands_of j.first.sites ++ operands_of j.second.sites) r) [
       | inl u ↦ id_left (operands_of j.first.sites) (operands_of j.second.sites) r
           (address_given temps size f.at destination j.first f.shown_addr (ap (λ z. address_match temps z destination) (sym f.has) ∙ j.is_first) i r (f.alike_addr.reads i r ∙ u))
       | inr u ↦ id_right (operands_of j.first.sites) (operands_of j.second.sites) r
           ((matched_taken temps no_state rule.value tree whole j.second j.is_second).given size f.shown_value i r (f.alike_value.reads i r ∙ u))
     ]))
 
-memory_writes : (size : ℕ) (file_storage : Option ℕ) (patterns : List Pattern) (rule : Rule) → IsIntoMemory file_storage patterns size rule → (i r : ℕ) → writes (operation_of file_storage patterns (record { pattern = rule.pattern; setting = i })) r ≡ true → ⊥
+memory_writes : (size : ℕ) (file_storage : Option ℕ) (patterns : List Pattern) (rule : FormModel) → IsIntoMemory file_storage patterns size rule → (i r : ℕ) → writes (operation_of file_storage patterns (record { pattern = rule.pattern; setting = i })) r ≡ true → ⊥
 memory_writes size file_storage patterns rule f i r e = true≢false (sym e ∙ ap (λ (p : Option Pattern). writes (operation_or_none file_storage p i) r) f.is)
 
 -- a form that writes the file
-file_read : (temps size : ℕ) (file_storage : Option ℕ) (patterns : List Pattern) (rule : Rule) (tree : Term) (whole : Bool) (found : Found) → IsIntoFile file_storage patterns size rule
+file_read : (temps size : ℕ) (file_storage : Option ℕ) (patterns : List Pattern) (rule : FormModel) (tree : ExprModel) (whole : Bool) (found : MatchModel) → IsIntoFile file_storage patterns size rule
     → matched temps rule.value tree whole ≡ Some found → (i r : ℕ)
     → reads (operation_of file_storage patterns (record { pattern = rule.pattern; setting = i })) (register r) ≡ true → IsIdOf (operands_of found.sites) r
 file_read temps size file_storage patterns rule tree whole found f h i r e =
-    let e' : (term_reads i f.addr (register r) || term_reads i f.value (register r)) ≡ true = sym (ap (λ (p : Option Pattern). reads (operation_or_none file_storage p i) (register r)) f.is) ∙ e in
-    elim (or_some (term_reads i f.addr (register r)) (term_reads i f.value (register r)) e') as (λ _. IsIdOf (operands_of found.sites) r) [
+    let e' : (expr_reads i f.addr (register r) || expr_reads i f.value (register r)) ≡ true = sym (ap (λ (p : Option Pattern). reads (operation_or_none file_storage p i) (register r)) f.is) ∙ e in
+    elim (or_some (expr_reads i f.addr (register r)) (expr_reads i f.value (register r)) e') as (λ _. IsIdOf (operands_of found.sites) r) [
       | inl u ↦ absurd (true≢false (sym (f.alike_addr.reads i r ∙ u) ∙ shape_unread f.at i r f.shape))
       | inr u ↦ (matched_taken temps no_state rule.value tree whole found h).given size f.shown_value i r (f.alike_value.reads i r ∙ u)
     ]
 
-file_writes : (size : ℕ) (file_storage : Option ℕ) (patterns : List Pattern) (rule : Rule) → IsIntoFile file_storage patterns size rule → (i r : ℕ) → writes (operation_of file_storage patterns (record { pattern = rule.pattern; setting = i })) r ≡ true → ⊥
+file_writes : (size : ℕ) (file_storage : Option ℕ) (patterns : List Pattern) (rule : FormModel) → IsIntoFile file_storage patterns size rule → (i r : ℕ) → writes (operation_of file_storage patterns (record { pattern = rule.pattern; setting = i })) r ≡ true → ⊥
 file_writes size file_storage patterns rule f i r e = true≢false (sym e ∙ ap (λ (p : Option Pattern). writes (operation_or_none file_storage p i) r) f.is)
 
-form_step_of : (temps size : ℕ) (file_storage : Option ℕ) (patterns : List Pattern) (count : ℕ) (rule : Rule) (goal : Kind) (destination : Destination) (tree : Term) (whole : Bool) (found : Found)
+form_step_of : (temps size : ℕ) (file_storage : Option ℕ) (patterns : List Pattern) (count : ℕ) (rule : FormModel) (goal : GoalModel) (destination : DestinationModel) (tree : ExprModel) (whole : Bool) (found : MatchModel)
     → IsFormed file_storage patterns count size rule goal → HasStep destination → goal_match temps rule goal destination tree whole ≡ Some found → IsFormStep file_storage patterns rule destination found
 form_step_of temps size file_storage patterns count rule (into_reg q) (into id) tree whole found f s h =
     let c : ((q == id) ≡ true) × (matched temps rule.value tree whole ≡ Some found) = picked (q == id) (matched temps rule.value tree whole) found h in
@@ -118,29 +118,29 @@ form_step_of temps size file_storage patterns count rule (branches when_one to) 
 form_step_of temps size file_storage patterns count rule goal destination tree whole found f s h = absurd (cc)
 
 -- the pattern's clobbers are those of each of its forms
-clobbers_first : (rules : List Rule) (p k : ℕ) (rule : Rule) → slice_get rules k ≡ Some rule → rule.pattern ≡ p → (j : ℕ) × (a : Rule) × (slice_get rules j ≡ Some a) × (a.pattern ≡ p) × (clobbers_of rules p ≡ a.clobbers)
+clobbers_first : (rules : List FormModel) (p k : ℕ) (rule : FormModel) → slice_get rules k ≡ Some rule → rule.pattern ≡ p → (j : ℕ) × (a : FormModel) × (slice_get rules j ≡ Some a) × (a.pattern ≡ p) × (clobbers_of rules p ≡ a.clobbers)
 clobbers_first [] p k rule h e = absurd (cc)
 clobbers_first (a ∷ rules) p zero rule h e =
     let q : a ≡ rule = cc in
-    let ep : a.pattern ≡ p = ap (λ (z : Rule). z.pattern) q ∙ e in
+    let ep : a.pattern ≡ p = ap (λ (z : FormModel). z.pattern) q ∙ e in
     (0, a, refl, ep, rw (eq-eqb a.pattern p ep) refl)
 clobbers_first (a ∷ rules) p (suc k) rule h e =
     elim (cases_Bool (a.pattern == p))
-    as (λ _. (j : ℕ) × (b : Rule) × (slice_get (a ∷ rules) j ≡ Some b) × (b.pattern ≡ p) × (clobbers_of (a ∷ rules) p ≡ b.clobbers)) [
+    as (λ _. (j : ℕ) × (b : FormModel) × (slice_get (a ∷ rules) j ≡ Some b) × (b.pattern ≡ p) × (clobbers_of (a ∷ rules) p ≡ b.clobbers)) [
       | inl u ↦ (0, a, refl, eqb-true a.pattern p u, rw u refl)
       | inr u ↦ let (j, b, eb, ep, ec) = clobbers_first rules p k rule h e in (suc j, b, eb, ep, rw u ec)
     ]
 
-pub clobbers_at : (rules : List Rule) → AreShared rules → (k : ℕ) (rule : Rule) → slice_get rules k ≡ Some rule → clobbers_of rules rule.pattern ≡ rule.clobbers
+pub clobbers_at : (rules : List FormModel) → AreShared rules → (k : ℕ) (rule : FormModel) → slice_get rules k ≡ Some rule → clobbers_of rules rule.pattern ≡ rule.clobbers
 clobbers_at rules shared k rule h =
     let (j, a, ea, ep, ec) = clobbers_first rules rule.pattern k rule h refl in
     ec ∙ shared j k a rule ea h ep
 
 -- ---- operands
 
-pub id_split : (left : List OperandCells) (i : ℕ) (cells : OperandCells) (r : ℕ) → slice_get left i ≡ Some cells → IsIdOf (operands_in left) r → (cells.operand.home ≡ in_register r) ⊎ IsIdOf (operands_in (remove left i)) r
+pub id_split : (left : List OperandCellsModel) (i : ℕ) (cells : OperandCellsModel) (r : ℕ) → slice_get left i ≡ Some cells → IsIdOf (operands_in left) r → (cells.operand.home ≡ in_register r) ⊎ IsIdOf (operands_in (remove left i)) r
 id_split [] i cells r e h = absurd h
-id_split (x ∷ left) zero cells r e (inl h) = inl (let q : cells ≡ x = cc in ap (λ (z : OperandCells). z.operand.home) q ∙ h)
+id_split (x ∷ left) zero cells r e (inl h) = inl (let q : cells ≡ x = cc in ap (λ (z : OperandCellsModel). z.operand.home) q ∙ h)
 id_split (x ∷ left) zero cells r e (inr h) = inr h
 id_split (x ∷ left) (suc i) cells r e (inl h) = inr (inl h)
 id_split (x ∷ left) (suc i) cells r e (inr h) =
@@ -155,11 +155,11 @@ operand_split (x ∷ left) (suc i) o r e (inr h) =
     elim (operand_split left i o r e h) as (λ _. (o.home ≡ in_register r) ⊎ IsIdOf (remove (x ∷ left) (suc i)) r) [ inl u ↦ inl u | inr u ↦ inr (inr u) ]
 
 -- an operand's home is its cover's own register
-pub home_own : (home : Home) (r : ℕ) → home ≡ in_register r → IsOwn (home_destination home) r
+pub home_own : (home : HomeModel) (r : ℕ) → home ≡ in_register r → IsOwn (home_destination home) r
 home_own (in_register id) r e = cc
 home_own (in_file shape) r e = absurd (cc)
 
-pub home_step : (home : Home) → HasStep (home_destination home)
+pub home_step : (home : HomeModel) → HasStep (home_destination home)
 home_step (in_register id) = tt
 home_step (in_file shape) = tt
 
@@ -198,7 +198,7 @@ module _ (m : Step → Operation) (c : Step → Regs) (pc : ℕ) where
             | inr u ↦ u
           ]
 
-module _ (stock : Stock) (file_storage : Option ℕ) (patterns : List Pattern) (count pc : ℕ) (formed : AreFormed file_storage patterns count stock.file stock.rules) (shared : AreShared stock.rules) (counter : ReadsCounter stock.rules pc) where
+module _ (stock : StockModel) (file_storage : Option ℕ) (patterns : List Pattern) (count pc : ℕ) (formed : AreFormed file_storage patterns count stock.file stock.rules) (shared : AreShared stock.rules) (counter : ReadsCounter stock.rules pc) where
   abbrev m : Step → Operation
   m = operation_of file_storage patterns
 
@@ -206,7 +206,7 @@ module _ (stock : Stock) (file_storage : Option ℕ) (patterns : List Pattern) (
   c = step_clobbers stock.rules
 
   -- a clobber of a form's step is written by its cover
-  clobber_written : (k : ℕ) (rule : Rule) (ps : Operands) (cs : Cuts) (i r : ℕ) → slice_get stock.rules k ≡ Some rule → c (record { pattern = rule.pattern; setting = i }) r ≡ true
+  clobber_written : (k : ℕ) (rule : FormModel) (ps : CoverOperandsModel) (cs : CoverCutsModel) (i r : ℕ) → slice_get stock.rules k ≡ Some rule → c (record { pattern = rule.pattern; setting = i }) r ≡ true
       → bit_at (written stock.rules (use_form k ps cs)) r ≡ 1
   clobber_written k rule ps cs i r h e =
       writes_own stock.rules k rule ps cs r h (ap (λ n. bit_at n r) (sym (clobbers_at stock.rules shared k rule h)) ∙ eqb-true (bit_at (clobbers_of stock.rules rule.pattern) r) 1 e)
@@ -219,35 +219,35 @@ module _ (stock : Stock) (file_storage : Option ℕ) (patterns : List Pattern) (
 
   -- ---- nothing goes into the program counter
 
-  record IsNoCounter (p : Plan) : Type 0 where
-    none : (tree : Term) (whole : Bool) → IsOrderly stock (into pc) tree whole p → ⊥
+  record IsNoCounter (p : CoverModel) : Type 0 where
+    none : (tree : ExprModel) (whole : Bool) → IsOrderly stock (into pc) tree whole p → ⊥
 
-  record AreNoCounter (ps : Operands) : Type 0 where
+  record AreNoCounter (ps : CoverOperandsModel) : Type 0 where
     none : (left : List Operand) → AreOrderly stock left ps → IsIdOf left pc → ⊥
 
-  goal_is : (temps : ℕ) (rule : Rule) (goal : Kind) (id : ℕ) (tree : Term) (whole : Bool) (found : Found) → goal_match temps rule goal (into id) tree whole ≡ Some found
+  goal_is : (temps : ℕ) (rule : FormModel) (goal : GoalModel) (id : ℕ) (tree : ExprModel) (whole : Bool) (found : MatchModel) → goal_match temps rule goal (into id) tree whole ≡ Some found
       → (goal ≡ into_reg id) × (matched temps rule.value tree whole ≡ Some found)
   goal_is temps rule (into_reg q) id tree whole found h =
       let d : ((q == id) ≡ true) × (matched temps rule.value tree whole ≡ Some found) = picked (q == id) (matched temps rule.value tree whole) found h in
       (ap (λ n. into_reg n) (eqb-true q id d.0), d.1)
   goal_is temps rule goal id tree whole found h = absurd (cc)
 
-  into_shown : (rule : Rule) (r : ℕ) → rule.goal ≡ into_reg r → IsFormed file_storage patterns count stock.file rule rule.goal → CellsShown stock.file rule.value
+  into_shown : (rule : FormModel) (r : ℕ) → rule.goal ≡ into_reg r → IsFormed file_storage patterns count stock.file rule rule.goal → CellsShown stock.file rule.value
   into_shown rule r e f = (subst (IsFormed file_storage patterns count stock.file rule) e f).shown
 
-  form_no_counter : (k : ℕ) (ps : Operands) (cs : Cuts) → AreNoCounter ps → IsNoCounter (use_form k ps cs)
+  form_no_counter : (k : ℕ) (ps : CoverOperandsModel) (cs : CoverCutsModel) → AreNoCounter ps → IsNoCounter (use_form k ps cs)
   form_no_counter k ps cs h = record { none = none' }
     where
-      none' : (tree : Term) (whole : Bool) → IsOrderly stock (into pc) tree whole (use_form k ps cs) → ⊥
+      none' : (tree : ExprModel) (whole : Bool) → IsOrderly stock (into pc) tree whole (use_form k ps cs) → ⊥
       none' tree whole o =
-          let w : IsOpened stock k ps cs (into pc) tree whole = opened_plan stock k ps cs (into pc) tree whole o in
-          let g : ((rule_at stock k).goal ≡ into_reg pc) × (matched stock.temps (rule_at stock k).value tree whole ≡ Some (found_at stock k (into pc) tree whole)) =
-          goal_is stock.temps (rule_at stock k) (rule_at stock k).goal pc tree whole (found_at stock k (into pc) tree whole) w.takes in
-          let (i, e) = counter k (rule_at stock k) w.listed g.0 in
-          h.none (operands_of (found_at stock k (into pc) tree whole).sites) w.operands
-          ((matched_taken stock.temps no_state (rule_at stock k).value tree whole (found_at stock k (into pc) tree whole) g.1).given stock.file (into_shown (rule_at stock k) pc g.0 (formed k (rule_at stock k) w.listed)) i pc e)
+          let w : IsOpened stock k ps cs (into pc) tree whole = opened_cover stock k ps cs (into pc) tree whole o in
+          let g : ((form_at stock k).goal ≡ into_reg pc) × (matched stock.temps (form_at stock k).value tree whole ≡ Some (match_at stock k (into pc) tree whole)) =
+          goal_is stock.temps (form_at stock k) (form_at stock k).goal pc tree whole (match_at stock k (into pc) tree whole) w.takes in
+          let (i, e) = counter k (form_at stock k) w.listed g.0 in
+          h.none (operands_of (match_at stock k (into pc) tree whole).sites) w.operands
+          ((matched_taken stock.temps no_state (form_at stock k).value tree whole (match_at stock k (into pc) tree whole) g.1).given stock.file (into_shown (form_at stock k) pc g.0 (formed k (form_at stock k) w.listed)) i pc e)
 
-  operand_no_counter : (i : ℕ) (p : Plan) (ps : Operands) → IsNoCounter p → AreNoCounter ps → AreNoCounter (operand_then i p ps)
+  operand_no_counter : (i : ℕ) (p : CoverModel) (ps : CoverOperandsModel) → IsNoCounter p → AreNoCounter ps → AreNoCounter (operand_then i p ps)
   operand_no_counter i p ps h k = record { none = none' }
     where
       none' : (left : List Operand) → AreOrderly stock left (operand_then i p ps) → IsIdOf left pc → ⊥
@@ -261,43 +261,43 @@ module _ (stock : Stock) (file_storage : Option ℕ) (patterns : List Pattern) (
   none_no_counter = record { none = λ left o d. subst (λ z. IsIdOf z pc) o d }
 
   mutual
-    no_counter : (p : Plan) → IsNoCounter p
+    no_counter : (p : CoverModel) → IsNoCounter p
     no_counter (use_form k ps cs) = form_no_counter k ps cs (no_counters ps)
 
-    no_counters : (ps : Operands) → AreNoCounter ps
+    no_counters : (ps : CoverOperandsModel) → AreNoCounter ps
     no_counters no_operands = none_no_counter
     no_counters (operand_then i p ps) = operand_no_counter i p ps (no_counter p) (no_counters ps)
 
   -- ---- covers
 
-  record IsSpared (p : Plan) : Type 0 where
-    own : (n held : ℕ) (destination : Destination) (tree : Term) (whole : Bool) → IsOrderly stock destination tree whole p → HasStep destination → (after : Regs)
+  record IsSpared (p : CoverModel) : Type 0 where
+    own : (n held : ℕ) (destination : DestinationModel) (tree : ExprModel) (whole : Bool) → IsOrderly stock destination tree whole p → HasStep destination → (after : Regs)
         → ((r : ℕ) → after r ≡ true → bit_at (written stock.rules p) r ≡ 1 → IsOwn destination r) → IsTidy m c pc (own_steps stock p n held destination tree whole) after (IsOwn destination)
-    cuts : (n : ℕ) (destination : Destination) (tree : Term) (whole : Bool) → IsOrderly stock destination tree whole p → IsAlone m c pc (cut_steps stock p n destination tree whole)
+    cuts : (n : ℕ) (destination : DestinationModel) (tree : ExprModel) (whole : Bool) → IsOrderly stock destination tree whole p → IsAlone m c pc (cut_steps stock p n destination tree whole)
 
-  record AreSpared (ps : Operands) : Type 0 where
-    own : (held : ℕ) (left : List OperandCells) → AreOrderly stock (operands_in left) ps → (after : Regs)
+  record AreSpared (ps : CoverOperandsModel) : Type 0 where
+    own : (held : ℕ) (left : List OperandCellsModel) → AreOrderly stock (operands_in left) ps → (after : Regs)
         → ((r : ℕ) → after r ≡ true → bit_at (all_written stock.rules ps) r ≡ 1 → IsIdOf (operands_in left) r) → IsTidy m c pc (operand_steps stock ps left held) after (IsIdOf (operands_in left))
-    cuts : (left : List OperandCells) → AreOrderly stock (operands_in left) ps → Each (IsAlone m c pc) (inside_operands stock ps left)
+    cuts : (left : List OperandCellsModel) → AreOrderly stock (operands_in left) ps → Each (IsAlone m c pc) (inside_operands stock ps left)
 
-  record CutsSpared (cs : Cuts) : Type 0 where
-    cuts : (cuts : List CutCells) → AreCut stock (trees_in cuts) cs → Each (IsAlone m c pc) (into_cells stock cs cuts)
+  record CutsSpared (cs : CoverCutsModel) : Type 0 where
+    cuts : (cuts : List CutCellsModel) → AreCut stock (trees_in cuts) cs → Each (IsAlone m c pc) (into_cells stock cs cuts)
 
   none_spared : AreSpared no_operands
   none_spared = record { own = own'; cuts = λ left o. tt }
     where
-      own' : (held : ℕ) (left : List OperandCells) → AreOrderly stock (operands_in left) no_operands → (after : Regs)
+      own' : (held : ℕ) (left : List OperandCellsModel) → AreOrderly stock (operands_in left) no_operands → (after : Regs)
           → ((r : ℕ) → after r ≡ true → bit_at (all_written stock.rules no_operands) r ≡ 1 → IsIdOf (operands_in left) r) → IsTidy m c pc [] after (IsIdOf (operands_in left))
       own' held left o after f = record { spare = tt; apart = tt; live = λ r h. h; gone = λ r h d. subst (λ z. IsIdOf z r) o d }
 
-  operand_spared : (i : ℕ) (p : Plan) (ps : Operands) → IsSpared p → AreSpared ps → AreSpared (operand_then i p ps)
+  operand_spared : (i : ℕ) (p : CoverModel) (ps : CoverOperandsModel) → IsSpared p → AreSpared ps → AreSpared (operand_then i p ps)
   operand_spared i p ps h k = record { own = own'; cuts = cuts' }
     where
-      own' : (held : ℕ) (left : List OperandCells) → AreOrderly stock (operands_in left) (operand_then i p ps) → (after : Regs)
+      own' : (held : ℕ) (left : List OperandCellsModel) → AreOrderly stock (operands_in left) (operand_then i p ps) → (after : Regs)
           → ((r : ℕ) → after r ≡ true → bit_at (all_written stock.rules (operand_then i p ps)) r ≡ 1 → IsIdOf (operands_in left) r)
           → IsTidy m c pc (operand_steps stock (operand_then i p ps) left held) after (IsIdOf (operands_in left))
       own' held left o after f =
-          let cells : OperandCells = operand_cells_or_none (slice_get left i) in
+          let cells : OperandCellsModel = operand_cells_or_none (slice_get left i) in
           let w : IsOpenedOperand stock left i cells p ps = opened_operand stock left i p ps o in
           let more : ℕ = holding held (cell_of stock p held) in
           let first : List Step = own_steps stock p cells.first held (home_destination cells.operand.home) cells.operand.tree cells.operand.whole in
@@ -309,32 +309,32 @@ module _ (stock : Stock) (file_storage : Option ℕ) (patterns : List Pattern) (
           tidy_append m c pc first later after (IsOwn (home_destination cells.operand.home)) (IsIdOf (operands_in (remove left i))) (IsIdOf (operands_in left)) u t
           (λ r d. elim (id_split left i cells r w.at d) as (λ _. IsOwn (home_destination cells.operand.home) r ⊎ IsIdOf (operands_in (remove left i)) r) [ inl e ↦ inl (home_own cells.operand.home r e) | inr e ↦ inr e ])
         where
-          rest_id : (r : ℕ) → after r ≡ true → bit_at (all_written stock.rules ps) r ≡ 1 → (cells : OperandCells) → IsOpenedOperand stock left i cells p ps → IsIdOf (operands_in (remove left i)) r
+          rest_id : (r : ℕ) → after r ≡ true → bit_at (all_written stock.rules ps) r ≡ 1 → (cells : OperandCellsModel) → IsOpenedOperand stock left i cells p ps → IsIdOf (operands_in (remove left i)) r
           rest_id r a b cells w =
               elim (id_split left i cells r w.at (f r a (part_written (written stock.rules p) (all_written stock.rules ps) r b))) as (λ _. IsIdOf (operands_in (remove left i)) r) [
                 | inl e ↦ absurd (let z : bit_at (all_written stock.rules ps) r ≡ 0 = w.apart r e in omega (arith, z, b))
                 | inr d ↦ d
               ]
 
-          own_id : (r : ℕ) (cells : OperandCells) → IsOpenedOperand stock left i cells p ps → after r ≡ true → (IsIdOf (operands_in (remove left i)) r → ⊥) → bit_at (written stock.rules p) r ≡ 1 → cells.operand.home ≡ in_register r
+          own_id : (r : ℕ) (cells : OperandCellsModel) → IsOpenedOperand stock left i cells p ps → after r ≡ true → (IsIdOf (operands_in (remove left i)) r → ⊥) → bit_at (written stock.rules p) r ≡ 1 → cells.operand.home ≡ in_register r
           own_id r cells w a g b =
               elim (id_split left i cells r w.at (f r a (part_written_left (written stock.rules p) (all_written stock.rules ps) r b))) as (λ _. cells.operand.home ≡ in_register r) [
                 | inl e ↦ e
                 | inr d ↦ absurd (g d)
               ]
 
-      cuts' : (left : List OperandCells) → AreOrderly stock (operands_in left) (operand_then i p ps) → Each (IsAlone m c pc) (inside_operands stock (operand_then i p ps) left)
+      cuts' : (left : List OperandCellsModel) → AreOrderly stock (operands_in left) (operand_then i p ps) → Each (IsAlone m c pc) (inside_operands stock (operand_then i p ps) left)
       cuts' left o =
-          let cells : OperandCells = operand_cells_or_none (slice_get left i) in
+          let cells : OperandCellsModel = operand_cells_or_none (slice_get left i) in
           let w : IsOpenedOperand stock left i cells p ps = opened_operand stock left i p ps o in
           each_in m c pc (IsAlone m c pc) (inside_operands stock ps (remove left i)) i
           (cut_steps stock p cells.first (home_destination cells.operand.home) cells.operand.tree cells.operand.whole)
           (h.cuts cells.first (home_destination cells.operand.home) cells.operand.tree cells.operand.whole w.orderly) (k.cuts (remove left i) w.rest)
 
-  cut_spared : (p : Plan) (cs : Cuts) → IsSpared p → CutsSpared cs → CutsSpared (cut_then p cs)
+  cut_spared : (p : CoverModel) (cs : CoverCutsModel) → IsSpared p → CutsSpared cs → CutsSpared (cut_then p cs)
   cut_spared p cs h k = record { cuts = cuts' }
     where
-      cuts' : (cuts : List CutCells) → AreCut stock (trees_in cuts) (cut_then p cs) → Each (IsAlone m c pc) (into_cells stock (cut_then p cs) cuts)
+      cuts' : (cuts : List CutCellsModel) → AreCut stock (trees_in cuts) (cut_then p cs) → Each (IsAlone m c pc) (into_cells stock (cut_then p cs) cuts)
       cuts' [] o = absurd (cc (o.2))
       cuts' (cells ∷ cuts) o =
           let e : o.0 ≡ cells.tree = cc (o.2) in
@@ -346,7 +346,7 @@ module _ (stock : Stock) (file_storage : Option ℕ) (patterns : List Pattern) (
             k.cuts cuts (subst (λ ts. AreCut stock ts cs) e' o.5),
           )
 
-  step_of : (rule : Rule) (destination : Destination) (setting : ℕ) → HasStep destination → form_step rule destination setting ≡ record { pattern = rule.pattern; setting = setting } ∷ []
+  step_of : (rule : FormModel) (destination : DestinationModel) (setting : ℕ) → HasStep destination → form_step rule destination setting ≡ record { pattern = rule.pattern; setting = setting } ∷ []
   step_of rule (into id) setting h = refl
   step_of rule filed setting h = refl
   step_of rule (cell a) setting h = refl
@@ -355,10 +355,10 @@ module _ (stock : Stock) (file_storage : Option ℕ) (patterns : List Pattern) (
   step_of rule tested setting h = absurd h
 
   -- the program counter is no operand
-  no_operand : (ps : Operands) (left : List Operand) → AreOrderly stock left ps → IsIdOf left pc → ⊥
+  no_operand : (ps : CoverOperandsModel) (left : List Operand) → AreOrderly stock left ps → IsIdOf left pc → ⊥
   no_operand ps left o d = (no_counters ps).none left o d
 
-  no_own : (k : ℕ) (ps : Operands) (cs : Cuts) (destination : Destination) (tree : Term) (whole : Bool) → IsOrderly stock destination tree whole (use_form k ps cs) → IsOwn destination pc → ⊥
+  no_own : (k : ℕ) (ps : CoverOperandsModel) (cs : CoverCutsModel) (destination : DestinationModel) (tree : ExprModel) (whole : Bool) → IsOrderly stock destination tree whole (use_form k ps cs) → IsOwn destination pc → ⊥
   no_own k ps cs (into id) tree whole o e = (no_counter (use_form k ps cs)).none tree whole (subst (λ n. IsOrderly stock (into n) tree whole (use_form k ps cs)) e o)
   no_own k ps cs filed tree whole o e = e
   no_own k ps cs (cell a) tree whole o e = e
@@ -366,20 +366,20 @@ module _ (stock : Stock) (file_storage : Option ℕ) (patterns : List Pattern) (
   no_own k ps cs temporary tree whole o e = e
   no_own k ps cs tested tree whole o e = e
 
-  form_spared : (k : ℕ) (ps : Operands) (cs : Cuts) → AreSpared ps → CutsSpared cs → IsSpared (use_form k ps cs)
+  form_spared : (k : ℕ) (ps : CoverOperandsModel) (cs : CoverCutsModel) → AreSpared ps → CutsSpared cs → IsSpared (use_form k ps cs)
   form_spared k ps cs hp hc = record { own = own'; cuts = cuts' }
     where
-      own' : (n held : ℕ) (destination : Destination) (tree : Term) (whole : Bool) → IsOrderly stock destination tree whole (use_form k ps cs) → HasStep destination → (after : Regs)
+      own' : (n held : ℕ) (destination : DestinationModel) (tree : ExprModel) (whole : Bool) → IsOrderly stock destination tree whole (use_form k ps cs) → HasStep destination → (after : Regs)
           → ((r : ℕ) → after r ≡ true → bit_at (written stock.rules (use_form k ps cs)) r ≡ 1 → IsOwn destination r)
           → IsTidy m c pc (own_steps stock (use_form k ps cs) n held destination tree whole) after (IsOwn destination)
       own' n held destination tree whole o s after f =
-          let w : IsOpened stock k ps cs destination tree whole = opened_plan stock k ps cs destination tree whole o in
-          let rule : Rule = rule_at stock k in
-          let found : Found = found_at stock k destination tree whole in
-          let left : List OperandCells = plan_operand_cells found.sites ps cs n in
+          let w : IsOpened stock k ps cs destination tree whole = opened_cover stock k ps cs destination tree whole o in
+          let rule : FormModel = form_at stock k in
+          let found : MatchModel = match_at stock k destination tree whole in
+          let left : List OperandCellsModel = cover_operand_cells found.sites ps cs n in
           let e : operands_in left ≡ operands_of found.sites = cells_operands found.sites (operand_counts ps) (cut_counts cs) n in
           let orderly : AreOrderly stock (operands_in left) ps = subst (λ z. AreOrderly stock z ps) (sym e) w.operands in
-          let setting : ℕ = plan_setting stock (use_form k ps cs) n held destination tree whole in
+          let setting : ℕ = cover_setting stock (use_form k ps cs) n held destination tree whole in
           let step : Step = record { pattern = rule.pattern; setting = setting } in
           let g : IsFormStep file_storage patterns rule destination found =
           form_step_of stock.temps stock.file file_storage patterns count rule rule.goal destination tree whole found (formed k rule w.listed) s w.takes in
@@ -399,26 +399,26 @@ module _ (stock : Stock) (file_storage : Option ℕ) (patterns : List Pattern) (
           (not_true (writes (m step) pc) (λ h. no_own k ps cs destination tree whole o (g.owned setting pc h)))
           read (λ r h. g.owns setting r h))
 
-      cuts' : (n : ℕ) (destination : Destination) (tree : Term) (whole : Bool) → IsOrderly stock destination tree whole (use_form k ps cs) → IsAlone m c pc (cut_steps stock (use_form k ps cs) n destination tree whole)
+      cuts' : (n : ℕ) (destination : DestinationModel) (tree : ExprModel) (whole : Bool) → IsOrderly stock destination tree whole (use_form k ps cs) → IsAlone m c pc (cut_steps stock (use_form k ps cs) n destination tree whole)
       cuts' n destination tree whole o =
-          let w : IsOpened stock k ps cs destination tree whole = opened_plan stock k ps cs destination tree whole o in
-          let sites : List Site = (found_at stock k destination tree whole).sites in
-          let orderly : AreOrderly stock (operands_in (plan_operand_cells sites ps cs n)) ps =
+          let w : IsOpened stock k ps cs destination tree whole = opened_cover stock k ps cs destination tree whole o in
+          let sites : List LeafModel = (match_at stock k destination tree whole).sites in
+          let orderly : AreOrderly stock (operands_in (cover_operand_cells sites ps cs n)) ps =
           subst (λ z. AreOrderly stock z ps) (sym (cells_operands sites (operand_counts ps) (cut_counts cs) n)) w.operands in
-          let cut : AreCut stock (trees_in (plan_cut_cells sites ps cs n)) cs =
+          let cut : AreCut stock (trees_in (cover_cut_cells sites ps cs n)) cs =
           subst (λ z. AreCut stock z cs) (sym (cells_trees sites (operand_counts ps) (cut_counts cs) n)) w.cuts in
-          woven_alone m c pc sites (inside_operands stock ps (plan_operand_cells sites ps cs n)) (into_cells stock cs (plan_cut_cells sites ps cs n))
-          (hp.cuts (plan_operand_cells sites ps cs n) orderly) (hc.cuts (plan_cut_cells sites ps cs n) cut)
+          woven_alone m c pc sites (inside_operands stock ps (cover_operand_cells sites ps cs n)) (into_cells stock cs (cover_cut_cells sites ps cs n))
+          (hp.cuts (cover_operand_cells sites ps cs n) orderly) (hc.cuts (cover_cut_cells sites ps cs n) cut)
 
   mutual
-    spared : (p : Plan) → IsSpared p
+    spared : (p : CoverModel) → IsSpared p
     spared (use_form k ps cs) = form_spared k ps cs (spared_operands ps) (spared_cuts cs)
 
-    spared_operands : (ps : Operands) → AreSpared ps
+    spared_operands : (ps : CoverOperandsModel) → AreSpared ps
     spared_operands no_operands = none_spared
     spared_operands (operand_then i p ps) = operand_spared i p ps (spared p) (spared_operands ps)
 
-    spared_cuts : (cs : Cuts) → CutsSpared cs
+    spared_cuts : (cs : CoverCutsModel) → CutsSpared cs
     spared_cuts no_cuts = record { cuts = λ cuts o. tt }
     spared_cuts (cut_then p cs) = cut_spared p cs (spared p) (spared_cuts cs)
 
@@ -427,7 +427,7 @@ module _ (stock : Stock) (file_storage : Option ℕ) (patterns : List Pattern) (
   left_alone : (r : ℕ) → no_regs r ≡ true → ⊥
   left_alone r h = true≢false (sym h)
 
-  stored_spare : (destination : Destination) (tree : Term) (plan : Plan) → HasStep destination → (wanted stock destination tree plan ≡ no_regs) → ((r : ℕ) → IsOwn destination r → ⊥) → IsOrderly stock destination tree true plan
+  stored_spare : (destination : DestinationModel) (tree : ExprModel) (plan : CoverModel) → HasStep destination → (wanted stock destination tree plan ≡ no_regs) → ((r : ℕ) → IsOwn destination r → ⊥) → IsOrderly stock destination tree true plan
       → AreSpare stock file_storage patterns pc destination tree plan
   stored_spare destination tree plan s e n o =
       let t : IsTidy m c pc (own_steps stock plan 0 0 destination tree true) no_regs (IsOwn destination) = (spared plan).own 0 0 destination tree true o s no_regs (λ r a b. absurd (left_alone r a)) in
@@ -443,8 +443,8 @@ module _ (stock : Stock) (file_storage : Option ℕ) (patterns : List Pattern) (
         unwanted = ap (λ (z : Regs). z pc) e;
       }
 
-  test_given : (temps : ℕ) (rule : Rule) (goal : Kind) (tree : Term) (whole : Bool) (found : Found) → IsFormed file_storage patterns count stock.file rule goal → goal_match temps rule goal tested tree whole ≡ Some found → (i r : ℕ)
-      → term_reads i rule.value (register r) ≡ true → IsIdOf (operands_of found.sites) r
+  test_given : (temps : ℕ) (rule : FormModel) (goal : GoalModel) (tree : ExprModel) (whole : Bool) (found : MatchModel) → IsFormed file_storage patterns count stock.file rule goal → goal_match temps rule goal tested tree whole ≡ Some found → (i r : ℕ)
+      → expr_reads i rule.value (register r) ≡ true → IsIdOf (operands_of found.sites) r
   test_given temps rule (branches when_one to) tree whole found f h i r e = (matched_taken temps no_state rule.value tree true found h).given stock.file f.1 i r e
   test_given temps rule goal tree whole found f h i r e = absurd (cc)
 
@@ -452,17 +452,17 @@ module _ (stock : Stock) (file_storage : Option ℕ) (patterns : List Pattern) (
   append_none [] = refl
   append_none (x ∷ xs) = ap (λ z. x ∷ z) (append_none xs)
 
-  test_spare : (tree : Term) (k : ℕ) (ps : Operands) (cs : Cuts) → IsOrderly stock tested tree true (use_form k ps cs) → AreSpare stock file_storage patterns pc tested tree (use_form k ps cs)
+  test_spare : (tree : ExprModel) (k : ℕ) (ps : CoverOperandsModel) (cs : CoverCutsModel) → IsOrderly stock tested tree true (use_form k ps cs) → AreSpare stock file_storage patterns pc tested tree (use_form k ps cs)
   test_spare tree k ps cs o =
-      let plan : Plan = use_form k ps cs in
+      let plan : CoverModel = use_form k ps cs in
       let after : Regs = wanted stock tested tree plan in
-      let w : IsOpened stock k ps cs tested tree true = opened_plan stock k ps cs tested tree true o in
-      let found : Found = found_at stock k tested tree true in
-      let left : List OperandCells = plan_operand_cells found.sites ps cs 0 in
+      let w : IsOpened stock k ps cs tested tree true = opened_cover stock k ps cs tested tree true o in
+      let found : MatchModel = match_at stock k tested tree true in
+      let left : List OperandCellsModel = cover_operand_cells found.sites ps cs 0 in
       let e : operands_in left ≡ operands_of found.sites = cells_operands found.sites (operand_counts ps) (cut_counts cs) 0 in
       let orderly : AreOrderly stock (operands_in left) ps = subst (λ z. AreOrderly stock z ps) (sym e) w.operands in
       let read : (r : ℕ) → after r ≡ true → IsIdOf (operands_in left) r =
-      λ r h. subst (λ z. IsIdOf z r) (sym e) (test_given stock.temps (rule_at stock k) (rule_at stock k).goal tree true found (formed k (rule_at stock k) w.listed) w.takes (branch_setting stock tree plan) r h) in
+      λ r h. subst (λ z. IsIdOf z r) (sym e) (test_given stock.temps (form_at stock k) (form_at stock k).goal tree true found (formed k (form_at stock k) w.listed) w.takes (branch_setting stock tree plan) r h) in
       let t' : IsTidy m c pc (operand_steps stock ps left 0) after (IsIdOf (operands_in left)) = (spared_operands ps).own 0 left orderly after (λ r a b. read r a) in
       let t : IsTidy m c pc (own_steps stock plan 0 0 tested tree true) after (IsIdOf (operands_in left)) =
       subst (λ z. IsTidy m c pc z after (IsIdOf (operands_in left))) (append_none (operand_steps stock ps left 0)) t' in
@@ -479,7 +479,7 @@ module _ (stock : Stock) (file_storage : Option ℕ) (patterns : List Pattern) (
       }
 
   -- the second half of what the steps of an orderly cover promise
-  pub steps_spare : (destination : Destination) (tree : Term) (plan : Plan) → IsOfJob destination → IsOrderly stock destination tree true plan → AreSpare stock file_storage patterns pc destination tree plan
+  pub steps_spare : (destination : DestinationModel) (tree : ExprModel) (plan : CoverModel) → IsOfJob destination → IsOrderly stock destination tree true plan → AreSpare stock file_storage patterns pc destination tree plan
   steps_spare (cell a) tree plan j o = stored_spare (cell a) tree plan tt refl (λ r h. h) o
   steps_spare (stored a) tree plan j o = stored_spare (stored a) tree plan tt refl (λ r h. h) o
   steps_spare tested tree (use_form k ps cs) j o = test_spare tree k ps cs o

@@ -9,11 +9,11 @@ use Rattle.rec_bits.specs.declared.operator.Op2.{Op2}
 use Rattle.rec_bits.specs.declared.operator.Op2.TheVariants.{Add}
 use Rattle.net_model.specs.declared.hardware.Space.TheVariants.{Memory as InMemory, File as InFile}
 use Rattle.net_model.specs.declared.states.State.{State}
-use Rattle.net_model.specs.Terms.{Term, word, reg, const, read, un, bin, slice, cat, zext, sext, select, term_width}
+use Rattle.net_model.specs.Exprs.{ExprModel, word, reg, const, read, un, bin, slice, cat, zext, sext, select, expr_width}
 use Rattle.form_model.specs.Trees.{is_number, is_cell}
 use Rattle.form_model.specs.Shapes.{Sum, is_plain, is_plain_sum, is_shape, shape_setting, shows_below, summands}
-use Rattle.form_model.specs.Matches.{Home, in_register, in_file, operand, cut, Found, open_if, both, shape_match, literal_match, cell_match, read_match, un_match, bin_match, slice_match, zext_match, sext_match, matched, same_op1, same_op2}
-use Rattle.form_model.specs.Steps.{CutCells, bits_or_none}
+use Rattle.form_model.specs.Matches.{HomeModel, in_register, in_file, operand, cut, MatchModel, open_if, both, shape_match, literal_match, cell_match, read_match, un_match, bin_match, slice_match, zext_match, sext_match, matched, same_op1, same_op2}
+use Rattle.form_model.specs.Steps.{CutCellsModel, bits_or_none}
 use Rattle.form_model.specs.Bits.{uses}
 use Rattle.emit_seq.specs.Formed.{BitsApart, IsOnce, CellsShown, homes_in}
 use Rattle.emit_seq.specs.Leaves.{ReadsFrom}
@@ -21,7 +21,7 @@ use Rattle.form_model.proofs.SettingLaws.{picked}
 use Rattle.form_model.proofs.SumNumbers.{sum_is_with}
 use Rattle.emit_seq.proofs.Matched.{Joined, joined, Literal, literal, opened, either, bits_in, Holds, Split, split, pair_bits, IsMeant, matched_meant, file_bits}
 
-decided : (b : Bool) (x y : Option Found) (f : Found) → (if b then x else y) ≡ Some f → ((b ≡ true) × (x ≡ Some f)) ⊎ ((b ≡ false) × (y ≡ Some f))
+decided : (b : Bool) (x y : Option MatchModel) (f : MatchModel) → (if b then x else y) ≡ Some f → ((b ≡ true) × (x ≡ Some f)) ⊎ ((b ≡ false) × (y ≡ Some f))
 decided true x y f h = inl (refl, h)
 decided false x y f h = inr (refl, h)
 
@@ -55,16 +55,16 @@ put_back [] ys i x le h = let e : i ≡ i - 0 = omega arith in ap (slice_get ys)
 put_back (z ∷ xs) ys zero x le h = absurd (omega (arith, le))
 put_back (z ∷ xs) ys (suc i) x le h = let e : i - length xs ≡ suc i - suc (length xs) = omega arith in put_back xs ys i x (omega (arith, le)) (ap (slice_get ys) e ∙ h)
 
-pick_none : (b : Bool) (xs : List Home) → b ≡ true → (if b then [] else xs) ≡ []
+pick_none : (b : Bool) (xs : List HomeModel) → b ≡ true → (if b then [] else xs) ≡ []
 pick_none true xs e = refl
 pick_none false xs e = absurd (cc)
 
-pick_some : (b : Bool) (xs : List Home) → b ≡ false → (if b then [] else xs) ≡ xs
+pick_some : (b : Bool) (xs : List HomeModel) → b ≡ false → (if b then [] else xs) ≡ xs
 pick_some true xs e = absurd (cc)
 pick_some false xs e = refl
 
 -- a field shape takes no operands
-plain_homeless : (t : Term) → is_plain t ≡ true → homes_in t ≡ []
+plain_homeless : (t : ExprModel) → is_plain t ≡ true → homes_in t ≡ []
 plain_homeless (const w v) h = refl
 plain_homeless (zext a w) h = pick_none (is_shape (zext a w)) (homes_in a) h
 plain_homeless (sext a w) h = pick_none (is_shape (sext a w)) (homes_in a) h
@@ -72,12 +72,12 @@ plain_homeless (word w) h = refl
 plain_homeless (slice a hi lo) h = pick_none (is_shape (slice a hi lo)) (homes_in a) h
 plain_homeless t h = absurd (true≢false (sym h))
 
-sum_homeless : (a b : Term) (s : Sum) → summands a b ≡ Some s → is_plain s.to ≡ true → homes_in a ++ homes_in b ≡ []
+sum_homeless : (a b : ExprModel) (s : Sum) → summands a b ≡ Some s → is_plain s.to ≡ true → homes_in a ++ homes_in b ≡ []
 sum_homeless (const w c) b s e p = plain_homeless b (ap (λ (z : Sum). is_plain z.to) (sum_is_with w c b s e).is ∙ p)
 sum_homeless a (const w c) s e p = ap (λ z. z ++ []) (plain_homeless a (ap (λ (z : Sum). is_plain z.to) (sum_is_with w c a s e).is ∙ p))
 sum_homeless a b s e p = absurd (cc)
 
-shape_homeless : (t : Term) → is_shape t ≡ true → homes_in t ≡ []
+shape_homeless : (t : ExprModel) → is_shape t ≡ true → homes_in t ≡ []
 shape_homeless (bin Add a b) h = by (summands a b) refl h
   where
     by : (o : Option Sum) → summands a b ≡ o → is_plain_sum o ≡ true → homes_in a ++ homes_in b ≡ []
@@ -92,11 +92,11 @@ shape_homeless (slice a hi lo) h = plain_homeless (slice a hi lo) h
 shape_homeless t h = absurd (true≢false (sym h))
 
 -- the bits of an address of the file occur in the expression
-chosen_used : (b : Bool) (xs : List Home) (place : ℕ) (a : Term) → slice_get (if b then [] else xs) place ≡ Some (in_file a) → slice_get xs place ≡ Some (in_file a)
+chosen_used : (b : Bool) (xs : List HomeModel) (place : ℕ) (a : ExprModel) → slice_get (if b then [] else xs) place ≡ Some (in_file a) → slice_get xs place ≡ Some (in_file a)
 chosen_used true xs place a h = absurd (cc)
 chosen_used false xs place a h = h
 
-home_used : (e : Term) (place : ℕ) (a : Term) (j : ℕ) → slice_get (homes_in e) place ≡ Some (in_file a) → uses a j ≡ true → uses e j ≡ true
+home_used : (e : ExprModel) (place : ℕ) (a : ExprModel) (j : ℕ) → slice_get (homes_in e) place ≡ Some (in_file a) → uses a j ≡ true → uses e j ≡ true
 home_used (word w) place a j h u = absurd (cc)
 home_used (reg r w) zero a j h u = absurd (cc)
 home_used (reg r w) (suc place) a j h u = absurd (cc)
@@ -142,88 +142,88 @@ home_used (select b c d) place a j h u =
 
 -- a match has as many homes as its expression, and the bits of the address of each that is in the
 -- file name its cell
-pub record HasHomes (e : Term) (f : Found) (cuts : List CutCells) (homes : List (Option ℕ)) : Type 0 where
+pub record HasHomes (e : ExprModel) (f : MatchModel) (cuts : List CutCellsModel) (homes : List (Option ℕ)) : Type 0 where
   pub long : length homes ≡ length (homes_in e)
-  pub filed : (place : ℕ) (a : Term) → slice_get (homes_in e) place ≡ Some (in_file a) → (c : ℕ) × (slice_get homes place ≡ Some (Some c))
-  pub bits : (place : ℕ) (a : Term) (c : ℕ) → slice_get (homes_in e) place ≡ Some (in_file a) → slice_get homes place ≡ Some (Some c) → (j : ℕ) → uses a j ≡ true
+  pub filed : (place : ℕ) (a : ExprModel) → slice_get (homes_in e) place ≡ Some (in_file a) → (c : ℕ) × (slice_get homes place ≡ Some (Some c))
+  pub bits : (place : ℕ) (a : ExprModel) (c : ℕ) → slice_get (homes_in e) place ≡ Some (in_file a) → slice_get homes place ≡ Some (Some c) → (j : ℕ) → uses a j ≡ true
       → bit_at (bits_in f cuts homes) j ≡ bit_at (bits_or_none (shape_setting a c)) j
 
-none_homes : (e : Term) (f : Found) (cuts : List CutCells) (homes : List (Option ℕ)) → homes_in e ≡ [] → homes ≡ [] → HasHomes e f cuts homes
+none_homes : (e : ExprModel) (f : MatchModel) (cuts : List CutCellsModel) (homes : List (Option ℕ)) → homes_in e ≡ [] → homes ≡ [] → HasHomes e f cuts homes
 none_homes e f cuts homes n m = record {
-  long = ap (λ (z : List (Option ℕ)). length z) m ∙ sym (ap (λ (z : List Home). length z) n);
+  long = ap (λ (z : List (Option ℕ)). length z) m ∙ sym (ap (λ (z : List HomeModel). length z) n);
   filed = λ place a h. absurd (no_item place (in_file a) (ap (λ z. slice_get z place) (sym n) ∙ h));
   bits = λ place a c h k j u. absurd (let h' : slice_get [] place ≡ Some (in_file a) = ap (λ z. slice_get z place) (sym n) ∙ h in no_item place (in_file a) h');
 }
   where
-    no_item : (place : ℕ) (x : Home) → slice_get [] place ≡ Some x → ⊥
+    no_item : (place : ℕ) (x : HomeModel) → slice_get [] place ≡ Some x → ⊥
     no_item zero x h = absurd (cc)
     no_item (suc place) x h = absurd (cc)
 
-same_homes : (e e' : Term) (f : Found) (cuts : List CutCells) (homes : List (Option ℕ)) → homes_in e ≡ homes_in e' → HasHomes e' f cuts homes → HasHomes e f cuts homes
+same_homes : (e e' : ExprModel) (f : MatchModel) (cuts : List CutCellsModel) (homes : List (Option ℕ)) → homes_in e ≡ homes_in e' → HasHomes e' f cuts homes → HasHomes e f cuts homes
 same_homes e e' f cuts homes same h = record {
-  long = h.long ∙ sym (ap (λ (z : List Home). length z) same);
+  long = h.long ∙ sym (ap (λ (z : List HomeModel). length z) same);
   filed = λ place a x. h.filed place a (ap (λ z. slice_get z place) (sym same) ∙ x);
   bits = λ place a c x k j u. h.bits place a c (ap (λ z. slice_get z place) (sym same) ∙ x) k j u;
 }
 
 module _ (temps size : ℕ) (before now : State) (same : (c : ℕ) → temps ≤ c → slice_index now.cells c ≡ slice_index before.cells c) where
-  shape_homes : (e shape t : Term) (f : Found) (cuts : List CutCells) (homes : List (Option ℕ)) → homes_in e ≡ [] → shape_match shape t ≡ Some f → Holds temps size before now f.sites cuts homes → HasHomes e f cuts homes
+  shape_homes : (e shape t : ExprModel) (f : MatchModel) (cuts : List CutCellsModel) (homes : List (Option ℕ)) → homes_in e ≡ [] → shape_match shape t ≡ Some f → Holds temps size before now f.sites cuts homes → HasHomes e f cuts homes
   shape_homes e shape t f cuts homes n h k =
       let l : Literal shape t f = literal shape t f h in
-      let none : (cuts ≡ []) × (homes ≡ []) = subst (λ (z : Found). Holds temps size before now z.sites cuts homes) (sym l.is) k in
+      let none : (cuts ≡ []) × (homes ≡ []) = subst (λ (z : MatchModel). Holds temps size before now z.sites cuts homes) (sym l.is) k in
       none_homes e f cuts homes n none.1
 
-  cut_homes : (e : Term) (b : Bool) (shape t : Term) (f : Found) (cuts : List CutCells) (homes : List (Option ℕ)) → homes_in e ≡ [] → open_if b (cut shape t) ≡ Some f
+  cut_homes : (e : ExprModel) (b : Bool) (shape t : ExprModel) (f : MatchModel) (cuts : List CutCellsModel) (homes : List (Option ℕ)) → homes_in e ≡ [] → open_if b (cut shape t) ≡ Some f
       → Holds temps size before now f.sites cuts homes → HasHomes e f cuts homes
   cut_homes e b shape t f cuts homes n h k =
       let p : (b ≡ true) × (record { setting = 0; sites = cut shape t ∷ [] } ≡ f) = opened _ _ _ h in
-      go cuts (subst (λ (z : Found). Holds temps size before now z.sites cuts homes) (sym p.1) k)
+      go cuts (subst (λ (z : MatchModel). Holds temps size before now z.sites cuts homes) (sym p.1) k)
     where
-      go : (cs : List CutCells) → Holds temps size before now (cut shape t ∷ []) cs homes → HasHomes e f cuts homes
+      go : (cs : List CutCellsModel) → Holds temps size before now (cut shape t ∷ []) cs homes → HasHomes e f cuts homes
       go [] held = absurd held
       go (c ∷ cs) held = none_homes e f cuts homes n held.3.1
 
-  literal_homes : (e shape t : Term) (f : Found) (cuts : List CutCells) (homes : List (Option ℕ)) → homes_in e ≡ [] → literal_match shape t ≡ Some f → Holds temps size before now f.sites cuts homes → HasHomes e f cuts homes
+  literal_homes : (e shape t : ExprModel) (f : MatchModel) (cuts : List CutCellsModel) (homes : List (Option ℕ)) → homes_in e ≡ [] → literal_match shape t ≡ Some f → Holds temps size before now f.sites cuts homes → HasHomes e f cuts homes
   literal_homes e shape (read InMemory b w) f cuts homes n h k = shape_homes e shape b f cuts homes n h k
   literal_homes e shape t f cuts homes n h k = absurd (cc)
 
-  cell_homes : (e : Term) (shape : Term) (w : ℕ) (t : Term) (whole : Bool) (f : Found) (cuts : List CutCells) (homes : List (Option ℕ)) → homes_in e ≡ [] → cell_match temps shape w t whole ≡ Some f
+  cell_homes : (e : ExprModel) (shape : ExprModel) (w : ℕ) (t : ExprModel) (whole : Bool) (f : MatchModel) (cuts : List CutCellsModel) (homes : List (Option ℕ)) → homes_in e ≡ [] → cell_match temps shape w t whole ≡ Some f
       → Holds temps size before now f.sites cuts homes → HasHomes e f cuts homes
   cell_homes e shape w t whole f cuts homes n h k =
-      let p : ((w == term_width t) ≡ true)
+      let p : ((w == expr_width t) ≡ true)
       × ((if is_cell t then literal_match shape t else open_if (not whole && shows_below shape temps) (cut shape t)) ≡ Some f) = picked _ _ _ h in
       elim (either (is_cell t) (literal_match shape t) (open_if (not whole && shows_below shape temps) (cut shape t)) f p.1) as (λ _. HasHomes e f cuts homes) [
         | inl l ↦ literal_homes e shape t f cuts homes n l k
         | inr l ↦ cut_homes e (not whole && shows_below shape temps) shape t f cuts homes n l k
       ]
 
-  abbrev Homed : Term → Type 0
-  Homed e = (t : Term) (whole : Bool) (f : Found) (cuts : List CutCells) (homes : List (Option ℕ)) → matched temps e t whole ≡ Some f → ReadsFrom temps before t
+  abbrev Homed : ExprModel → Type 0
+  Homed e = (t : ExprModel) (whole : Bool) (f : MatchModel) (cuts : List CutCellsModel) (homes : List (Option ℕ)) → matched temps e t whole ≡ Some f → ReadsFrom temps before t
       → Holds temps size before now f.sites cuts homes → HasHomes e f cuts homes
 
   reg_homes : (id w : ℕ) → Homed (reg id w)
   reg_homes id w t whole f cuts homes h r k =
-      let p : ((w == term_width t) ≡ true) × (record { setting = 0; sites = operand (in_register id) t whole ∷ [] } ≡ f) = opened _ _ _ h in
-      record { long = long homes (subst (λ (z : Found). Holds temps size before now z.sites cuts homes) (sym p.1) k); filed = λ place a x. absurd (other place a x); bits = λ place a c x y j u. absurd (other place a x) }
+      let p : ((w == expr_width t) ≡ true) × (record { setting = 0; sites = operand (in_register id) t whole ∷ [] } ≡ f) = opened _ _ _ h in
+      record { long = long homes (subst (λ (z : MatchModel). Holds temps size before now z.sites cuts homes) (sym p.1) k); filed = λ place a x. absurd (other place a x); bits = λ place a c x y j u. absurd (other place a x) }
     where
       long : (hs : List (Option ℕ)) → Holds temps size before now (operand (in_register id) t whole ∷ []) cuts hs → length hs ≡ 1
       long [] held = absurd held
       long (c ∷ hs) held = let e = ap (λ (z : List (Option ℕ)). length z) held.1.1 in omega (arith, e)
 
-      other : (place : ℕ) (a : Term) → slice_get (in_register id ∷ []) place ≡ Some (in_file a) → ⊥
+      other : (place : ℕ) (a : ExprModel) → slice_get (in_register id ∷ []) place ≡ Some (in_file a) → ⊥
       other zero a x = absurd (cc)
       other (suc place) a x = absurd (cc)
 
-  file_homes : (b : Term) (w : ℕ) → Homed (read InFile b w)
+  file_homes : (b : ExprModel) (w : ℕ) → Homed (read InFile b w)
   file_homes b w t whole f cuts homes h r k =
-      let p : ((w == term_width t) ≡ true) × (record { setting = 0; sites = operand (in_file b) t whole ∷ [] } ≡ f) = opened _ _ _ h in
-      let held : Holds temps size before now (operand (in_file b) t whole ∷ []) cuts homes = subst (λ (z : Found). Holds temps size before now z.sites cuts homes) (sym p.1) k in
+      let p : ((w == expr_width t) ≡ true) × (record { setting = 0; sites = operand (in_file b) t whole ∷ [] } ≡ f) = opened _ _ _ h in
+      let held : Holds temps size before now (operand (in_file b) t whole ∷ []) cuts homes = subst (λ (z : MatchModel). Holds temps size before now z.sites cuts homes) (sym p.1) k in
       record {
         long = long homes held;
         filed = λ place a x. filed place a homes x held;
         bits = λ place a c x y j u.
             let (q, at) = first place a c homes x y held in
-            ap (λ (z : Found). bit_at (bits_in z cuts homes) j) (sym p.1) ∙ file_bits temps size before now b t whole cuts homes c held at j
+            ap (λ (z : MatchModel). bit_at (bits_in z cuts homes) j) (sym p.1) ∙ file_bits temps size before now b t whole cuts homes c held at j
             ∙ ap (λ z. bit_at (bits_or_none (shape_setting z c)) j) q;
       }
     where
@@ -231,25 +231,25 @@ module _ (temps size : ℕ) (before now : State) (same : (c : ℕ) → temps ≤
       long [] held = absurd held
       long (c ∷ hs) held = let e = ap (λ (z : List (Option ℕ)). length z) held.1.1 in omega (arith, e)
 
-      filed : (place : ℕ) (a : Term) (hs : List (Option ℕ)) → slice_get (in_file b ∷ []) place ≡ Some (in_file a)
+      filed : (place : ℕ) (a : ExprModel) (hs : List (Option ℕ)) → slice_get (in_file b ∷ []) place ≡ Some (in_file a)
           → Holds temps size before now (operand (in_file b) t whole ∷ []) cuts hs → (c : ℕ) × (slice_get hs place ≡ Some (Some c))
       filed place a [] x held = absurd held
       filed zero a (None ∷ hs) x held = absurd held.0
       filed zero a (Some c ∷ hs) x held = (c, refl)
       filed (suc place) a (c ∷ hs) x held = absurd (cc)
 
-      first : (place : ℕ) (a : Term) (c : ℕ) (hs : List (Option ℕ)) → slice_get (in_file b ∷ []) place ≡ Some (in_file a) → slice_get hs place ≡ Some (Some c)
+      first : (place : ℕ) (a : ExprModel) (c : ℕ) (hs : List (Option ℕ)) → slice_get (in_file b ∷ []) place ≡ Some (in_file a) → slice_get hs place ≡ Some (Some c)
           → Holds temps size before now (operand (in_file b) t whole ∷ []) cuts hs → (b ≡ a) × (slice_get hs 0 ≡ Some (Some c))
       first zero a c hs x y held = (cc, y)
       first (suc place) a c hs x y held = absurd (cc)
 
-  bin_homes : (a b : Term) (op : Op2) → Homed a → Homed b → IsOnce a → IsOnce b → CellsShown size a → CellsShown size b → BitsApart a b → BitsApart b a → (t : Term) (f : Found) (cuts : List CutCells) (homes : List (Option ℕ))
+  bin_homes : (a b : ExprModel) (op : Op2) → Homed a → Homed b → IsOnce a → IsOnce b → CellsShown size a → CellsShown size b → BitsApart a b → BitsApart b a → (t : ExprModel) (f : MatchModel) (cuts : List CutCellsModel) (homes : List (Option ℕ))
       → bin_match (matched temps a) (matched temps b) op t ≡ Some f → ReadsFrom temps before t → Holds temps size before now f.sites cuts homes → HasHomes (bin op a b) f cuts homes
   bin_homes a b op iha ihb oa ob qa qb ab ba (bin o c d) f cuts homes h r k =
       let p : (same_op2 o op ≡ true) × (both (matched temps a c false) (matched temps b d false) ≡ Some f) = picked _ _ _ h in
       let j : Joined (matched temps a c false) (matched temps b d false) f = joined _ _ _ p.1 in
       let s : Split temps size before now j.first.sites j.second.sites cuts homes =
-      split temps size before now j.first.sites j.second.sites cuts homes (subst (λ (z : Found). Holds temps size before now z.sites cuts homes) (sym j.is) k) in
+      split temps size before now j.first.sites j.second.sites cuts homes (subst (λ (z : MatchModel). Holds temps size before now z.sites cuts homes) (sym j.is) k) in
       let x : HasHomes a j.first s.front s.fronts = iha c false j.first s.front s.fronts j.is_first r.0 s.first in
       let y : HasHomes b j.second s.back s.backs = ihb d false j.second s.back s.backs j.is_second r.1 s.second in
       let m : IsMeant temps size before now a c j.first s.front s.fronts = matched_meant temps size before now same a oa qa c false j.first s.front s.fronts j.is_first r.0 s.first in
@@ -289,7 +289,7 @@ module _ (temps size : ℕ) (before now : State) (same : (c : ℕ) → temps ≤
       }
   bin_homes a b op iha ihb oa ob qa qb ab ba t f cuts homes h r k = absurd (cc)
 
-  un_homes : (a : Term) (op : Op1) → Homed a → (t : Term) (f : Found) (cuts : List CutCells) (homes : List (Option ℕ)) → un_match (matched temps a) op t ≡ Some f → ReadsFrom temps before t
+  un_homes : (a : ExprModel) (op : Op1) → Homed a → (t : ExprModel) (f : MatchModel) (cuts : List CutCellsModel) (homes : List (Option ℕ)) → un_match (matched temps a) op t ≡ Some f → ReadsFrom temps before t
       → Holds temps size before now f.sites cuts homes → HasHomes (un op a) f cuts homes
   un_homes a op ih (un o b) f cuts homes h r k =
       let p : (same_op1 o op ≡ true) × (matched temps a b false ≡ Some f) = picked _ _ _ h in
@@ -297,35 +297,35 @@ module _ (temps size : ℕ) (before now : State) (same : (c : ℕ) → temps ≤
       record { long = x.long; filed = x.filed; bits = x.bits }
   un_homes a op ih t f cuts homes h r k = absurd (cc)
 
-  read_homes : (a : Term) (w : ℕ) → Homed a → (t : Term) (f : Found) (cuts : List CutCells) (homes : List (Option ℕ)) → read_match (matched temps a) w t ≡ Some f → ReadsFrom temps before t
+  read_homes : (a : ExprModel) (w : ℕ) → Homed a → (t : ExprModel) (f : MatchModel) (cuts : List CutCellsModel) (homes : List (Option ℕ)) → read_match (matched temps a) w t ≡ Some f → ReadsFrom temps before t
       → Holds temps size before now f.sites cuts homes → HasHomes a f cuts homes
   read_homes a w ih (read InMemory b v) f cuts homes h r k =
       let p : ((v == w) ≡ true) × (matched temps a b (is_number b) ≡ Some f) = picked _ _ _ h in
       ih b (is_number b) f cuts homes p.1 r.1 k
   read_homes a w ih t f cuts homes h r k = absurd (cc)
 
-  slice_homes : (a : Term) (hi lo : ℕ) → Homed a → (t : Term) (f : Found) (cuts : List CutCells) (homes : List (Option ℕ)) → slice_match (matched temps a) (term_width a) hi lo t ≡ Some f → ReadsFrom temps before t
+  slice_homes : (a : ExprModel) (hi lo : ℕ) → Homed a → (t : ExprModel) (f : MatchModel) (cuts : List CutCellsModel) (homes : List (Option ℕ)) → slice_match (matched temps a) (expr_width a) hi lo t ≡ Some f → ReadsFrom temps before t
       → Holds temps size before now f.sites cuts homes → HasHomes a f cuts homes
   slice_homes a hi lo ih (slice b i l) f cuts homes h r k =
-      let p : (((term_width b == term_width a) && ((i == hi) && (l == lo))) ≡ true) × (matched temps a b false ≡ Some f) = picked _ _ _ h in
+      let p : (((expr_width b == expr_width a) && ((i == hi) && (l == lo))) ≡ true) × (matched temps a b false ≡ Some f) = picked _ _ _ h in
       ih b false f cuts homes p.1 r k
   slice_homes a hi lo ih t f cuts homes h r k = absurd (cc)
 
-  zext_homes : (a : Term) (w : ℕ) → Homed a → (t : Term) (f : Found) (cuts : List CutCells) (homes : List (Option ℕ)) → zext_match (matched temps a) (term_width a) w t ≡ Some f → ReadsFrom temps before t
+  zext_homes : (a : ExprModel) (w : ℕ) → Homed a → (t : ExprModel) (f : MatchModel) (cuts : List CutCellsModel) (homes : List (Option ℕ)) → zext_match (matched temps a) (expr_width a) w t ≡ Some f → ReadsFrom temps before t
       → Holds temps size before now f.sites cuts homes → HasHomes a f cuts homes
   zext_homes a w ih (zext b v) f cuts homes h r k =
-      let p : (((term_width b == term_width a) && (v == w)) ≡ true) × (matched temps a b false ≡ Some f) = picked _ _ _ h in
+      let p : (((expr_width b == expr_width a) && (v == w)) ≡ true) × (matched temps a b false ≡ Some f) = picked _ _ _ h in
       ih b false f cuts homes p.1 r k
   zext_homes a w ih t f cuts homes h r k = absurd (cc)
 
-  sext_homes : (a : Term) (w : ℕ) → Homed a → (t : Term) (f : Found) (cuts : List CutCells) (homes : List (Option ℕ)) → sext_match (matched temps a) (term_width a) w t ≡ Some f → ReadsFrom temps before t
+  sext_homes : (a : ExprModel) (w : ℕ) → Homed a → (t : ExprModel) (f : MatchModel) (cuts : List CutCellsModel) (homes : List (Option ℕ)) → sext_match (matched temps a) (expr_width a) w t ≡ Some f → ReadsFrom temps before t
       → Holds temps size before now f.sites cuts homes → HasHomes a f cuts homes
   sext_homes a w ih (sext b v) f cuts homes h r k =
-      let p : (((term_width b == term_width a) && (v == w)) ≡ true) × (matched temps a b false ≡ Some f) = picked _ _ _ h in
+      let p : (((expr_width b == expr_width a) && (v == w)) ≡ true) × (matched temps a b false ≡ Some f) = picked _ _ _ h in
       ih b false f cuts homes p.1 r k
   sext_homes a w ih t f cuts homes h r k = absurd (cc)
 
-  pub matched_homes : (e : Term) → IsOnce e → CellsShown size e → Homed e
+  pub matched_homes : (e : ExprModel) → IsOnce e → CellsShown size e → Homed e
   matched_homes (word w) o q t whole f cuts homes h r k = shape_homes (word w) (word w) t f cuts homes refl h k
   matched_homes (const w v) o q t whole f cuts homes h r k = shape_homes (const w v) (const w v) t f cuts homes refl h k
   matched_homes (reg id w) o q t whole f cuts homes h r k = reg_homes id w t whole f cuts homes h r k
@@ -342,17 +342,17 @@ module _ (temps size : ℕ) (before now : State) (same : (c : ℕ) → temps ≤
         | inr l ↦ bin_homes a b op (matched_homes a o.0 q.0) (matched_homes b o.1 q.1) o.0 o.1 q.0 q.1 o.2 o.3 t f cuts homes l.1 r k
       ]
   matched_homes (slice a hi lo) o q t whole f cuts homes h r k =
-      elim (decided (is_shape (slice a hi lo)) (shape_match (slice a hi lo) t) (slice_match (matched temps a) (term_width a) hi lo t) f h) as (λ _. HasHomes (slice a hi lo) f cuts homes) [
+      elim (decided (is_shape (slice a hi lo)) (shape_match (slice a hi lo) t) (slice_match (matched temps a) (expr_width a) hi lo t) f h) as (λ _. HasHomes (slice a hi lo) f cuts homes) [
         | inl l ↦ shape_homes (slice a hi lo) (slice a hi lo) t f cuts homes (pick_none (is_shape (slice a hi lo)) (homes_in a) l.0) l.1 k
         | inr l ↦ same_homes (slice a hi lo) a f cuts homes (pick_some (is_shape (slice a hi lo)) (homes_in a) l.0) (slice_homes a hi lo (matched_homes a o q) t f cuts homes l.1 r k)
       ]
   matched_homes (zext a w) o q t whole f cuts homes h r k =
-      elim (decided (is_shape (zext a w)) (shape_match (zext a w) t) (zext_match (matched temps a) (term_width a) w t) f h) as (λ _. HasHomes (zext a w) f cuts homes) [
+      elim (decided (is_shape (zext a w)) (shape_match (zext a w) t) (zext_match (matched temps a) (expr_width a) w t) f h) as (λ _. HasHomes (zext a w) f cuts homes) [
         | inl l ↦ shape_homes (zext a w) (zext a w) t f cuts homes (pick_none (is_shape (zext a w)) (homes_in a) l.0) l.1 k
         | inr l ↦ same_homes (zext a w) a f cuts homes (pick_some (is_shape (zext a w)) (homes_in a) l.0) (zext_homes a w (matched_homes a o q) t f cuts homes l.1 r k)
       ]
   matched_homes (sext a w) o q t whole f cuts homes h r k =
-      elim (decided (is_shape (sext a w)) (shape_match (sext a w) t) (sext_match (matched temps a) (term_width a) w t) f h) as (λ _. HasHomes (sext a w) f cuts homes) [
+      elim (decided (is_shape (sext a w)) (shape_match (sext a w) t) (sext_match (matched temps a) (expr_width a) w t) f h) as (λ _. HasHomes (sext a w) f cuts homes) [
         | inl l ↦ shape_homes (sext a w) (sext a w) t f cuts homes (pick_none (is_shape (sext a w)) (homes_in a) l.0) l.1 k
         | inr l ↦ same_homes (sext a w) a f cuts homes (pick_some (is_shape (sext a w)) (homes_in a) l.0) (sext_homes a w (matched_homes a o q) t f cuts homes l.1 r k)
       ]

@@ -6,30 +6,30 @@ use Rattle.std.specs.List.{AllZip}
 use Rattle.std.proofs.lemmas.Nat.Bits.{bit_at-zero}
 use Rattle.std.proofs.lemmas.List.{get_or-set_same, get_or-set_other, length-set}
 use Rattle.net_model.specs.declared.states.State.{State}
-use Rattle.net_model.specs.Terms.{Term}
+use Rattle.net_model.specs.Exprs.{ExprModel}
 use Rattle.net_model.specs.Meaning.{mean}
 use Rattle.net_model.specs.Patterns.{Pattern}
 use Rattle.form_model.specs.declared.forms.Step.{Step}
-use Rattle.form_model.specs.Rules.{Destination, into, filed, cell, stored, temporary, tested}
-use Rattle.form_model.specs.Matches.{Home, in_register, in_file, Site, Found}
-use Rattle.form_model.specs.Plans.{Plan, use_form, Operands, no_operands, operand_then, Cuts, no_cuts, cut_then}
-use Rattle.form_model.specs.Covers.{Stock, operands_of, cuts_of, home_destination, home_cells, form_cells, left_cells, need, operands_need, written, all_written, IsOrderly, AreOrderly, AreCut}
+use Rattle.form_model.specs.Forms.{DestinationModel, into, filed, cell, stored, temporary, tested}
+use Rattle.form_model.specs.Matches.{HomeModel, in_register, in_file, LeafModel, MatchModel}
+use Rattle.form_model.specs.CoverModels.{CoverModel, use_form, CoverOperandsModel, no_operands, operand_then, CoverCutsModel, no_cuts, cut_then}
+use Rattle.form_model.specs.Covers.{StockModel, operands_of, cuts_of, home_destination, home_cells, form_cells, left_cells, need, operands_need, written, all_written, IsOrderly, AreOrderly, AreCut}
 use Rattle.form_model.specs.Effects.{Operation, operation_of, steps_effect}
-use Rattle.form_model.specs.Steps.{OperandCells, CutCells, cut_count, operand_counts, cut_counts, plan_operand_cells, plan_cut_cells, operand_cells_or_none, rule_at, found_at, holding, cell_or, free_cell, cell_of, operand_homes, first_home, own_steps, operand_steps, woven, cut_steps, inside_operands, into_cells, plan_setting, form_step}
+use Rattle.form_model.specs.Steps.{OperandCellsModel, CutCellsModel, cut_count, operand_counts, cut_counts, cover_operand_cells, cover_cut_cells, operand_cells_or_none, form_at, match_at, holding, cell_or, free_cell, cell_of, operand_homes, first_home, own_steps, operand_steps, woven, cut_steps, inside_operands, into_cells, cover_setting, form_step}
 use Rattle.emit_seq.specs.Formed.{AreFormed}
 use Rattle.emit_seq.specs.Leaves.{ReadsFrom, placed, DestinationReads}
 use Rattle.emit_seq.proofs.BitUnions.{zero_left, zero_right}
 use Rattle.emit_seq.proofs.Matched.{AtHome, Holds}
-use Rattle.emit_seq.proofs.Sites.{SitesRead}
+use Rattle.emit_seq.proofs.Sites.{LeavesRead}
 use Rattle.form_model.proofs.NeedLaws.{goal_cells, cells_left}
 use Rattle.form_model.proofs.Zips.{Each, each_at, each_weaker, each_both, zip_put, zip_at}
 use Rattle.emit_seq.specs.Inner.CellLists.{operands_in, trees_in}
-use Rattle.emit_seq.proofs.Walks.{effect-steps, cells_operands, cells_trees, past_sites, OperandCount, CutCount, operands_counted, cuts_counted, operands_below, cuts_below, operands_read, cuts_read, holds_of, IsLocal, IsKept, kept_local, Fills, Stores, IsFilled, IsWalked, walk}
-use Rattle.emit_seq.proofs.Opened.{IsOpened, opened_plan, IsOpenedOperand, opened_operand, operands_long, cuts_long, past_plan, into_formed, writes_own, goal_sites}
+use Rattle.emit_seq.proofs.Walks.{effect-steps, cells_operands, cells_trees, past_leaves, OperandCount, CutCount, operands_counted, cuts_counted, operands_below, cuts_below, operands_read, cuts_read, holds_of, IsLocal, IsKept, kept_local, Fills, Stores, IsFilled, IsWalked, walk}
+use Rattle.emit_seq.proofs.Opened.{IsOpened, opened_cover, IsOpenedOperand, opened_operand, operands_long, cuts_long, past_cover, into_formed, writes_own, goal_sites}
 use Rattle.emit_seq.proofs.Forms.{OwnBelow, OwnIn, form_done}
 use Rattle.emit_seq.proofs.FreeCells.{free_count, all_free, held_same, held_more, IsFree, left_some, left_none, room_left, cell_free, tied_is}
 
-module _ (stock : Stock) (file_storage : Option ℕ) (patterns : List Pattern) (before : State) where
+module _ (stock : StockModel) (file_storage : Option ℕ) (patterns : List Pattern) (before : State) where
   abbrev m : Step → Operation
   m = operation_of file_storage patterns
 
@@ -40,28 +40,28 @@ module _ (stock : Stock) (file_storage : Option ℕ) (patterns : List Pattern) (
   size = stock.file
 
   -- operands in their homes and cuts in their cells, for the form at the root
-  abbrev pub PlanHolds : Plan → ℕ → ℕ → Destination → Term → Bool → State → Type 0
-  PlanHolds (use_form k ps cs) n held destination tree whole mid =
-      Holds low size before mid (found_at stock k destination tree whole).sites (plan_cut_cells (found_at stock k destination tree whole).sites ps cs n) (operand_homes stock ps held)
+  abbrev pub CoverHolds : CoverModel → ℕ → ℕ → DestinationModel → ExprModel → Bool → State → Type 0
+  CoverHolds (use_form k ps cs) n held destination tree whole mid =
+      Holds low size before mid (match_at stock k destination tree whole).sites (cover_cut_cells (match_at stock k destination tree whole).sites ps cs n) (operand_homes stock ps held)
 
   -- from s the cover's own steps lead to a state in which its operands stand, and put the value of
   -- the tree into its destination; the cells of the file that are held stay
-  pub record IsDone (p : Plan) (n held : ℕ) (destination : Destination) (tree : Term) (whole : Bool) (s : State) : Type 0 where
+  pub record IsDone (p : CoverModel) (n held : ℕ) (destination : DestinationModel) (tree : ExprModel) (whole : Bool) (s : State) : Type 0 where
     pub mid : State
     pub cells : mid.cells ≡ s.cells
     pub regs : length mid.regs ≡ length s.regs
     pub file : length mid.file ≡ length s.file
     pub stay : (c : ℕ) → bit_at held c ≡ 1 → slice_index mid.file c ≡ slice_index s.file c
     pub kept : (r : ℕ) → bit_at (written stock.rules p) r ≡ 0 → slice_index mid.regs r ≡ slice_index s.regs r
-    pub holds : PlanHolds p n held destination tree whole mid
+    pub holds : CoverHolds p n held destination tree whole mid
     pub ends : steps_effect m (own_steps stock p n held destination tree whole) s ≡ placed before mid destination (n + cut_count p) (cell_of stock p held) (mean tree before 0)
 
   -- the steps for the cuts of a cover change their cells alone, and its own steps do what they
   -- should once those are filled
-  pub record IsGood (p : Plan) : Type 0 where
-    pub quiet : (n : ℕ) (destination : Destination) (tree : Term) (whole : Bool) → IsOrderly stock destination tree whole p → ReadsFrom low before tree → DestinationReads low before destination
+  pub record IsGood (p : CoverModel) : Type 0 where
+    pub quiet : (n : ℕ) (destination : DestinationModel) (tree : ExprModel) (whole : Bool) → IsOrderly stock destination tree whole p → ReadsFrom low before tree → DestinationReads low before destination
         → n + cut_count p ≤ low → (s : State) → IsKept low before s → IsLocal n (n + cut_count p) s (steps_effect m (cut_steps stock p n destination tree whole) s)
-    pub works : (n held : ℕ) (destination : Destination) (tree : Term) (whole : Bool) → IsOrderly stock destination tree whole p → need stock.rules p ≤ free_count held size → ReadsFrom low before tree → DestinationReads low before destination
+    pub works : (n held : ℕ) (destination : DestinationModel) (tree : ExprModel) (whole : Bool) → IsOrderly stock destination tree whole p → need stock.rules p ≤ free_count held size → ReadsFrom low before tree → DestinationReads low before destination
         → n + cut_count p ≤ low → OwnBelow destination (n + cut_count p) low → (s : State) → IsKept low before s → (from : State) → IsKept low before from
         → ((c : ℕ) → n ≤ c → c < n + cut_count p → slice_index s.cells c ≡ slice_index (steps_effect m (cut_steps stock p n destination tree whole) from).cells c)
         → IsDone p n held destination tree whole s
@@ -69,16 +69,16 @@ module _ (stock : Stock) (file_storage : Option ℕ) (patterns : List Pattern) (
   three : (a b c d : State) → a ≡ b → b ≡ c → c ≡ d → a ≡ d
   three a b c d p q r = p ∙ q ∙ r
 
-  abbrev OperandFits : OperandCells → Type 0
+  abbrev OperandFits : OperandCellsModel → Type 0
   OperandFits cells = ReadsFrom low before cells.operand.tree × (cells.past ≤ low)
 
-  abbrev CutFits : CutCells → Type 0
+  abbrev CutFits : CutCellsModel → Type 0
   CutFits cells = ReadsFrom low before cells.tree × (cells.cell < low)
 
-  abbrev IsHeld : State → OperandCells → Option ℕ → Type 0
+  abbrev IsHeld : State → OperandCellsModel → Option ℕ → Type 0
   IsHeld t cells home = AtHome low size before t cells.operand.home home cells.operand.tree
 
-  record IsEvaluated (ps : Operands) (held : ℕ) (left : List OperandCells) (s t : State) : Type 0 where
+  record IsEvaluated (ps : CoverOperandsModel) (held : ℕ) (left : List OperandCellsModel) (s t : State) : Type 0 where
     cells : t.cells ≡ s.cells
     regs : length t.regs ≡ length s.regs
     file : length t.file ≡ length s.file
@@ -86,18 +86,18 @@ module _ (stock : Stock) (file_storage : Option ℕ) (patterns : List Pattern) (
     kept : (r : ℕ) → bit_at (all_written stock.rules ps) r ≡ 0 → slice_index t.regs r ≡ slice_index s.regs r
     homes : AllZip (IsHeld t) left (operand_homes stock ps held)
 
-  record AreGood (ps : Operands) : Type 0 where
-    fills : (left : List OperandCells) → AreOrderly stock (operands_in left) ps → Each OperandFits left → AllZip OperandCount left (operand_counts ps)
+  record AreGood (ps : CoverOperandsModel) : Type 0 where
+    fills : (left : List OperandCellsModel) → AreOrderly stock (operands_in left) ps → Each OperandFits left → AllZip OperandCount left (operand_counts ps)
         → AllZip (Fills m low before) left (inside_operands stock ps left)
-    evaluates : (held : ℕ) (left : List OperandCells) → AreOrderly stock (operands_in left) ps → operands_need stock.rules ps ≤ free_count held size → Each OperandFits left → AllZip OperandCount left (operand_counts ps)
+    evaluates : (held : ℕ) (left : List OperandCellsModel) → AreOrderly stock (operands_in left) ps → operands_need stock.rules ps ≤ free_count held size → Each OperandFits left → AllZip OperandCount left (operand_counts ps)
         → (s : State) → IsKept low before s → AllZip (IsFilled m low before s) left (inside_operands stock ps left)
         → IsEvaluated ps held left s (steps_effect m (operand_steps stock ps left held) s)
 
-  record AreStored (cs : Cuts) : Type 0 where
-    stores : (cuts : List CutCells) → AreCut stock (trees_in cuts) cs → Each CutFits cuts → AllZip CutCount cuts (cut_counts cs)
+  record AreStored (cs : CoverCutsModel) : Type 0 where
+    stores : (cuts : List CutCellsModel) → AreCut stock (trees_in cuts) cs → Each CutFits cuts → AllZip CutCount cuts (cut_counts cs)
         → AllZip (Stores m low before) cuts (into_cells stock cs cuts)
 
-  filled_same : (now next : State) → next.cells ≡ now.cells → (left : List OperandCells) (xs : List (List Step)) → AllZip (IsFilled m low before now) left xs → AllZip (IsFilled m low before next) left xs
+  filled_same : (now next : State) → next.cells ≡ now.cells → (left : List OperandCellsModel) (xs : List (List Step)) → AllZip (IsFilled m low before now) left xs → AllZip (IsFilled m low before next) left xs
   filled_same now next e [] [] h = tt
   filled_same now next e [] (x ∷ xs) h = absurd h
   filled_same now next e (cells ∷ left) [] h = absurd h
@@ -107,16 +107,16 @@ module _ (stock : Stock) (file_storage : Option ℕ) (patterns : List Pattern) (
 
   module _ (count : ℕ) (formed : AreFormed file_storage patterns count stock.file stock.rules) (wide : count ≡ length before.regs) (large : low ≤ length before.cells) (roomy : stock.file ≤ length before.file) where
     -- a cover into a register writes it
-    plan_into : (p : Plan) (id : ℕ) (tree : Term) (whole : Bool) → IsOrderly stock (into id) tree whole p → (id < count) × (bit_at (written stock.rules p) id ≡ 1)
-    plan_into (use_form k ps cs) id tree whole c =
-        let w : IsOpened stock k ps cs (into id) tree whole = opened_plan stock k ps cs (into id) tree whole c in
-        let f : (id < count) × (bit_at (rule_at stock k).clobbers id ≡ 1) =
-        into_formed stock.temps file_storage patterns count stock.file (rule_at stock k) (rule_at stock k).goal id tree whole (found_at stock k (into id) tree whole)
-        (formed k (rule_at stock k) w.listed) w.takes in
-        (f.0, writes_own stock.rules k (rule_at stock k) ps cs id w.listed f.1)
+    cover_into : (p : CoverModel) (id : ℕ) (tree : ExprModel) (whole : Bool) → IsOrderly stock (into id) tree whole p → (id < count) × (bit_at (written stock.rules p) id ≡ 1)
+    cover_into (use_form k ps cs) id tree whole c =
+        let w : IsOpened stock k ps cs (into id) tree whole = opened_cover stock k ps cs (into id) tree whole c in
+        let f : (id < count) × (bit_at (form_at stock k).clobbers id ≡ 1) =
+        into_formed stock.temps file_storage patterns count stock.file (form_at stock k) (form_at stock k).goal id tree whole (match_at stock k (into id) tree whole)
+        (formed k (form_at stock k) w.listed) w.takes in
+        (f.0, writes_own stock.rules k (form_at stock k) ps cs id w.listed f.1)
 
     -- a value put into its home: it is there, and no other register and no other cell has changed
-    record IsHomed (home : Home) (own_cell : Option ℕ) (v : ℕ) (mid t : State) : Type 0 where
+    record IsHomed (home : HomeModel) (own_cell : Option ℕ) (v : ℕ) (mid t : State) : Type 0 where
       cells : t.cells ≡ mid.cells
       regs : length t.regs ≡ length mid.regs
       file : length t.file ≡ length mid.file
@@ -125,7 +125,7 @@ module _ (stock : Stock) (file_storage : Option ℕ) (patterns : List Pattern) (
       at_register : (r : ℕ) → home ≡ in_register r → slice_index t.regs r ≡ v
       at_cell : (c : ℕ) → home_cells home ≡ 1 → own_cell ≡ Some c → slice_index t.file c ≡ v
 
-    homed : (home : Home) (own_cell : Option ℕ) (own v : ℕ) (mid : State) → ((r : ℕ) → home ≡ in_register r → r < length mid.regs)
+    homed : (home : HomeModel) (own_cell : Option ℕ) (own v : ℕ) (mid : State) → ((r : ℕ) → home ≡ in_register r → r < length mid.regs)
         → (home_cells home ≡ 1 → (c : ℕ) × (own_cell ≡ Some c) × (c < length mid.file))
         → IsHomed home own_cell v mid (placed before mid (home_destination home) own own_cell v)
     homed (in_register id) own_cell own v mid f g = record {
@@ -151,30 +151,30 @@ module _ (stock : Stock) (file_storage : Option ℕ) (patterns : List Pattern) (
         }
 
     -- an operand in its home stays there
-    held_at : (home : Home) (own_cell : Option ℕ) (tree : Term) (t : State) → IsFree size 0 own_cell → (home_cells home ≡ 1 → (c : ℕ) × (own_cell ≡ Some c)) → ((r : ℕ) → home ≡ in_register r → slice_index t.regs r ≡ mean tree before 0)
+    held_at : (home : HomeModel) (own_cell : Option ℕ) (tree : ExprModel) (t : State) → IsFree size 0 own_cell → (home_cells home ≡ 1 → (c : ℕ) × (own_cell ≡ Some c)) → ((r : ℕ) → home ≡ in_register r → slice_index t.regs r ≡ mean tree before 0)
         → ((c : ℕ) → home_cells home ≡ 1 → own_cell ≡ Some c → slice_index t.file c ≡ mean tree before 0) → AtHome low size before t home own_cell tree
     held_at (in_register id) own_cell tree t f s g h = g id refl
     held_at (in_file shape) None tree t f s g h = let (c, e) = s refl in absurd (cc)
     held_at (in_file shape) (Some c) tree t f s g h = (f.0, h c refl refl)
 
     -- no operand's cover is wider than the operands' together
-    own_dest : (home : Home) (own : ℕ) → OwnBelow (home_destination home) own low
+    own_dest : (home : HomeModel) (own : ℕ) → OwnBelow (home_destination home) own low
     own_dest (in_register id) own = tt
     own_dest (in_file shape) own = tt
 
-    home_reads : (home : Home) → DestinationReads low before (home_destination home)
+    home_reads : (home : HomeModel) → DestinationReads low before (home_destination home)
     home_reads (in_register id) = tt
     home_reads (in_file shape) = tt
 
     -- one operand's own steps
-    operand_done : (held i : ℕ) (p : Plan) (ps : Operands) → IsGood p → (left : List OperandCells) → AreOrderly stock (operands_in left) (operand_then i p ps) → need stock.rules p ≤ free_count held size → Each OperandFits left
+    operand_done : (held i : ℕ) (p : CoverModel) (ps : CoverOperandsModel) → IsGood p → (left : List OperandCellsModel) → AreOrderly stock (operands_in left) (operand_then i p ps) → need stock.rules p ≤ free_count held size → Each OperandFits left
         → AllZip OperandCount left (operand_counts (operand_then i p ps)) → (s : State) → IsKept low before s
         → AllZip (IsFilled m low before s) left (inside_operands stock (operand_then i p ps) left)
         → IsDone p (operand_cells_or_none (slice_get left i)).first held (home_destination (operand_cells_or_none (slice_get left i)).operand.home) (operand_cells_or_none (slice_get left i)).operand.tree
         (operand_cells_or_none (slice_get left i)).operand.whole s
     operand_done held i p ps good left c room f z s k y =
-        let cells : OperandCells = operand_cells_or_none (slice_get left i) in
-        let into_home : Destination = home_destination cells.operand.home in
+        let cells : OperandCellsModel = operand_cells_or_none (slice_get left i) in
+        let into_home : DestinationModel = home_destination cells.operand.home in
         let w : IsOpenedOperand stock left i cells p ps = opened_operand stock left i p ps c in
         let fits : OperandFits cells = (each_at OperandFits left i cells w.at f).0 in
         let long : OperandCount cells (cut_count p) = (zip_at OperandCount left (operand_counts ps) i cells (cut_count p) w.at z).0 in
@@ -184,14 +184,14 @@ module _ (stock : Stock) (file_storage : Option ℕ) (patterns : List Pattern) (
         good.works cells.first held into_home cells.operand.tree cells.operand.whole w.orderly room fits.0 (home_reads cells.operand.home) (omega (arith, fits.1, long)) (own_dest cells.operand.home (cells.first + cut_count p)) s k filled.from filled.kept
         (λ e lo hi. filled.same e lo (omega (arith, hi, long)))
 
-    operand_good : (i : ℕ) (p : Plan) (ps : Operands) → IsGood p → AreGood ps → AreGood (operand_then i p ps)
+    operand_good : (i : ℕ) (p : CoverModel) (ps : CoverOperandsModel) → IsGood p → AreGood ps → AreGood (operand_then i p ps)
     operand_good i p ps good rest = record { fills = fills'; evaluates = evaluates' }
       where
-        fills' : (left : List OperandCells) → AreOrderly stock (operands_in left) (operand_then i p ps) → Each OperandFits left → AllZip OperandCount left (operand_counts (operand_then i p ps))
+        fills' : (left : List OperandCellsModel) → AreOrderly stock (operands_in left) (operand_then i p ps) → Each OperandFits left → AllZip OperandCount left (operand_counts (operand_then i p ps))
             → AllZip (Fills m low before) left (inside_operands stock (operand_then i p ps) left)
         fills' left c f z =
-            let cells : OperandCells = operand_cells_or_none (slice_get left i) in
-            let into_home : Destination = home_destination cells.operand.home in
+            let cells : OperandCellsModel = operand_cells_or_none (slice_get left i) in
+            let into_home : DestinationModel = home_destination cells.operand.home in
             let w : IsOpenedOperand stock left i cells p ps = opened_operand stock left i p ps c in
             let fits : OperandFits cells × Each OperandFits (remove left i) = each_at OperandFits left i cells w.at f in
             let long : OperandCount cells (cut_count p) × AllZip OperandCount (remove left i) (operand_counts ps) = zip_at OperandCount left (operand_counts ps) i cells (cut_count p) w.at z in
@@ -202,13 +202,13 @@ module _ (stock : Stock) (file_storage : Option ℕ) (patterns : List Pattern) (
             zip_put (Fills m low before) left (inside_operands stock ps (remove left i)) i cells seg w.at head
             (rest.fills (remove left i) w.rest fits.1 long.1)
 
-        evaluates' : (held : ℕ) (left : List OperandCells) → AreOrderly stock (operands_in left) (operand_then i p ps) → operands_need stock.rules (operand_then i p ps) ≤ free_count held size → Each OperandFits left → AllZip OperandCount left (operand_counts (operand_then i p ps))
+        evaluates' : (held : ℕ) (left : List OperandCellsModel) → AreOrderly stock (operands_in left) (operand_then i p ps) → operands_need stock.rules (operand_then i p ps) ≤ free_count held size → Each OperandFits left → AllZip OperandCount left (operand_counts (operand_then i p ps))
             → (s : State) → IsKept low before s → AllZip (IsFilled m low before s) left (inside_operands stock (operand_then i p ps) left)
             → IsEvaluated (operand_then i p ps) held left s (steps_effect m (operand_steps stock (operand_then i p ps) left held) s)
         evaluates' held left c room f z s k y =
-            let cells : OperandCells = operand_cells_or_none (slice_get left i) in
-            let home : Home = cells.operand.home in
-            let into_home : Destination = home_destination home in
+            let cells : OperandCellsModel = operand_cells_or_none (slice_get left i) in
+            let home : HomeModel = cells.operand.home in
+            let into_home : DestinationModel = home_destination home in
             let cell : Option ℕ = cell_of stock p held in
             let more : ℕ = holding held cell in
             let v : ℕ = mean cells.operand.tree before 0 in
@@ -224,7 +224,7 @@ module _ (stock : Stock) (file_storage : Option ℕ) (patterns : List Pattern) (
             let d : IsDone p cells.first held into_home cells.operand.tree cells.operand.whole s = operand_done held i p ps good left c needs f z s k y in
             let t : State = placed before d.mid into_home (cells.first + cut_count p) cell v in
             let at : (r : ℕ) → home ≡ in_register r → (r < count) × (bit_at (written stock.rules p) r ≡ 1) =
-            λ r e. plan_into p r cells.operand.tree cells.operand.whole (subst (λ q. IsOrderly stock (home_destination q) cells.operand.tree cells.operand.whole p) e w.orderly) in
+            λ r e. cover_into p r cells.operand.tree cells.operand.whole (subst (λ q. IsOrderly stock (home_destination q) cells.operand.tree cells.operand.whole p) e w.orderly) in
             let h : IsHomed home cell v d.mid t =
             homed home cell (cells.first + cut_count p) v d.mid (λ r e. (let a = (at r e).0 in omega (arith, a, wide, d.regs, k.regs)))
             (λ one. (let (q, e) = given one in (q, e, (let a = (subst (IsFree size held) e free).0 in omega (arith, a, roomy, d.file, k.file))))) in
@@ -273,11 +273,11 @@ module _ (stock : Stock) (file_storage : Option ℕ) (patterns : List Pattern) (
     none_good : AreGood no_operands
     none_good = record { fills = fills'; evaluates = evaluates' }
       where
-        fills' : (left : List OperandCells) → AreOrderly stock (operands_in left) no_operands → Each OperandFits left → AllZip OperandCount left [] → AllZip (Fills m low before) left []
+        fills' : (left : List OperandCellsModel) → AreOrderly stock (operands_in left) no_operands → Each OperandFits left → AllZip OperandCount left [] → AllZip (Fills m low before) left []
         fills' [] c f z = tt
         fills' (cells ∷ left) c f z = absurd (cc)
 
-        evaluates' : (held : ℕ) (left : List OperandCells) → AreOrderly stock (operands_in left) no_operands → operands_need stock.rules no_operands ≤ free_count held size → Each OperandFits left → AllZip OperandCount left []
+        evaluates' : (held : ℕ) (left : List OperandCellsModel) → AreOrderly stock (operands_in left) no_operands → operands_need stock.rules no_operands ≤ free_count held size → Each OperandFits left → AllZip OperandCount left []
             → (s : State) → IsKept low before s → AllZip (IsFilled m low before s) left [] → IsEvaluated no_operands held left s s
         evaluates' held [] c room f z s k y = record { cells = refl; regs = refl; file = refl; stay = λ q h. refl; kept = λ r h. refl; homes = tt }
         evaluates' held (cells ∷ left) c room f z s k y = absurd (cc)
@@ -285,12 +285,12 @@ module _ (stock : Stock) (file_storage : Option ℕ) (patterns : List Pattern) (
     none_stored : AreStored no_cuts
     none_stored = record { stores = stores' }
       where
-        stores' : (cuts : List CutCells) → AreCut stock (trees_in cuts) no_cuts → Each CutFits cuts → AllZip CutCount cuts [] → AllZip (Stores m low before) cuts []
+        stores' : (cuts : List CutCellsModel) → AreCut stock (trees_in cuts) no_cuts → Each CutFits cuts → AllZip CutCount cuts [] → AllZip (Stores m low before) cuts []
         stores' [] c f z = tt
         stores' (cells ∷ cuts) c f z = absurd (cc)
 
     -- a cut's steps put its value into its cell
-    cut_stored : (p : Plan) → IsGood p → (cells : CutCells) → IsOrderly stock temporary cells.tree false p → need stock.rules p ≤ size → CutFits cells → CutCount cells (cut_count p)
+    cut_stored : (p : CoverModel) → IsGood p → (cells : CutCellsModel) → IsOrderly stock temporary cells.tree false p → need stock.rules p ≤ size → CutFits cells → CutCount cells (cut_count p)
         → Stores m low before cells (cut_steps stock p cells.first temporary cells.tree false ++ own_steps stock p cells.first 0 temporary cells.tree false)
     cut_stored p good cells c room f z s k =
         let inside : List Step = cut_steps stock p cells.first temporary cells.tree false in
@@ -325,10 +325,10 @@ module _ (stock : Stock) (file_storage : Option ℕ) (patterns : List Pattern) (
         outside a n b e z (inl h) = (λ q. omega (arith, q), inl h)
         outside a n b e z (inr h) = (λ q. omega (arith, q), inr (omega arith))
 
-    cut_good : (p : Plan) (cs : Cuts) → IsGood p → AreStored cs → AreStored (cut_then p cs)
+    cut_good : (p : CoverModel) (cs : CoverCutsModel) → IsGood p → AreStored cs → AreStored (cut_then p cs)
     cut_good p cs good rest = record { stores = stores' }
       where
-        stores' : (cuts : List CutCells) → AreCut stock (trees_in cuts) (cut_then p cs) → Each CutFits cuts → AllZip CutCount cuts (cut_counts (cut_then p cs))
+        stores' : (cuts : List CutCellsModel) → AreCut stock (trees_in cuts) (cut_then p cs) → Each CutFits cuts → AllZip CutCount cuts (cut_counts (cut_then p cs))
             → AllZip (Stores m low before) cuts (into_cells stock (cut_then p cs) cuts)
         stores' [] c f z = absurd z
         stores' (cells ∷ cuts) c f z =
@@ -339,36 +339,36 @@ module _ (stock : Stock) (file_storage : Option ℕ) (patterns : List Pattern) (
             )
 
     -- what the parts of a form's cover give
-    record IsReady (k : ℕ) (ps : Operands) (cs : Cuts) (n : ℕ) (destination : Destination) (tree : Term) (whole : Bool) : Type 0 where
+    record IsReady (k : ℕ) (ps : CoverOperandsModel) (cs : CoverCutsModel) (n : ℕ) (destination : DestinationModel) (tree : ExprModel) (whole : Bool) : Type 0 where
       opened : IsOpened stock k ps cs destination tree whole
-      past : past_sites (found_at stock k destination tree whole).sites (operand_counts ps) (cut_counts cs) n ≡ n + cut_count (use_form k ps cs)
-      orderly : AreOrderly stock (operands_in (plan_operand_cells (found_at stock k destination tree whole).sites ps cs n)) ps
-      fits : Each OperandFits (plan_operand_cells (found_at stock k destination tree whole).sites ps cs n)
-      counts : AllZip OperandCount (plan_operand_cells (found_at stock k destination tree whole).sites ps cs n) (operand_counts ps)
-      fills : AllZip (Fills m low before) (plan_operand_cells (found_at stock k destination tree whole).sites ps cs n) (inside_operands stock ps (plan_operand_cells (found_at stock k destination tree whole).sites ps cs n))
-      stores : AllZip (Stores m low before) (plan_cut_cells (found_at stock k destination tree whole).sites ps cs n) (into_cells stock cs (plan_cut_cells (found_at stock k destination tree whole).sites ps cs n))
+      past : past_leaves (match_at stock k destination tree whole).sites (operand_counts ps) (cut_counts cs) n ≡ n + cut_count (use_form k ps cs)
+      orderly : AreOrderly stock (operands_in (cover_operand_cells (match_at stock k destination tree whole).sites ps cs n)) ps
+      fits : Each OperandFits (cover_operand_cells (match_at stock k destination tree whole).sites ps cs n)
+      counts : AllZip OperandCount (cover_operand_cells (match_at stock k destination tree whole).sites ps cs n) (operand_counts ps)
+      fills : AllZip (Fills m low before) (cover_operand_cells (match_at stock k destination tree whole).sites ps cs n) (inside_operands stock ps (cover_operand_cells (match_at stock k destination tree whole).sites ps cs n))
+      stores : AllZip (Stores m low before) (cover_cut_cells (match_at stock k destination tree whole).sites ps cs n) (into_cells stock cs (cover_cut_cells (match_at stock k destination tree whole).sites ps cs n))
 
-    ready : (k : ℕ) (ps : Operands) (cs : Cuts) → AreGood ps → AreStored cs → (n : ℕ) (destination : Destination) (tree : Term) (whole : Bool) → IsOrderly stock destination tree whole (use_form k ps cs)
+    ready : (k : ℕ) (ps : CoverOperandsModel) (cs : CoverCutsModel) → AreGood ps → AreStored cs → (n : ℕ) (destination : DestinationModel) (tree : ExprModel) (whole : Bool) → IsOrderly stock destination tree whole (use_form k ps cs)
         → ReadsFrom low before tree → DestinationReads low before destination → n + cut_count (use_form k ps cs) ≤ low → IsReady k ps cs n destination tree whole
     ready k ps cs gs gc n destination tree whole c r pr b =
-        let w : IsOpened stock k ps cs destination tree whole = opened_plan stock k ps cs destination tree whole c in
-        let sites : List Site = (found_at stock k destination tree whole).sites in
-        let read : SitesRead low before sites = goal_sites low before (rule_at stock k) (rule_at stock k).goal destination tree whole (found_at stock k destination tree whole) w.takes r pr in
-        let past : past_sites sites (operand_counts ps) (cut_counts cs) n ≡ n + cut_count (use_form k ps cs) = past_plan stock sites ps cs n w.operands w.cuts in
-        let below : past_sites sites (operand_counts ps) (cut_counts cs) n ≤ low = omega (arith, past, b) in
-        let orderly : AreOrderly stock (operands_in (plan_operand_cells sites ps cs n)) ps =
+        let w : IsOpened stock k ps cs destination tree whole = opened_cover stock k ps cs destination tree whole c in
+        let sites : List LeafModel = (match_at stock k destination tree whole).sites in
+        let read : LeavesRead low before sites = goal_sites low before (form_at stock k) (form_at stock k).goal destination tree whole (match_at stock k destination tree whole) w.takes r pr in
+        let past : past_leaves sites (operand_counts ps) (cut_counts cs) n ≡ n + cut_count (use_form k ps cs) = past_cover stock sites ps cs n w.operands w.cuts in
+        let below : past_leaves sites (operand_counts ps) (cut_counts cs) n ≤ low = omega (arith, past, b) in
+        let orderly : AreOrderly stock (operands_in (cover_operand_cells sites ps cs n)) ps =
         subst (λ z. AreOrderly stock z ps) (sym (cells_operands sites (operand_counts ps) (cut_counts cs) n)) w.operands in
-        let cuts : AreCut stock (trees_in (plan_cut_cells sites ps cs n)) cs =
+        let cuts : AreCut stock (trees_in (cover_cut_cells sites ps cs n)) cs =
         subst (λ z. AreCut stock z cs) (sym (cells_trees sites (operand_counts ps) (cut_counts cs) n)) w.cuts in
-        let fits : Each OperandFits (plan_operand_cells sites ps cs n) =
-        each_both (λ (cells : OperandCells). ReadsFrom low before cells.operand.tree) (λ (cells : OperandCells). cells.past ≤ low) (plan_operand_cells sites ps cs n)
+        let fits : Each OperandFits (cover_operand_cells sites ps cs n) =
+        each_both (λ (cells : OperandCellsModel). ReadsFrom low before cells.operand.tree) (λ (cells : OperandCellsModel). cells.past ≤ low) (cover_operand_cells sites ps cs n)
         (operands_read low before sites (operand_counts ps) (cut_counts cs) n read) (operands_below sites (operand_counts ps) (cut_counts cs) n low below) in
-        let cut_fits : Each CutFits (plan_cut_cells sites ps cs n) =
-        each_both (λ (cells : CutCells). ReadsFrom low before cells.tree) (λ (cells : CutCells). cells.cell < low) (plan_cut_cells sites ps cs n)
+        let cut_fits : Each CutFits (cover_cut_cells sites ps cs n) =
+        each_both (λ (cells : CutCellsModel). ReadsFrom low before cells.tree) (λ (cells : CutCellsModel). cells.cell < low) (cover_cut_cells sites ps cs n)
         (cuts_read low before sites (operand_counts ps) (cut_counts cs) n read) (cuts_below sites (operand_counts ps) (cut_counts cs) n low below) in
-        let counts : AllZip OperandCount (plan_operand_cells sites ps cs n) (operand_counts ps) =
+        let counts : AllZip OperandCount (cover_operand_cells sites ps cs n) (operand_counts ps) =
         operands_counted sites (operand_counts ps) (cut_counts cs) n (operands_long stock ps (operands_of sites) w.operands) in
-        let cut_counted : AllZip CutCount (plan_cut_cells sites ps cs n) (cut_counts cs) =
+        let cut_counted : AllZip CutCount (cover_cut_cells sites ps cs n) (cut_counts cs) =
         cuts_counted sites (operand_counts ps) (cut_counts cs) n (cuts_long stock cs (cuts_of sites) w.cuts) in
         record {
           opened = w;
@@ -376,61 +376,61 @@ module _ (stock : Stock) (file_storage : Option ℕ) (patterns : List Pattern) (
           orderly = orderly;
           fits = fits;
           counts = counts;
-          fills = gs.fills (plan_operand_cells sites ps cs n) orderly fits counts;
-          stores = gc.stores (plan_cut_cells sites ps cs n) cuts cut_fits cut_counted;
+          fills = gs.fills (cover_operand_cells sites ps cs n) orderly fits counts;
+          stores = gc.stores (cover_cut_cells sites ps cs n) cuts cut_fits cut_counted;
         }
 
     -- the cell that a form writes is one of the file's, and that of its tied operand
-    own_in : (k : ℕ) (ps : Operands) (cs : Cuts) (held : ℕ) (destination : Destination) (tree : Term) (whole : Bool) → IsOpened stock k ps cs destination tree whole → need stock.rules (use_form k ps cs) ≤ free_count held size
-        → OwnIn destination (rule_at stock k) (operand_homes stock ps held) (cell_of stock (use_form k ps cs) held) size
+    own_in : (k : ℕ) (ps : CoverOperandsModel) (cs : CoverCutsModel) (held : ℕ) (destination : DestinationModel) (tree : ExprModel) (whole : Bool) → IsOpened stock k ps cs destination tree whole → need stock.rules (use_form k ps cs) ≤ free_count held size
+        → OwnIn destination (form_at stock k) (operand_homes stock ps held) (cell_of stock (use_form k ps cs) held) size
     own_in k ps cs held (into id) tree whole w room = tt
     own_in k ps cs held filed tree whole w room =
-        let takes : form_cells (slice_get stock.rules k) ≡ 1 = ap form_cells w.listed ∙ goal_cells stock.temps (rule_at stock k) (rule_at stock k).goal (in_file tree) tree whole (found_at stock k filed tree whole) w.takes in
+        let takes : form_cells (slice_get stock.rules k) ≡ 1 = ap form_cells w.listed ∙ goal_cells stock.temps (form_at stock k) (form_at stock k).goal (in_file tree) tree whole (match_at stock k filed tree whole) w.takes in
         let (c, e) = left_some stock (use_form k ps cs) held takes in
         let free : IsFree size held (Some c) = subst (IsFree size held) e (cell_free stock (use_form k ps cs) held room) in
-        (c, e, free.0, λ d t. tied_is (slice_get stock.rules k) (rule_at stock k) w.listed (operand_homes stock ps held) (first_home stock ps held) (free_cell held stock.file) c d e t)
+        (c, e, free.0, λ d t. tied_is (slice_get stock.rules k) (form_at stock k) w.listed (operand_homes stock ps held) (first_home stock ps held) (free_cell held stock.file) c d e t)
     own_in k ps cs held (cell a) tree whole w room = tt
     own_in k ps cs held (stored a) tree whole w room = tt
     own_in k ps cs held temporary tree whole w room = tt
     own_in k ps cs held tested tree whole w room = tt
 
-    form_good : (k : ℕ) (ps : Operands) (cs : Cuts) → AreGood ps → AreStored cs → IsGood (use_form k ps cs)
+    form_good : (k : ℕ) (ps : CoverOperandsModel) (cs : CoverCutsModel) → AreGood ps → AreStored cs → IsGood (use_form k ps cs)
     form_good k ps cs gs gc = record { quiet = quiet'; works = works' }
       where
-        quiet' : (n : ℕ) (destination : Destination) (tree : Term) (whole : Bool) → IsOrderly stock destination tree whole (use_form k ps cs) → ReadsFrom low before tree → DestinationReads low before destination
+        quiet' : (n : ℕ) (destination : DestinationModel) (tree : ExprModel) (whole : Bool) → IsOrderly stock destination tree whole (use_form k ps cs) → ReadsFrom low before tree → DestinationReads low before destination
             → n + cut_count (use_form k ps cs) ≤ low → (s : State) → IsKept low before s
             → IsLocal n (n + cut_count (use_form k ps cs)) s (steps_effect m (cut_steps stock (use_form k ps cs) n destination tree whole) s)
         quiet' n destination tree whole c r pr b s h =
             let y : IsReady k ps cs n destination tree whole = ready k ps cs gs gc n destination tree whole c r pr b in
-            let sites : List Site = (found_at stock k destination tree whole).sites in
-            let segs : List (List Step) = inside_operands stock ps (plan_operand_cells sites ps cs n) in
-            let cuts : List (List Step) = into_cells stock cs (plan_cut_cells sites ps cs n) in
+            let sites : List LeafModel = (match_at stock k destination tree whole).sites in
+            let segs : List (List Step) = inside_operands stock ps (cover_operand_cells sites ps cs n) in
+            let cuts : List (List Step) = into_cells stock cs (cover_cut_cells sites ps cs n) in
             let w : IsWalked low before m sites (operand_counts ps) (cut_counts cs) n segs cuts s (steps_effect m (woven sites segs cuts) s) =
             walk low before m sites (operand_counts ps) (cut_counts cs) n segs cuts (omega (arith, y.past, b)) y.fills y.stores s (steps_effect m (woven sites segs cuts) s) h (λ e lo hi. refl) in
             subst (λ q. IsLocal n q s (steps_effect m (woven sites segs cuts) s)) y.past w.local
 
-        works' : (n held : ℕ) (destination : Destination) (tree : Term) (whole : Bool) → IsOrderly stock destination tree whole (use_form k ps cs) → need stock.rules (use_form k ps cs) ≤ free_count held size → ReadsFrom low before tree → DestinationReads low before destination
+        works' : (n held : ℕ) (destination : DestinationModel) (tree : ExprModel) (whole : Bool) → IsOrderly stock destination tree whole (use_form k ps cs) → need stock.rules (use_form k ps cs) ≤ free_count held size → ReadsFrom low before tree → DestinationReads low before destination
             → n + cut_count (use_form k ps cs) ≤ low → OwnBelow destination (n + cut_count (use_form k ps cs)) low → (s : State) → IsKept low before s → (from : State) → IsKept low before from
             → ((e : ℕ) → n ≤ e → e < n + cut_count (use_form k ps cs) → slice_index s.cells e ≡ slice_index (steps_effect m (cut_steps stock (use_form k ps cs) n destination tree whole) from).cells e)
             → IsDone (use_form k ps cs) n held destination tree whole s
         works' n held destination tree whole c room r pr b o s hs from hf a =
             let y : IsReady k ps cs n destination tree whole = ready k ps cs gs gc n destination tree whole c r pr b in
-            let found : Found = found_at stock k destination tree whole in
-            let sites : List Site = found.sites in
-            let left : List OperandCells = plan_operand_cells sites ps cs n in
-            let own_rooms : List CutCells = plan_cut_cells sites ps cs n in
+            let found : MatchModel = match_at stock k destination tree whole in
+            let sites : List LeafModel = found.sites in
+            let left : List OperandCellsModel = cover_operand_cells sites ps cs n in
+            let own_rooms : List CutCellsModel = cover_cut_cells sites ps cs n in
             let segs : List (List Step) = inside_operands stock ps left in
             let cuts : List (List Step) = into_cells stock cs own_rooms in
-            let below : past_sites sites (operand_counts ps) (cut_counts cs) n ≤ low = omega (arith, y.past, b) in
+            let below : past_leaves sites (operand_counts ps) (cut_counts cs) n ≤ low = omega (arith, y.past, b) in
             let w : IsWalked low before m sites (operand_counts ps) (cut_counts cs) n segs cuts from s =
             walk low before m sites (operand_counts ps) (cut_counts cs) n segs cuts below y.fills y.stores from s hf (λ e lo hi. a e lo (omega (arith, hi, y.past))) in
             let homes : List (Option ℕ) = operand_homes stock ps held in
             let e : IsEvaluated ps held left s (steps_effect m (operand_steps stock ps left held) s) = gs.evaluates held left y.orderly (omega (arith, room)) y.fits y.counts s hs w.filled in
             let mid : State = steps_effect m (operand_steps stock ps left held) s in
-            let stored : Each (λ (cells : CutCells). (cells.cell < low) × (slice_index mid.cells cells.cell ≡ mean cells.tree before 0)) own_rooms =
-            each_both (λ (cells : CutCells). cells.cell < low) (λ (cells : CutCells). slice_index mid.cells cells.cell ≡ mean cells.tree before 0) own_rooms
+            let stored : Each (λ (cells : CutCellsModel). (cells.cell < low) × (slice_index mid.cells cells.cell ≡ mean cells.tree before 0)) own_rooms =
+            each_both (λ (cells : CutCellsModel). cells.cell < low) (λ (cells : CutCellsModel). slice_index mid.cells cells.cell ≡ mean cells.tree before 0) own_rooms
             (cuts_below sites (operand_counts ps) (cut_counts cs) n low below)
-            (each_weaker (λ (cells : CutCells). slice_index s.cells cells.cell ≡ mean cells.tree before 0) (λ (cells : CutCells). slice_index mid.cells cells.cell ≡ mean cells.tree before 0)
+            (each_weaker (λ (cells : CutCellsModel). slice_index s.cells cells.cell ≡ mean cells.tree before 0) (λ (cells : CutCellsModel). slice_index mid.cells cells.cell ≡ mean cells.tree before 0)
             (λ cells h. ap (λ q. slice_index q cells.cell) e.cells ∙ h) own_rooms w.stored) in
             let holds : Holds low size before mid sites own_rooms homes = holds_of low size before mid sites (operand_counts ps) (cut_counts cs) n homes e.homes stored in
             record {
@@ -441,20 +441,20 @@ module _ (stock : Stock) (file_storage : Option ℕ) (patterns : List Pattern) (
               stay = e.stay;
               kept = λ q h. e.kept q (zero_right _ (all_written stock.rules ps) q h);
               holds = holds;
-              ends = effect-steps m (operand_steps stock ps left held) (form_step (rule_at stock k) destination (plan_setting stock (use_form k ps cs) n held destination tree whole)) s
-                  ∙ form_done low size before mid (λ q h. ap (λ z. slice_index z q) e.cells ∙ hs.same q h) file_storage patterns count (rule_at stock k) (rule_at stock k).goal destination tree whole
-                  found own_rooms homes (n + cut_count (use_form k ps cs)) (cell_of stock (use_form k ps cs) held) (formed k (rule_at stock k) y.opened.listed) y.opened.takes r pr holds o
+              ends = effect-steps m (operand_steps stock ps left held) (form_step (form_at stock k) destination (cover_setting stock (use_form k ps cs) n held destination tree whole)) s
+                  ∙ form_done low size before mid (λ q h. ap (λ z. slice_index z q) e.cells ∙ hs.same q h) file_storage patterns count (form_at stock k) (form_at stock k).goal destination tree whole
+                  found own_rooms homes (n + cut_count (use_form k ps cs)) (cell_of stock (use_form k ps cs) held) (formed k (form_at stock k) y.opened.listed) y.opened.takes r pr holds o
                   (own_in k ps cs held destination tree whole y.opened room);
             }
 
     mutual
-      pub good_plan : (p : Plan) → IsGood p
-      good_plan (use_form k ps cs) = form_good k ps cs (good_operands ps) (good_cuts cs)
+      pub good_cover : (p : CoverModel) → IsGood p
+      good_cover (use_form k ps cs) = form_good k ps cs (good_operands ps) (good_cuts cs)
 
-      good_operands : (ps : Operands) → AreGood ps
+      good_operands : (ps : CoverOperandsModel) → AreGood ps
       good_operands no_operands = none_good
-      good_operands (operand_then i p ps) = operand_good i p ps (good_plan p) (good_operands ps)
+      good_operands (operand_then i p ps) = operand_good i p ps (good_cover p) (good_operands ps)
 
-      good_cuts : (cs : Cuts) → AreStored cs
+      good_cuts : (cs : CoverCutsModel) → AreStored cs
       good_cuts no_cuts = none_stored
-      good_cuts (cut_then p cs) = cut_good p cs (good_plan p) (good_cuts cs)
+      good_cuts (cut_then p cs) = cut_good p cs (good_cover p) (good_cuts cs)

@@ -1,26 +1,30 @@
--- What the steps of covers need of the forms: that each does what it says, under any setting of its
--- bits.
+-- What the steps of covers need of the forms: that each does what it says, under any setting of
+-- its bits. What is asked of forms, each with its pattern: the form means and reads what its
+-- pattern does, no instruction bit occurs twice in it (`IsOnce`, with *whole word* for all bits),
+-- and what a form of a register writes is among its clobbers. Each address of the file is a field
+-- shape that shows every cell, and a tied operand is read at the address that is written
+-- (`IsTied`).
 use Rattle.std.specs.Prelude.{ℕ, ◌<◌, ◌≡◌, true, false, if◌then◌else◌, List, [], ◌∷◌, ◌++◌, Option, Some, None, slice_get}
 use Rattle.std.specs.Int.{bit_at}
 use Rattle.net_model.specs.declared.states.State.{State}
 use Rattle.net_model.specs.declared.hardware.Space.TheVariants.{Memory as InMemory, File as InFile}
-use Rattle.net_model.specs.Terms.{Term, word, reg, const, read, un, bin, slice, cat, zext, sext, select, write, write_at}
+use Rattle.net_model.specs.Exprs.{ExprModel, word, reg, const, read, un, bin, slice, cat, zext, sext, select, write, write_at}
 use Rattle.net_model.specs.Meaning.{mean}
 use Rattle.net_model.specs.Patterns.{Pattern}
 use Rattle.form_model.specs.Bits.{uses}
-use Rattle.form_model.specs.Rules.{Rule, Kind, into_reg, into_memory, into_file, jumps, branches}
-use Rattle.form_model.specs.Matches.{Home, in_register, in_file}
+use Rattle.form_model.specs.Forms.{FormModel, GoalModel, into_reg, into_memory, into_file, jumps, branches}
+use Rattle.form_model.specs.Matches.{HomeModel, in_register, in_file}
 use Rattle.form_model.specs.Shapes.{is_shape, shows_below}
-use Rattle.form_model.specs.Effects.{register, space_in, term_reads}
+use Rattle.form_model.specs.Effects.{register, space_in, expr_reads}
 
 -- ---- linear: no bit of the word occurs twice
 
 -- no bit occurs in both
-abbrev pub BitsApart : Term → Term → Type 0
+abbrev pub BitsApart : ExprModel → ExprModel → Type 0
 BitsApart a b = (k : ℕ) → uses a k ≡ true → uses b k ≡ false
 
 -- no bit occurs twice
-abbrev pub IsOnce : Term → Type 0
+abbrev pub IsOnce : ExprModel → Type 0
 IsOnce (word w) = Unit {0}
 IsOnce (reg r w) = Unit {0}
 IsOnce (const w v) = Unit {0}
@@ -36,7 +40,7 @@ IsOnce (select c a b) = IsOnce c × IsOnce a × IsOnce b × BitsApart c a × Bit
 -- ---- reads of the file
 
 -- the address of each read of the file is a field shape that shows each of so many cells
-abbrev pub CellsShown : ℕ → Term → Type 0
+abbrev pub CellsShown : ℕ → ExprModel → Type 0
 CellsShown size (word w) = Unit {0}
 CellsShown size (reg r w) = Unit {0}
 CellsShown size (const w v) = Unit {0}
@@ -51,7 +55,7 @@ CellsShown size (sext a w) = CellsShown size a
 CellsShown size (select c a b) = CellsShown size c × CellsShown size a × CellsShown size b
 
 -- the homes of the operands that an expression takes, from left to right
-abbrev pub homes_in : Term → List Home
+abbrev pub homes_in : ExprModel → List HomeModel
 homes_in (word w) = []
 homes_in (reg r w) = in_register r ∷ []
 homes_in (const w v) = []
@@ -68,13 +72,13 @@ homes_in (select c a b) = homes_in c ++ (homes_in a ++ homes_in b)
 -- ---- a form and its pattern
 
 -- an expression with the operands of operators swapped
-pub record MeansAlike (a b : Term) : Type 0 where
+pub record MeansAlike (a b : ExprModel) : Type 0 where
   pub means : (s : State) (i : ℕ) → mean a s i ≡ mean b s i
-  pub reads : (i r : ℕ) → term_reads i a (register r) ≡ term_reads i b (register r)
+  pub reads : (i r : ℕ) → expr_reads i a (register r) ≡ expr_reads i b (register r)
 
 -- a form that writes a register, one of so many, beside a file of so many cells
-pub record IsIntoReg (patterns : List Pattern) (count size : ℕ) (rule : Rule) (r : ℕ) : Type 0 where
-  pub value : Term
+pub record IsIntoReg (patterns : List Pattern) (count size : ℕ) (rule : FormModel) (r : ℕ) : Type 0 where
+  pub value : ExprModel
   pub is : slice_get patterns rule.pattern ≡ Some (record { storage = r; move = write value })
   pub alike : MeansAlike rule.value value
   pub once : IsOnce rule.value
@@ -83,13 +87,13 @@ pub record IsIntoReg (patterns : List Pattern) (count size : ℕ) (rule : Rule) 
   pub below : r < count
 
 -- a form that writes the memory
-pub record IsIntoMemory (file : Option ℕ) (patterns : List Pattern) (size : ℕ) (rule : Rule) : Type 0 where
+pub record IsIntoMemory (file : Option ℕ) (patterns : List Pattern) (size : ℕ) (rule : FormModel) : Type 0 where
   pub storage : ℕ
-  pub addr : Term
-  pub value : Term
+  pub addr : ExprModel
+  pub value : ExprModel
   pub is : slice_get patterns rule.pattern ≡ Some (record { storage = storage; move = write_at addr value })
   pub other : space_in file storage ≡ InMemory
-  pub at : Term
+  pub at : ExprModel
   pub has : rule.addr ≡ Some at
   pub alike_addr : MeansAlike at addr
   pub alike_value : MeansAlike rule.value value
@@ -102,18 +106,18 @@ pub record IsIntoMemory (file : Option ℕ) (patterns : List Pattern) (size : �
 
 -- the form has no tied operand, and no bit of its address occurs in its value, or the tied operand is
 -- read at this address
-abbrev pub IsTied : Option ℕ → Term → Term → Type 0
+abbrev pub IsTied : Option ℕ → ExprModel → ExprModel → Type 0
 IsTied None at value = BitsApart at value × BitsApart value at
 IsTied (Some place) at value = slice_get (homes_in value) place ≡ Some (in_file at)
 
 -- a form that writes the file
-pub record IsIntoFile (file : Option ℕ) (patterns : List Pattern) (size : ℕ) (rule : Rule) : Type 0 where
+pub record IsIntoFile (file : Option ℕ) (patterns : List Pattern) (size : ℕ) (rule : FormModel) : Type 0 where
   pub storage : ℕ
-  pub addr : Term
-  pub value : Term
+  pub addr : ExprModel
+  pub value : ExprModel
   pub is : slice_get patterns rule.pattern ≡ Some (record { storage = storage; move = write_at addr value })
   pub own : space_in file storage ≡ InFile
-  pub at : Term
+  pub at : ExprModel
   pub has : rule.addr ≡ Some at
   pub alike_addr : MeansAlike at addr
   pub alike_value : MeansAlike rule.value value
@@ -123,7 +127,7 @@ pub record IsIntoFile (file : Option ℕ) (patterns : List Pattern) (size : ℕ)
   pub shown_value : CellsShown size rule.value
   pub tied : IsTied rule.tied at rule.value
 
-abbrev pub IsFormed : Option ℕ → List Pattern → ℕ → ℕ → Rule → Kind → Type 0
+abbrev pub IsFormed : Option ℕ → List Pattern → ℕ → ℕ → FormModel → GoalModel → Type 0
 IsFormed file patterns count size rule (into_reg r) = IsIntoReg patterns count size rule r
 IsFormed file patterns count size rule into_memory = IsIntoMemory file patterns size rule
 IsFormed file patterns count size rule into_file = IsIntoFile file patterns size rule
@@ -132,6 +136,6 @@ IsFormed file patterns count size rule (branches when_one to) = IsOnce rule.valu
 
 -- each form of the list is made of the pattern that it names, where the file, if there is one, has
 -- this number and so many cells
-abbrev pub AreFormed : Option ℕ → List Pattern → ℕ → ℕ → List Rule → Type 0
+abbrev pub AreFormed : Option ℕ → List Pattern → ℕ → ℕ → List FormModel → Type 0
 AreFormed file patterns count size rules =
-    (k : ℕ) (rule : Rule) → slice_get rules k ≡ Some rule → IsFormed file patterns count size rule rule.goal
+    (k : ℕ) (rule : FormModel) → slice_get rules k ≡ Some rule → IsFormed file patterns count size rule rule.goal

@@ -4,6 +4,6 @@ pub mod Leaves
 pub mod Spares
 pub mod Settles
 pub mod ReadWords
-pub mod Views
+pub mod Models
 pub mod Emits
 pub mod Inner

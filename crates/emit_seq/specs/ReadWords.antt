@@ -1,10 +1,10 @@
 -- Forms whose reads of the memory are of words of so many bits, as those of one memory are.
 use Rattle.std.specs.Prelude.{ℕ, ◌≡◌, List, Option, Some, None, slice_get}
 use Rattle.net_model.specs.declared.hardware.Space.TheVariants.{Memory as InMemory, File as InFile}
-use Rattle.net_model.specs.Terms.{Term, word, reg, const, read, un, bin, slice, cat, zext, sext, select}
-use Rattle.form_model.specs.Rules.{Rule}
+use Rattle.net_model.specs.Exprs.{ExprModel, word, reg, const, read, un, bin, slice, cat, zext, sext, select}
+use Rattle.form_model.specs.Forms.{FormModel}
 
-abbrev pub ReadsWords : ℕ → Term → Type 0
+abbrev pub ReadsWords : ℕ → ExprModel → Type 0
 ReadsWords bits (word w) = Unit {0}
 ReadsWords bits (reg r w) = Unit {0}
 ReadsWords bits (const w v) = Unit {0}
@@ -18,12 +18,12 @@ ReadsWords bits (zext a w) = ReadsWords bits a
 ReadsWords bits (sext a w) = ReadsWords bits a
 ReadsWords bits (select c a b) = ReadsWords bits c × ReadsWords bits a × ReadsWords bits b
 
-abbrev pub AddressReadsWords : ℕ → Option Term → Type 0
+abbrev pub AddressReadsWords : ℕ → Option ExprModel → Type 0
 AddressReadsWords bits None = Unit {0}
 AddressReadsWords bits (Some addr) = ReadsWords bits addr
 
 -- each form of the list reads such words, in its address and in its value
-abbrev pub AllReadWords : ℕ → List Rule → Type 0
+abbrev pub AllReadWords : ℕ → List FormModel → Type 0
 AllReadWords bits rules =
-    (k : ℕ) (rule : Rule) → slice_get rules k ≡ Some rule →
+    (k : ℕ) (rule : FormModel) → slice_get rules k ≡ Some rule →
     AddressReadsWords bits rule.addr × ReadsWords bits rule.value

@@ -1,20 +1,20 @@
 -- The settings of steps: values of the bits that occur in their forms, and of no others.
 use Rattle.std.specs.Prelude.{ℕ, ◌≡◌, List, [], ◌∷◌, Option, Some, None, slice_get, bit_and, bit_or}
-use Rattle.net_model.specs.Terms.{Term}
+use Rattle.net_model.specs.Exprs.{ExprModel}
 use Rattle.net_model.specs.Fields.{fields}
 use Rattle.form_model.specs.declared.forms.Step.{Step}
-use Rattle.form_model.specs.Rules.{Rule, Kind, into_reg, into_memory, into_file, jumps, branches}
+use Rattle.form_model.specs.Forms.{FormModel, GoalModel, into_reg, into_memory, into_file, jumps, branches}
 
 -- the instruction bits that occur in a form's transfer, address and value together
-abbrev pub addr_fields : Option Term → ℕ
+abbrev pub addr_fields : Option ExprModel → ℕ
 addr_fields None = 0
 addr_fields (Some a) = fields a
 
-abbrev pub rule_fields : Rule → ℕ
-rule_fields rule = bit_or (addr_fields rule.addr) (fields rule.value)
+abbrev pub form_fields : FormModel → ℕ
+form_fields rule = bit_or (addr_fields rule.addr) (fields rule.value)
 
 -- a form that has steps
-abbrev pub IsStepping : Kind → Type 0
+abbrev pub IsStepping : GoalModel → Type 0
 IsStepping (into_reg r) = Unit {0}
 IsStepping into_memory = Unit {0}
 IsStepping into_file = Unit {0}
@@ -22,14 +22,14 @@ IsStepping (jumps reach) = ⊥
 IsStepping (branches when_one to) = ⊥
 
 -- the step is one of a form of the list, with values for its bits and 0 for all others
-pub record IsOfForm (rules : List Rule) (x : Step) : Type 0 where
+pub record IsOfForm (rules : List FormModel) (x : Step) : Type 0 where
   pub destination : ℕ
-  pub rule : Rule
+  pub rule : FormModel
   pub listed : slice_get rules destination ≡ Some rule
   pub goal : IsStepping rule.goal
   pub pattern : x.pattern ≡ rule.pattern
-  pub within : bit_and x.setting (rule_fields rule) ≡ x.setting
+  pub within : bit_and x.setting (form_fields rule) ≡ x.setting
 
-abbrev pub AreOfForms : List Rule → List Step → Type 0
+abbrev pub AreOfForms : List FormModel → List Step → Type 0
 AreOfForms rules [] = Unit {0}
 AreOfForms rules (x ∷ xs) = IsOfForm rules x × AreOfForms rules xs

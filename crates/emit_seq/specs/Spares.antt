@@ -1,37 +1,40 @@
--- What the steps of a cover may change beside their destinations, and what they read.
+-- What the steps of a cover may change beside their destinations, and what they read. Apart from
+-- its own destination a step's clobbers hold no register that is live after it; each register that
+-- a step or a test's condition reads is the destination of an earlier step; no step reads or
+-- writes the program counter.
 use Rattle.std.specs.Prelude.{ℕ, ◌≡◌, ◌==◌, ◌||◌, true, false, if◌then◌else◌, List, [], ◌∷◌, Option, Some, slice_get}
-use Rattle.net_model.specs.Terms.{Term}
+use Rattle.net_model.specs.Exprs.{ExprModel}
 use Rattle.net_model.specs.Patterns.{Pattern}
 use Rattle.form_model.specs.declared.forms.Step.{Step}
-use Rattle.form_model.specs.Rules.{Rule, into_reg, Destination, tested}
-use Rattle.form_model.specs.Plans.{Plan}
-use Rattle.form_model.specs.Covers.{Stock}
-use Rattle.form_model.specs.Effects.{Operation, operation_of, register, reads, writes, term_reads}
+use Rattle.form_model.specs.Forms.{FormModel, into_reg, DestinationModel, tested}
+use Rattle.form_model.specs.CoverModels.{CoverModel}
+use Rattle.form_model.specs.Covers.{StockModel}
+use Rattle.form_model.specs.Effects.{Operation, operation_of, register, reads, writes, expr_reads}
 use Rattle.form_model.specs.Live.{Regs, no_regs, regs_of, AllSpare}
 use Rattle.form_model.specs.Steps.{cover_steps, branch_setting}
 use Rattle.emit_seq.specs.Leaves.{condition_of}
 
 -- the clobbers of a pattern's forms, which all have the same
-abbrev pub clobbers_of : List Rule → ℕ → ℕ
+abbrev pub clobbers_of : List FormModel → ℕ → ℕ
 clobbers_of [] pattern = 0
 clobbers_of (rule ∷ rules) pattern = if rule.pattern == pattern then rule.clobbers else clobbers_of rules pattern
 
 -- the registers that a step may change, its own among them
-abbrev pub step_clobbers : List Rule → Step → Regs
+abbrev pub step_clobbers : List FormModel → Step → Regs
 step_clobbers rules step = regs_of (clobbers_of rules step.pattern)
 
 -- forms of one pattern have the same clobbers
-abbrev pub AreShared : List Rule → Type 0
+abbrev pub AreShared : List FormModel → Type 0
 AreShared rules =
-    (j k : ℕ) (a b : Rule) → slice_get rules j ≡ Some a → slice_get rules k ≡ Some b →
+    (j k : ℕ) (a b : FormModel) → slice_get rules j ≡ Some a → slice_get rules k ≡ Some b →
     a.pattern ≡ b.pattern → a.clobbers ≡ b.clobbers
 
 -- a form that puts something into this register, the program counter, reads it: what it puts there
 -- is the next address
-abbrev pub ReadsCounter : List Rule → ℕ → Type 0
+abbrev pub ReadsCounter : List FormModel → ℕ → Type 0
 ReadsCounter rules pc =
-    (k : ℕ) (rule : Rule) → slice_get rules k ≡ Some rule → rule.goal ≡ into_reg pc →
-    (i : ℕ) × (term_reads i rule.value (register pc) ≡ true)
+    (k : ℕ) (rule : FormModel) → slice_get rules k ≡ Some rule → rule.goal ≡ into_reg pc →
+    (i : ℕ) × (expr_reads i rule.value (register pc) ≡ true)
 
 -- each register that a step reads is known or the destination of an earlier step, and so is each
 -- that is wanted after the last
@@ -48,14 +51,14 @@ AreApart m pc (x ∷ xs) = (reads (m x) (register pc) ≡ false) × (writes (m x
 
 -- the registers that are wanted after the steps: those that a test's condition reads, and otherwise
 -- none
-abbrev pub wanted : Stock → Destination → Term → Plan → Regs
-wanted stock tested tree plan = λ r. term_reads (branch_setting stock tree plan) (condition_of stock plan) (register r)
+abbrev pub wanted : StockModel → DestinationModel → ExprModel → CoverModel → Regs
+wanted stock tested tree plan = λ r. expr_reads (branch_setting stock tree plan) (condition_of stock plan) (register r)
 wanted stock destination tree plan = no_regs
 
 -- apart from its own destination, a step's clobbers hold no register whose value is still needed;
 -- all that is read was put there by an earlier step; and the program counter takes no part
-pub record AreSpare (stock : Stock) (file : Option ℕ) (patterns : List Pattern) (pc : ℕ) (destination : Destination)
-    (tree : Term) (plan : Plan) : Type 0 where
+pub record AreSpare (stock : StockModel) (file : Option ℕ) (patterns : List Pattern) (pc : ℕ) (destination : DestinationModel)
+    (tree : ExprModel) (plan : CoverModel) : Type 0 where
   pub spare : AllSpare (operation_of file patterns) (step_clobbers stock.rules)
       (cover_steps stock destination tree plan) (wanted stock destination tree plan)
   pub given : AreDefined (operation_of file patterns) no_regs (cover_steps stock destination tree plan)

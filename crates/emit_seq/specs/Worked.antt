@@ -3,24 +3,24 @@ use Rattle.std.specs.Prelude.{ℕ, ◌≡◌, true, List, [], ◌∷◌, Some, N
 use Rattle.std.proofs.Common.{arith}
 use Rattle.rec_bits.specs.declared.operator.Op2.TheVariants.{Add, Sub, Eq}
 use Rattle.net_model.specs.declared.hardware.Space.TheVariants.{Memory as InMemory}
-use Rattle.net_model.specs.Terms.{Term, word, reg, const, read, bin, slice, zext, select, write, write_at}
+use Rattle.net_model.specs.Exprs.{ExprModel, word, reg, const, read, bin, slice, zext, select, write, write_at}
 use Rattle.net_model.specs.Patterns.{Pattern}
 use Rattle.net_model.specs.declared.states.State.{State}
 use Rattle.form_model.specs.declared.forms.Step.{Step}
 use Rattle.form_model.specs.Effects.{operation_of, steps_effect}
-use Rattle.form_model.specs.Rules.{Rule, into_reg, into_memory, jumps, branches, absolute, cell, tested}
-use Rattle.form_model.specs.Plans.{Plan, use_form, no_operands, operand_then, no_cuts, cut_then}
-use Rattle.form_model.specs.Covers.{Stock, IsOrderly}
+use Rattle.form_model.specs.Forms.{FormModel, into_reg, into_memory, jumps, branches, absolute, cell, tested}
+use Rattle.form_model.specs.CoverModels.{CoverModel, use_form, no_operands, operand_then, no_cuts, cut_then}
+use Rattle.form_model.specs.Covers.{StockModel, IsOrderly}
 use Rattle.form_model.specs.Steps.{cover_steps, branch_setting}
 
-abbrev pub field : Term
+abbrev pub field : ExprModel
 field = slice (word 12) 7 0
 
-abbrev rule : ℕ → ℕ → Term → ℕ → Rule
+abbrev rule : ℕ → ℕ → ExprModel → ℕ → FormModel
 rule p r value clobbers =
     record { pattern = p; goal = into_reg r; addr = None; value = value; fields = 255; clobbers = clobbers; tied = None }
 
-abbrev store : ℕ → Term → ℕ → Rule
+abbrev store : ℕ → ExprModel → ℕ → FormModel
 store p value clobbers = record {
   pattern = p;
   goal = into_memory;
@@ -32,13 +32,13 @@ store p value clobbers = record {
 }
 
 -- the accumulator machine: PC 0, ACC 1, M 2
-abbrev acc : Term
+abbrev acc : ExprModel
 acc = reg 1 16
 
-abbrev mem : Term
+abbrev mem : ExprModel
 mem = read InMemory field 16
 
-abbrev branch : Term → Rule
+abbrev branch : ExprModel → FormModel
 branch value = record {
   pattern = 1;
   goal = branches true (absolute field);
@@ -49,25 +49,25 @@ branch value = record {
   tied = None;
 }
 
-abbrev pub acc_rules : List Rule
-acc_rules = rule 0 0 (bin Add (reg 0 8) (const 8 1)) 1 ∷ rule 0 0 (bin Add (const 8 1) (reg 0 8)) 1
+abbrev pub acc_forms : List FormModel
+acc_forms = rule 0 0 (bin Add (reg 0 8) (const 8 1)) 1 ∷ rule 0 0 (bin Add (const 8 1) (reg 0 8)) 1
     ∷ branch (bin Eq acc (const 16 0)) ∷ branch (bin Eq (const 16 0) acc)
     ∷ record { pattern = 2; goal = jumps 256; addr = None; value = field; fields = 255; clobbers = 3; tied = None }
     ∷ rule 3 1 (bin Add acc mem) 3 ∷ rule 3 1 (bin Add mem acc) 3 ∷ rule 4 1 mem 3
     ∷ rule 5 1 (bin Sub acc mem) 3 ∷ rule 6 1 (zext field 16) 3
     ∷ store 7 acc 5 ∷ []
 
-abbrev pub acc_stock : ℕ → Stock
-acc_stock temps = record { rules = acc_rules; temps = temps; file = 0 }
+abbrev pub acc_stock : ℕ → StockModel
+acc_stock temps = record { rules = acc_forms; temps = temps; file = 0 }
 
 -- a variable's cell
-abbrev pub at : ℕ → Term
+abbrev pub at : ℕ → ExprModel
 at a = read InMemory (const 8 a) 16
 
-abbrev with_one : ℕ → Plan → Plan
+abbrev with_one : ℕ → CoverModel → CoverModel
 with_one k p = use_form k (operand_then 0 p no_operands) no_cuts
 
-abbrev leaf : ℕ → Plan
+abbrev leaf : ℕ → CoverModel
 leaf k = use_form k no_operands no_cuts
 
 abbrev step : ℕ → ℕ → Step
@@ -79,19 +79,19 @@ sum_steps : cover_steps (acc_stock 0) (cell 2) (bin Add (at 0) (at 1)) (with_one
 sum_steps = refl
 
 -- x = (a + b) - (a - b), where a - b is cut
-abbrev pub less_tree : Term
+abbrev pub less_tree : ExprModel
 less_tree = bin Sub (bin Add (at 2) (at 3)) (bin Sub (at 2) (at 3))
 
-abbrev pub less_plan : Plan
-less_plan =
+abbrev pub less_cover : CoverModel
+less_cover =
     with_one 10 (use_form 8 (operand_then 0 (with_one 5 (leaf 7)) no_operands)
     (cut_then (with_one 10 (with_one 8 (leaf 7))) no_cuts))
 
-less_steps : cover_steps (acc_stock 2) (cell 4) less_tree less_plan
+less_steps : cover_steps (acc_stock 2) (cell 4) less_tree less_cover
     ≡ step 4 2 ∷ step 5 3 ∷ step 7 0 ∷ step 4 2 ∷ step 3 3 ∷ step 5 0 ∷ step 7 4 ∷ []
 less_steps = refl
 
-pub less_orderly : IsOrderly (acc_stock 2) (cell 4) less_tree true less_plan
+pub less_orderly : IsOrderly (acc_stock 2) (cell 4) less_tree true less_cover
 less_orderly = (
   _,
   refl,
@@ -156,20 +156,20 @@ acc_patterns = record { storage = 0; move = write (bin Add (reg 0 8) (const 8 1)
     ∷ record { storage = 2; move = write_at field acc } ∷ []
 
 -- the machine of two registers: PC 0, A 1, X 2, M 3
-abbrev a_reg : Term
+abbrev a_reg : ExprModel
 a_reg = reg 1 16
 
-abbrev x_reg : Term
+abbrev x_reg : ExprModel
 x_reg = reg 2 16
 
-abbrev two_rules : List Rule
-two_rules = rule 0 0 (bin Add (reg 0 8) (const 8 1)) 1 ∷ rule 0 0 (bin Add (const 8 1) (reg 0 8)) 1
+abbrev two_forms : List FormModel
+two_forms = rule 0 0 (bin Add (reg 0 8) (const 8 1)) 1 ∷ rule 0 0 (bin Add (const 8 1) (reg 0 8)) 1
     ∷ record { pattern = 1; goal = jumps 256; addr = None; value = field; fields = 255; clobbers = 7; tied = None }
     ∷ rule 2 1 x_reg 3 ∷ rule 3 1 (bin Add a_reg x_reg) 3 ∷ rule 3 1 (bin Add x_reg a_reg) 3
     ∷ rule 4 2 mem 5 ∷ store 5 a_reg 9 ∷ []
 
-abbrev two_stock : Stock
-two_stock = record { rules = two_rules; temps = 0; file = 0 }
+abbrev two_stock : StockModel
+two_stock = record { rules = two_forms; temps = 0; file = 0 }
 
 two_steps : cover_steps two_stock (cell 2) (bin Add (at 0) (at 1))
     (with_one 7 (use_form 4 (operand_then 0 (with_one 3 (leaf 6)) (operand_then 0 (leaf 6) no_operands)) no_cuts))

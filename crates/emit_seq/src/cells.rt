@@ -1,16 +1,16 @@
 //! The operands and the cuts of a match, with the temporary cells that cuts are put into.
 
 ghost use Rattle.std.specs.Prelude.{◌≡◌, ℕ, ◌+◌, ◌∷◌, List, IfOk, slice_index};
-ghost use Rattle.form_model.specs.Matches.{Site};
-ghost use Rattle.tree_grammar.specs.Parts.{part_of, sites_of};
+ghost use Rattle.form_model.specs.Matches.{LeafModel};
+ghost use Rattle.tree_grammar.specs.Leaves.{model_of_leaf, models_of_leaves};
 ghost use Rattle.emit_seq.specs.Inner.CellLists.{AreMatchCells, HaveCells};
-ghost use Rattle.emit_seq.specs.Views.{cells_of_cuts, cells_of_operands};
+ghost use Rattle.emit_seq.specs.Models.{models_of_cut_cells, models_of_operand_cells};
 
 use form_model::Tree;
 use net_model::Expr;
 use rec_bits::NoMemory;
 use std::alloc::Global;
-use tree_grammar::{Home, Part, plus};
+use tree_grammar::{Home, Leaf, plus};
 
 /// An operand, with the cells of the cuts inside its cover: from the first up to the one past the
 /// last.
@@ -49,19 +49,19 @@ fn count_at(counts: &[u64], place: usize) -> u64
 // Adds a part, the first of whose cells is told, and gives the cell past them.
 fn add_part<'a>(
     cells: &mut MatchCells<'a>,
-    part: Part<'a>,
+    part: Leaf<'a>,
     inside: &[u64],
     own: &[u64],
     first: u64,
 ) -> Result<u64, NoMemory>
-    ensures { IfOk result (λ past. (sites rest : List Site) (start : ℕ) →
-        HaveCells sites inside.now own.now start (cells_of_operands cells.old.operands.items)
-        (cells_of_cuts cells.old.cuts.items) (part_of part.entry ∷ rest) first →
-        HaveCells sites inside.now own.now start (cells_of_operands cells.new.operands.items)
-        (cells_of_cuts cells.new.cuts.items) rest past) }
+    ensures { IfOk result (λ past. (sites rest : List LeafModel) (start : ℕ) →
+        HaveCells sites inside.now own.now start (models_of_operand_cells cells.old.operands.items)
+        (models_of_cut_cells cells.old.cuts.items) (model_of_leaf part.entry ∷ rest) first →
+        HaveCells sites inside.now own.now start (models_of_operand_cells cells.new.operands.items)
+        (models_of_cut_cells cells.new.cuts.items) rest past) }
 {
     match part {
-        Part::Operand {
+        Leaf::Operand {
             home,
             tree,
             whole,
@@ -77,7 +77,7 @@ fn add_part<'a>(
             })?;
             Ok(past)
         }
-        Part::Cut { shape, tree, .. } => {
+        Leaf::Cut { shape, tree, .. } => {
             let cell = plus(first, count_at(own, cells.cuts.len()))?;
             cells.cuts.push(CutCells {
                 shape,
@@ -94,12 +94,12 @@ fn add_part<'a>(
 /// numbers of cuts of the operands, and `own` those of the cuts inside each cut.
 pub fn match_cells<'a>(
     alloc: Global,
-    parts: &[Part<'a>],
+    parts: &[Leaf<'a>],
     inside: &[u64],
     own: &[u64],
     first: u64,
 ) -> Result<MatchCells<'a>, NoMemory>
-    ensures { IfOk result (λ cells. AreMatchCells (sites_of parts.now) inside.now own.now first cells) }
+    ensures { IfOk result (λ cells. AreMatchCells (models_of_leaves parts.now) inside.now own.now first cells) }
 {
     let mut cells = MatchCells {
         operands: Vec::new(alloc),

@@ -2,12 +2,12 @@
 
 ghost use Rattle.std.specs.Prelude.{◌≡◌, ◌++◌, IfOk, OnOk};
 ghost use Rattle.form_model.specs.Covers.{AreCut, AreOrderly, IsOrderly};
-ghost use Rattle.form_model.specs.Plans.{cuts_plan, operands_plan, plan_of};
+ghost use Rattle.form_model.specs.CoverModels.{model_of_cover_cuts, model_of_cover_operands, model_of_cover};
 ghost use Rattle.form_model.specs.Steps.{cut_steps as cut_steps_of, inside_operands as inside_operands_of, into_cells as into_cells_of, own_steps, woven as woven_of};
-ghost use Rattle.form_model.specs.Trees.{tree_term};
-ghost use Rattle.tree_grammar.specs.Parts.{destination_at, sites_of};
+ghost use Rattle.form_model.specs.Trees.{model_of_tree};
+ghost use Rattle.tree_grammar.specs.Leaves.{model_of_destination, models_of_leaves};
 ghost use Rattle.emit_seq.specs.Inner.CellLists.{operands_in, trees_in};
-ghost use Rattle.emit_seq.specs.Views.{cells_of_cuts, cells_of_operands, stock_of};
+ghost use Rattle.emit_seq.specs.Models.{models_of_cut_cells, models_of_operand_cells, model_of_stock};
 
 use crate::cells::{CutCells, OperandCells};
 use crate::counts::inserted;
@@ -16,7 +16,7 @@ use crate::roots::{Covered, Stock, cut_covered, operand_covered, root_of, take_o
 use form_model::{Cover, CoverCuts, CoverOperands, Step};
 use rec_bits::{Items, NoMemory};
 use std::alloc::Global;
-use tree_grammar::Part;
+use tree_grammar::Leaf;
 
 fn put_all(out: &mut Items<Step>, steps: &[Step]) -> Result<(), NoMemory>
     ensures { OnOk result (out.new ≡ out.old ++ steps.now) }
@@ -30,23 +30,23 @@ fn put_all(out: &mut Items<Step>, steps: &[Step]) -> Result<(), NoMemory>
 // Adds the steps for the operands and those for the form's own cuts, in the order of the parts.
 fn put_woven(
     out: &mut Items<Step>,
-    parts: &[Part],
+    parts: &[Leaf],
     inside: &[Items<Step>],
     own: &[Items<Step>],
 ) -> Result<(), NoMemory>
-    ensures { OnOk result (out.new ≡ out.old ++ woven_of (sites_of parts.now) inside.now own.now) }
+    ensures { OnOk result (out.new ≡ out.old ++ woven_of (models_of_leaves parts.now) inside.now own.now) }
 {
     match parts {
         [] => Ok(()),
         [part, rest @ ..] => match *part {
-            Part::Operand { .. } => match inside {
+            Leaf::Operand { .. } => match inside {
                 [] => put_woven(out, rest, inside, own),
                 [steps, more @ ..] => {
                     put_all(out, steps.as_slice())?;
                     put_woven(out, rest, more, own)
                 }
             },
-            Part::Cut { .. } => match own {
+            Leaf::Cut { .. } => match own {
                 [] => put_woven(out, rest, inside, own),
                 [steps, more @ ..] => {
                     put_all(out, steps.as_slice())?;
@@ -59,11 +59,11 @@ fn put_woven(
 
 fn woven(
     alloc: Global,
-    parts: &[Part],
+    parts: &[Leaf],
     inside: &[Items<Step>],
     own: &[Items<Step>],
 ) -> Result<Items<Step>, NoMemory>
-    ensures { IfOk result (λ steps. steps ≡ woven_of (sites_of parts.now) inside.now own.now) }
+    ensures { IfOk result (λ steps. steps ≡ woven_of (models_of_leaves parts.now) inside.now own.now) }
 {
     let mut out = Items::new(alloc);
     put_woven(&mut out, parts, inside, own)?;
@@ -78,11 +78,11 @@ pub fn cut_steps<'a>(
     cover: &Cover,
     covered: Covered<'a>,
 ) -> Result<Items<Step>, NoMemory>
-    requires { IsOrderly (stock_of stock) (destination_at covered.destination)
-        (tree_term covered.tree.now) covered.whole (plan_of cover.now) }
+    requires { IsOrderly (model_of_stock stock) (model_of_destination covered.destination)
+        (model_of_tree covered.tree.now) covered.whole (model_of_cover cover.now) }
     ensures { IfOk result (λ steps. steps
-        ≡ cut_steps_of (stock_of stock.entry) (plan_of cover.now) covered.entry.first
-        (destination_at covered.entry.destination) (tree_term covered.entry.tree.now)
+        ≡ cut_steps_of (model_of_stock stock.entry) (model_of_cover cover.now) covered.entry.first
+        (model_of_destination covered.entry.destination) (model_of_tree covered.entry.tree.now)
         covered.entry.whole) }
 {
     let mut root = root_of(alloc, stock, cover, covered)?;
@@ -104,13 +104,13 @@ pub fn all_steps<'a>(
     cover: &Cover,
     covered: Covered<'a>,
 ) -> Result<Items<Step>, NoMemory>
-    requires { IsOrderly (stock_of stock) (destination_at covered.destination)
-        (tree_term covered.tree.now) covered.whole (plan_of cover.now) }
+    requires { IsOrderly (model_of_stock stock) (model_of_destination covered.destination)
+        (model_of_tree covered.tree.now) covered.whole (model_of_cover cover.now) }
     ensures { IfOk result (λ steps.
-        steps ≡ cut_steps_of (stock_of stock.entry) (plan_of cover.now) covered.entry.first
-        (destination_at covered.entry.destination) (tree_term covered.entry.tree.now) covered.entry.whole
-        ++ own_steps (stock_of stock.entry) (plan_of cover.now) covered.entry.first covered.entry.held
-        (destination_at covered.entry.destination) (tree_term covered.entry.tree.now) covered.entry.whole) }
+        steps ≡ cut_steps_of (model_of_stock stock.entry) (model_of_cover cover.now) covered.entry.first
+        (model_of_destination covered.entry.destination) (model_of_tree covered.entry.tree.now) covered.entry.whole
+        ++ own_steps (model_of_stock stock.entry) (model_of_cover cover.now) covered.entry.first covered.entry.held
+        (model_of_destination covered.entry.destination) (model_of_tree covered.entry.tree.now) covered.entry.whole) }
 {
     let mut steps = cut_steps(alloc, stock, cover, covered)?;
     put_own_steps(alloc, stock, cover, covered, &mut steps)?;
@@ -126,10 +126,10 @@ fn inside_operands<'a>(
     operands: &CoverOperands,
     left: &mut Vec<OperandCells<'a>>,
 ) -> Result<Vec<Items<Step>>, NoMemory>
-    requires { AreOrderly (stock_of stock) (operands_in (cells_of_operands left.old.items))
-        (operands_plan operands.now) }
+    requires { AreOrderly (model_of_stock stock) (operands_in (models_of_operand_cells left.old.items))
+        (model_of_cover_operands operands.now) }
     ensures { IfOk result (λ v. v.items
-        ≡ inside_operands_of (stock_of stock.entry) (operands_plan operands.now) (cells_of_operands left.old.items)) }
+        ≡ inside_operands_of (model_of_stock stock.entry) (model_of_cover_operands operands.now) (models_of_operand_cells left.old.items)) }
 {
     match operands {
         CoverOperands::Empty => Ok(Vec::new(alloc)),
@@ -152,9 +152,9 @@ fn into_cells<'a>(
     covers: &CoverCuts,
     cuts: &[CutCells<'a>],
 ) -> Result<Vec<Items<Step>>, NoMemory>
-    requires { AreCut (stock_of stock) (trees_in (cells_of_cuts cuts.now)) (cuts_plan covers.now) }
+    requires { AreCut (model_of_stock stock) (trees_in (models_of_cut_cells cuts.now)) (model_of_cover_cuts covers.now) }
     ensures { IfOk result (λ v. v.items
-        ≡ into_cells_of (stock_of stock.entry) (cuts_plan covers.now) (cells_of_cuts cuts.now)) }
+        ≡ into_cells_of (model_of_stock stock.entry) (model_of_cover_cuts covers.now) (models_of_cut_cells cuts.now)) }
 {
     match covers {
         CoverCuts::Empty => Ok(Vec::new(alloc)),

@@ -2,13 +2,13 @@
 
 ghost use Rattle.std.specs.Prelude.{◌≡◌, IfOk, map, true};
 ghost use Rattle.form_model.specs.Covers.{Covers, IsOrderly, stock_with};
-ghost use Rattle.form_model.specs.Plans.{plan_of};
-ghost use Rattle.form_model.specs.Rules.{destination_of};
-ghost use Rattle.form_model.specs.Steps.{cover_steps, plan_setting};
-ghost use Rattle.form_model.specs.Trees.{tree_term};
-ghost use Rattle.tree_grammar.specs.Parts.{destination_at};
+ghost use Rattle.form_model.specs.CoverModels.{model_of_cover};
+ghost use Rattle.form_model.specs.Forms.{aim_destination};
+ghost use Rattle.form_model.specs.Steps.{cover_steps, cover_setting};
+ghost use Rattle.form_model.specs.Trees.{model_of_tree};
+ghost use Rattle.tree_grammar.specs.Leaves.{model_of_destination};
 ghost use Rattle.emit_seq.specs.Emits.{IsEmitted, branch_of as branch_setting_of, setting_of_test};
-ghost use Rattle.emit_seq.specs.Views.{stock_of};
+ghost use Rattle.emit_seq.specs.Models.{model_of_stock};
 
 use crate::cuts::all_steps;
 use crate::roots::{Covered, Stock, root_of};
@@ -32,12 +32,12 @@ fn branch_of<'a>(
     cover: &Cover,
     covered: Covered<'a>,
 ) -> Result<Option<u64>, NoMemory>
-    requires { IsOrderly (stock_of stock) (destination_at covered.destination)
-        (tree_term covered.tree.now) covered.whole (plan_of cover.now) }
+    requires { IsOrderly (model_of_stock stock) (model_of_destination covered.destination)
+        (model_of_tree covered.tree.now) covered.whole (model_of_cover cover.now) }
     ensures { IfOk result (λ branch. branch
-        ≡ setting_of_test (destination_at covered.entry.destination)
-        (plan_setting (stock_of stock.entry) (plan_of cover.now) covered.entry.first covered.entry.held
-        (destination_at covered.entry.destination) (tree_term covered.entry.tree.now)
+        ≡ setting_of_test (model_of_destination covered.entry.destination)
+        (cover_setting (model_of_stock stock.entry) (model_of_cover cover.now) covered.entry.first covered.entry.held
+        (model_of_destination covered.entry.destination) (model_of_tree covered.entry.tree.now)
         covered.entry.whole)) }
 {
     match covered.destination {
@@ -56,14 +56,14 @@ fn emit_at<'a>(
     destination: Destination<'a>,
     tree: &'a Tree,
 ) -> Result<Emitted, NoMemory>
-    requires { IsOrderly (stock_of stock) (destination_at destination) (tree_term tree.now) true
-        (plan_of cover.now) }
+    requires { IsOrderly (model_of_stock stock) (model_of_destination destination) (model_of_tree tree.now) true
+        (model_of_cover cover.now) }
     ensures steps { IfOk result (λ e. e.steps
-        ≡ cover_steps (stock_of stock.entry) (destination_at destination.entry) (tree_term tree.now)
-        (plan_of cover.now)) }
+        ≡ cover_steps (model_of_stock stock.entry) (model_of_destination destination.entry) (model_of_tree tree.now)
+        (model_of_cover cover.now)) }
     ensures branch { IfOk result (λ e. e.branch
-        ≡ branch_setting_of (stock_of stock.entry) (destination_at destination.entry)
-        (tree_term tree.now) (plan_of cover.now)) }
+        ≡ branch_setting_of (model_of_stock stock.entry) (model_of_destination destination.entry)
+        (model_of_tree tree.now) (model_of_cover cover.now)) }
 {
     let covered = Covered {
         tree,
@@ -89,10 +89,10 @@ pub fn emit(
     cover: &Cover,
     temps: u32,
 ) -> Result<Emitted, NoMemory>
-    requires { Covers (stock_with forms.now.list.items temps forms.now.file) (destination_of job.now.aim)
-        (map tree_term job.now.trees.items) (record { which = which; plan = plan_of cover.now }) }
-    ensures { IfOk result (λ e. IsEmitted (stock_with forms.now.list.items temps forms.now.file) (destination_of job.now.aim)
-        (map tree_term job.now.trees.items) (record { which = which; plan = plan_of cover.now }) e) }
+    requires { Covers (stock_with forms.now.list.items temps forms.now.file) (aim_destination job.now.aim)
+        (map model_of_tree job.now.trees.items) (record { which = which; plan = model_of_cover cover.now }) }
+    ensures { IfOk result (λ e. IsEmitted (stock_with forms.now.list.items temps forms.now.file) (aim_destination job.now.aim)
+        (map model_of_tree job.now.trees.items) (record { which = which; plan = model_of_cover cover.now }) e) }
 {
     let stock = Stock {
         forms: forms.list.as_slice(),

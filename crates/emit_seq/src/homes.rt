@@ -2,10 +2,10 @@
 
 ghost use Rattle.std.specs.Prelude.{◌≡◌, ◌==◌, Some, IfOk};
 ghost use Rattle.std.specs.Int.{bit_at};
-ghost use Rattle.form_model.specs.Plans.{operands_plan, plan_of};
+ghost use Rattle.form_model.specs.CoverModels.{model_of_cover_operands, model_of_cover};
 ghost use Rattle.form_model.specs.Steps.{cell_of as cell_of_plan, cell_or, first_home, free_cell as free_cell_of, holding as holding_of, operand_homes, some_or, tied_cell as tied_cell_of};
 ghost use Rattle.emit_seq.specs.Inner.CellLists.{AreListed, IsListed};
-ghost use Rattle.emit_seq.specs.Views.{stock_of};
+ghost use Rattle.emit_seq.specs.Models.{model_of_stock};
 
 use crate::counts::inserted;
 use crate::roots::{Stock, form_at};
@@ -84,8 +84,8 @@ pub fn cell_of<'a>(
     cover: &Cover,
     held: u64,
 ) -> Result<Option<u64>, NoMemory>
-    requires { IsListed (stock_of stock) (plan_of cover.now) }
-    ensures { IfOk result (λ o. o ≡ cell_of_plan (stock_of stock.entry) (plan_of cover.now) held) }
+    requires { IsListed (model_of_stock stock) (model_of_cover cover.now) }
+    ensures { IfOk result (λ o. o ≡ cell_of_plan (model_of_stock stock.entry) (model_of_cover cover.now) held) }
 {
     let form = form_at(stock, cover.form);
     match &form.goal {
@@ -106,9 +106,9 @@ pub fn homes_of<'a>(
     operands: &CoverOperands,
     held: u64,
 ) -> Result<Homes, NoMemory>
-    requires { AreListed (stock_of stock) (operands_plan operands.now) }
-    ensures cells { IfOk result (λ h. h.cells.items ≡ operand_homes (stock_of stock.entry) (operands_plan operands.now) held) }
-    ensures first { IfOk result (λ h. h.first ≡ first_home (stock_of stock.entry) (operands_plan operands.now) held) }
+    requires { AreListed (model_of_stock stock) (model_of_cover_operands operands.now) }
+    ensures cells { IfOk result (λ h. h.cells.items ≡ operand_homes (model_of_stock stock.entry) (model_of_cover_operands operands.now) held) }
+    ensures first { IfOk result (λ h. h.first ≡ first_home (model_of_stock stock.entry) (model_of_cover_operands operands.now) held) }
 {
     match operands {
         CoverOperands::Empty => Ok(Homes {

@@ -3,11 +3,11 @@
 ghost use Rattle.std.specs.Prelude.{◌≡◌, ◌≤◌, ℕ, List, Option, bit_and, length, true};
 ghost use Rattle.net_model.specs.declared.states.State.{State};
 ghost use Rattle.net_model.specs.Fields.{fields};
-ghost use Rattle.net_model.specs.Terms.{Term};
+ghost use Rattle.net_model.specs.Exprs.{ExprModel};
 ghost use Rattle.net_model.specs.Patterns.{Pattern};
-ghost use Rattle.form_model.specs.Rules.{Destination, tested};
-ghost use Rattle.form_model.specs.Plans.{Plan};
-ghost use Rattle.form_model.specs.Covers.{Stock, Choice, IsChosen, IsOrderly, job_cost, need};
+ghost use Rattle.form_model.specs.Forms.{DestinationModel, tested};
+ghost use Rattle.form_model.specs.CoverModels.{CoverModel};
+ghost use Rattle.form_model.specs.Covers.{StockModel, JobCoverModel, IsChosen, IsOrderly, job_cost, need};
 ghost use Rattle.form_model.specs.Steps.{branch_setting, cut_count, cover_steps};
 ghost use Rattle.form_model.specs.WideNodes.{tree_temps};
 ghost use Rattle.emit_seq.specs.ReadWords.{AllReadWords};
@@ -21,9 +21,9 @@ ghost use Rattle.emit_seq.specs.Spares.{AreShared, ReadsCounter, AreSpare};
 /// the aim, and change no other cell from the temporary ones on. For a test, the branch's condition
 /// has the tree's value after them.
 pub fn law_of_values()
-    ensures { (stock : Stock) (file : Option ℕ) (patterns : List Pattern) (count : ℕ) →
+    ensures { (stock : StockModel) (file : Option ℕ) (patterns : List Pattern) (count : ℕ) →
         AreFormed file patterns count stock.file stock.rules →
-        (destination : Destination) (tree : Term) (plan : Plan) (s : State) → IsOfJob destination →
+        (destination : DestinationModel) (tree : ExprModel) (plan : CoverModel) (s : State) → IsOfJob destination →
         IsOrderly stock destination tree true plan → need stock.rules plan ≤ stock.file →
         cut_count plan ≤ stock.temps →
         IsCoverStart stock count destination tree s →
@@ -33,16 +33,16 @@ pub fn law_of_values()
 /// The steps spare what is still needed, read only what an earlier step put into a register, and
 /// leave the program counter alone.
 pub fn law_of_registers()
-    ensures { (stock : Stock) (file : Option ℕ) (patterns : List Pattern) (count pc : ℕ) →
+    ensures { (stock : StockModel) (file : Option ℕ) (patterns : List Pattern) (count pc : ℕ) →
         AreFormed file patterns count stock.file stock.rules → AreShared stock.rules → ReadsCounter stock.rules pc →
-        (destination : Destination) (tree : Term) (plan : Plan) → IsOfJob destination →
+        (destination : DestinationModel) (tree : ExprModel) (plan : CoverModel) → IsOfJob destination →
         IsOrderly stock destination tree true plan →
         AreSpare stock file patterns pc destination tree plan }
 {}
 
 /// There are as many steps as the cover costs.
 pub fn law_of_costs()
-    ensures { (stock : Stock) (destination : Destination) (tree : Term) (plan : Plan) →
+    ensures { (stock : StockModel) (destination : DestinationModel) (tree : ExprModel) (plan : CoverModel) →
         IsOfJob destination → IsOrderly stock destination tree true plan →
         length (cover_steps stock destination tree plan) ≡ job_cost destination plan }
 {}
@@ -50,18 +50,18 @@ pub fn law_of_costs()
 /// Each step is one of a form of the list, with values for the bits of its transfer, and 0 for all
 /// others. The setting of a test's branch has no bits but those of its condition.
 pub fn law_of_settings()
-    ensures steps { (stock : Stock) (destination : Destination) (tree : Term) (plan : Plan) →
+    ensures steps { (stock : StockModel) (destination : DestinationModel) (tree : ExprModel) (plan : CoverModel) →
         IsOrderly stock destination tree true plan →
         AreOfForms stock.rules (cover_steps stock destination tree plan) }
-    ensures branch { (stock : Stock) (tree : Term) (plan : Plan) → IsOrderly stock tested tree true plan →
+    ensures branch { (stock : StockModel) (tree : ExprModel) (plan : CoverModel) → IsOrderly stock tested tree true plan →
         bit_and (branch_setting stock tree plan) (fields (condition_of stock plan)) ≡ branch_setting stock tree plan }
 {}
 
 /// Where the forms read words of so many bits, a chosen cover has at most as many cuts, inner ones
 /// among them, as its tree has nodes of a word's width below its root.
 pub fn law_of_cells()
-    ensures { (bits : ℕ) (stock : Stock) → AllReadWords bits stock.rules →
-        (destination : Destination) (trees : List Term) (choice : Choice) →
+    ensures { (bits : ℕ) (stock : StockModel) → AllReadWords bits stock.rules →
+        (destination : DestinationModel) (trees : List ExprModel) (choice : JobCoverModel) →
         (c : IsChosen stock destination trees choice) →
         cut_count choice.plan ≤ tree_temps bits destination c.covers.tree }
 {}

@@ -25,7 +25,7 @@
 //! - `emits`: `emit`.
 //! - `laws`: the five laws.
 //! - `specs/`, cited by public contracts: `Formed` (what is asked of forms), `Leaves`, `Spares`,
-//!   `Settles`, `ReadWords`, `Emits`, `Views`; the steps themselves are `form_model/specs/Steps`;
+//!   `Settles`, `ReadWords`, `Emits`, `Models`; the steps themselves are `form_model/specs/Steps`;
 //!   `Worked` is computed. `specs/Inner/`: `CellLists`, the lists of operands and cuts as the
 //!   functions here hand them on.
 //! - `proofs/`: `Works` and `Spared` are the two inductions over covers, under `Leaving` and

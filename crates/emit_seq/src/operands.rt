@@ -2,13 +2,13 @@
 
 ghost use Rattle.std.specs.Prelude.{◌≡◌, ◌++◌, OnOk};
 ghost use Rattle.form_model.specs.Covers.{AreOrderly, IsOrderly};
-ghost use Rattle.form_model.specs.Plans.{operands_plan, plan_of};
-ghost use Rattle.form_model.specs.Rules.{Rule};
+ghost use Rattle.form_model.specs.CoverModels.{model_of_cover_operands, model_of_cover};
+ghost use Rattle.form_model.specs.Forms.{FormModel};
 ghost use Rattle.form_model.specs.Steps.{form_step, operand_steps, own_steps};
-ghost use Rattle.form_model.specs.Trees.{tree_term};
-ghost use Rattle.tree_grammar.specs.Parts.{destination_at};
+ghost use Rattle.form_model.specs.Trees.{model_of_tree};
+ghost use Rattle.tree_grammar.specs.Leaves.{model_of_destination};
 ghost use Rattle.emit_seq.specs.Inner.CellLists.{operands_in};
-ghost use Rattle.emit_seq.specs.Views.{cells_of_operands, stock_of};
+ghost use Rattle.emit_seq.specs.Models.{models_of_operand_cells, model_of_stock};
 
 use crate::cells::OperandCells;
 use crate::homes::{cell_of, holding};
@@ -24,8 +24,8 @@ fn put_form_step(
     destination: Destination,
     step: Step,
 ) -> Result<(), NoMemory>
-    ensures { OnOk result ((rule : Rule) → step.pattern ≡ rule.pattern →
-        out.new ≡ out.old ++ form_step rule (destination_at destination.entry) step.setting) }
+    ensures { OnOk result ((rule : FormModel) → step.pattern ≡ rule.pattern →
+        out.new ≡ out.old ++ form_step rule (model_of_destination destination.entry) step.setting) }
 {
     match destination {
         Destination::Test => Ok(()),
@@ -43,11 +43,11 @@ pub fn put_own_steps<'a>(
     covered: Covered<'a>,
     out: &mut Items<Step>,
 ) -> Result<(), NoMemory>
-    requires { IsOrderly (stock_of stock) (destination_at covered.destination)
-        (tree_term covered.tree.now) covered.whole (plan_of cover.now) }
+    requires { IsOrderly (model_of_stock stock) (model_of_destination covered.destination)
+        (model_of_tree covered.tree.now) covered.whole (model_of_cover cover.now) }
     ensures { OnOk result (out.new ≡ out.old
-        ++ own_steps (stock_of stock.entry) (plan_of cover.now) covered.entry.first covered.entry.held
-        (destination_at covered.entry.destination) (tree_term covered.entry.tree.now)
+        ++ own_steps (model_of_stock stock.entry) (model_of_cover cover.now) covered.entry.first covered.entry.held
+        (model_of_destination covered.entry.destination) (model_of_tree covered.entry.tree.now)
         covered.entry.whole) }
 {
     let mut root = root_of(alloc, stock, cover, covered)?;
@@ -73,11 +73,11 @@ fn put_operands<'a>(
     left: &mut Vec<OperandCells<'a>>,
     out: &mut Items<Step>,
 ) -> Result<(), NoMemory>
-    requires { AreOrderly (stock_of stock) (operands_in (cells_of_operands left.old.items))
-        (operands_plan operands.now) }
+    requires { AreOrderly (model_of_stock stock) (operands_in (models_of_operand_cells left.old.items))
+        (model_of_cover_operands operands.now) }
     ensures { OnOk result (out.new ≡ out.old
-        ++ operand_steps (stock_of stock.entry) (operands_plan operands.now)
-        (cells_of_operands left.old.items) held) }
+        ++ operand_steps (model_of_stock stock.entry) (model_of_cover_operands operands.now)
+        (models_of_operand_cells left.old.items) held) }
 {
     match operands {
         CoverOperands::Empty => Ok(()),

@@ -2,16 +2,16 @@
 
 ghost use Rattle.std.specs.Prelude.{◌≡◌, ◌+◌, ◌<◌, Some, IfOk, IsSome, bit_or, false, length, slice_get, vec_len};
 ghost use Rattle.form_model.specs.Covers.{IsOrderly};
-ghost use Rattle.form_model.specs.Plans.{cuts_plan, operands_plan, plan_of};
-ghost use Rattle.form_model.specs.Rules.{rule_of};
+ghost use Rattle.form_model.specs.CoverModels.{model_of_cover_cuts, model_of_cover_operands, model_of_cover};
+ghost use Rattle.form_model.specs.Forms.{model_of_form};
 ghost use Rattle.form_model.specs.Matches.{taken};
 ghost use Rattle.form_model.specs.Steps.{cell_of as cell_of_plan, cut_count as cut_count_of, cut_counts as cut_counts_of, open_setting, operand_counts as operand_counts_of, operand_homes, own_setting as own_setting_of};
 ghost use Rattle.form_model.specs.Covers.{home_destination, operands_of};
-ghost use Rattle.form_model.specs.Trees.{tree_term};
-ghost use Rattle.tree_grammar.specs.Parts.{destination_at, found_of, home_at, sites_of};
+ghost use Rattle.form_model.specs.Trees.{model_of_tree};
+ghost use Rattle.tree_grammar.specs.Leaves.{model_of_destination, model_of_match, model_of_home, models_of_leaves};
 ghost use Rattle.tree_grammar.specs.declared.parts.Destination.TheVariants.{Temp};
 ghost use Rattle.emit_seq.specs.Inner.CellLists.{AreMatchCells, ArePlaces, IsListed};
-ghost use Rattle.emit_seq.specs.Views.{cells_of_cuts, cells_of_operand, cells_of_operands, stock_of};
+ghost use Rattle.emit_seq.specs.Models.{models_of_cut_cells, model_of_operand_cells, models_of_operand_cells, model_of_stock};
 ghost use Rattle.emit_seq.specs.Emits.{IsRoot, IsTakenOut};
 
 use crate::cells::{CutCells, MatchCells, OperandCells, match_cells};
@@ -21,7 +21,7 @@ use crate::settings::{cells_setting, homes_setting, own_setting};
 use form_model::{Cover, Form, Step, Tree};
 use rec_bits::NoMemory;
 use std::alloc::Global;
-use tree_grammar::{Destination, Home, Match, Part, match_at, plus};
+use tree_grammar::{Destination, Home, Leaf, Match, match_at, plus};
 
 /// What covers are made of: the forms, the number of temporary cells, and that of the file's cells.
 #[derive(Clone, Copy)]
@@ -45,7 +45,7 @@ pub struct Covered<'a> {
 /// A form at the root of a cover.
 #[derive(Drop)]
 pub struct Root<'a> {
-    pub parts: Vec<Part<'a>>,
+    pub parts: Vec<Leaf<'a>>,
     pub operands: Vec<OperandCells<'a>>,
     pub cuts: Vec<CutCells<'a>>,
     pub step: Step,
@@ -53,7 +53,7 @@ pub struct Root<'a> {
 
 pub(crate) fn form_at<'a>(stock: Stock<'a>, place: usize) -> &'a Form
     requires { place < length stock.forms.now }
-    ensures { slice_get (stock_of stock.entry).rules place ≡ Some (rule_of result.now) }
+    ensures { slice_get (model_of_stock stock.entry).rules place ≡ Some (model_of_form result.now) }
 {
     &stock.forms[place]
 }
@@ -64,12 +64,12 @@ fn found_at<'a>(
     form: &'a Form,
     covered: Covered<'a>,
 ) -> Result<Match<'a>, NoMemory>
-    requires { IsSome (taken stock.temps (rule_of form.now) (destination_at covered.destination)
-        (tree_term covered.tree.now) covered.whole) }
-    ensures { IfOk result (λ found. taken stock.entry.temps (rule_of form.now)
-        (destination_at covered.entry.destination) (tree_term covered.entry.tree.now)
+    requires { IsSome (taken stock.temps (model_of_form form.now) (model_of_destination covered.destination)
+        (model_of_tree covered.tree.now) covered.whole) }
+    ensures { IfOk result (λ found. taken stock.entry.temps (model_of_form form.now)
+        (model_of_destination covered.entry.destination) (model_of_tree covered.entry.tree.now)
         covered.entry.whole
-        ≡ Some (found_of found)) }
+        ≡ Some (model_of_match found)) }
 {
     let found = match_at(
         alloc,
@@ -89,14 +89,14 @@ fn found_at<'a>(
 // The operands and the cuts of a match with these parts, with their cells from the first on.
 fn cells_from<'a>(
     alloc: Global,
-    parts: &[Part<'a>],
+    parts: &[Leaf<'a>],
     cover: &Cover,
     first: u64,
 ) -> Result<MatchCells<'a>, NoMemory>
-    requires { ArePlaces (operands_plan cover.now.operands) }
-    ensures { IfOk result (AreMatchCells (sites_of parts.now)
-        (operand_counts_of (operands_plan cover.now.operands))
-        (cut_counts_of (cuts_plan cover.now.cuts)) first) }
+    requires { ArePlaces (model_of_cover_operands cover.now.operands) }
+    ensures { IfOk result (AreMatchCells (models_of_leaves parts.now)
+        (operand_counts_of (model_of_cover_operands cover.now.operands))
+        (cut_counts_of (model_of_cover_cuts cover.now.cuts)) first) }
 {
     let inside = operand_counts(alloc, &cover.operands)?;
     let own = cut_counts(alloc, &cover.cuts)?;
@@ -113,16 +113,16 @@ fn setting_with(
     form: &Form,
     cover: &Cover,
     covered: Covered<'_>,
-    parts: &[Part],
+    parts: &[Leaf],
     cuts: &[CutCells],
 ) -> Result<u64, NoMemory>
-    requires { IsListed (stock_of stock) (plan_of cover.now) }
+    requires { IsListed (model_of_stock stock) (model_of_cover cover.now) }
     ensures { IfOk result (λ n.
-        n ≡ bit_or (bit_or settled (open_setting (operands_of (sites_of parts.now)) (cells_of_cuts cuts.now)
-        (operand_homes (stock_of stock.entry) (operands_plan cover.now.operands) covered.entry.held)))
-        (own_setting_of (destination_at covered.entry.destination) (rule_of form.now).addr
-        (covered.entry.first + cut_count_of (plan_of cover.now))
-        (cell_of_plan (stock_of stock.entry) (plan_of cover.now) covered.entry.held))) }
+        n ≡ bit_or (bit_or settled (open_setting (operands_of (models_of_leaves parts.now)) (models_of_cut_cells cuts.now)
+        (operand_homes (model_of_stock stock.entry) (model_of_cover_operands cover.now.operands) covered.entry.held)))
+        (own_setting_of (model_of_destination covered.entry.destination) (model_of_form form.now).addr
+        (covered.entry.first + cut_count_of (model_of_cover cover.now))
+        (cell_of_plan (model_of_stock stock.entry) (model_of_cover cover.now) covered.entry.held))) }
 {
     let homes = homes_of(alloc, stock, &cover.operands, covered.held)?;
     let cell = cell_of(alloc, stock, cover, covered.held)?;
@@ -139,11 +139,11 @@ pub fn root_of<'a>(
     cover: &Cover,
     covered: Covered<'a>,
 ) -> Result<Root<'a>, NoMemory>
-    requires { IsOrderly (stock_of stock) (destination_at covered.destination)
-        (tree_term covered.tree.now) covered.whole (plan_of cover.now) }
-    ensures { IfOk result (λ root. IsRoot (stock_of stock.entry) (plan_of cover.now)
-        covered.entry.first covered.entry.held (destination_at covered.entry.destination)
-        (tree_term covered.entry.tree.now) covered.entry.whole root) }
+    requires { IsOrderly (model_of_stock stock) (model_of_destination covered.destination)
+        (model_of_tree covered.tree.now) covered.whole (model_of_cover cover.now) }
+    ensures { IfOk result (λ root. IsRoot (model_of_stock stock.entry) (model_of_cover cover.now)
+        covered.entry.first covered.entry.held (model_of_destination covered.entry.destination)
+        (model_of_tree covered.entry.tree.now) covered.entry.whole root) }
 {
     let form = form_at(stock, cover.form);
     let found = found_at(alloc, stock, form, covered)?;
@@ -173,15 +173,15 @@ pub fn root_of<'a>(
 /// Takes the operand at this place out of those that are left.
 pub fn take_out<'a>(left: &mut Vec<OperandCells<'a>>, place: usize) -> OperandCells<'a>
     requires { place < vec_len left.old }
-    ensures { IsTakenOut (cells_of_operands left.old.items) place (cells_of_operand result)
-        (cells_of_operands left.new.items) }
+    ensures { IsTakenOut (models_of_operand_cells left.old.items) place (model_of_operand_cells result)
+        (models_of_operand_cells left.new.items) }
 {
     left.remove(place)
 }
 
 // Where the cover of an operand with this home goes.
 fn destination_of_home<'a>(home: Home<'a>) -> Destination<'a>
-    ensures { destination_at result ≡ home_destination (home_at home.entry) }
+    ensures { model_of_destination result ≡ home_destination (model_of_home home.entry) }
 {
     match home {
         Home::Register(id) => Destination::Register(id),
@@ -191,7 +191,7 @@ fn destination_of_home<'a>(home: Home<'a>) -> Destination<'a>
 
 /// What the cover of an operand is of, while these cells of the file are held.
 pub fn operand_covered<'a>(cells: OperandCells<'a>, held: u64) -> Covered<'a>
-    ensures goes { destination_at result.destination ≡ home_destination (home_at cells.entry.home) }
+    ensures goes { model_of_destination result.destination ≡ home_destination (model_of_home cells.entry.home) }
     ensures is { result ≡ record {
       tree = cells.entry.tree;
       destination = result.destination;

@@ -1,30 +1,30 @@
 //! The bits of a form's word that name temporary cells and cells of the file.
 
 ghost use Rattle.std.specs.Prelude.{◌≡◌, ℕ, IfOk, bit_or};
-ghost use Rattle.net_model.specs.Terms.{term_of};
-ghost use Rattle.form_model.specs.Rules.{rule_of};
+ghost use Rattle.net_model.specs.Exprs.{model_of_expr};
+ghost use Rattle.form_model.specs.Forms.{model_of_form};
 ghost use Rattle.form_model.specs.Shapes.{shape_setting};
 ghost use Rattle.form_model.specs.Steps.{bits_or_none, cells_setting as cells_setting_of, home_setting as home_setting_of, homes_setting as homes_setting_of, own_setting as own_setting_of};
 ghost use Rattle.form_model.specs.Covers.{operands_of};
-ghost use Rattle.tree_grammar.specs.Parts.{destination_at, home_at, sites_of};
-ghost use Rattle.emit_seq.specs.Views.{cells_of_cuts};
+ghost use Rattle.tree_grammar.specs.Leaves.{model_of_destination, model_of_home, models_of_leaves};
+ghost use Rattle.emit_seq.specs.Models.{models_of_cut_cells};
 
 use crate::cells::CutCells;
 use form_model::Form;
 use net_model::Expr;
 use rec_bits::NoMemory;
-use tree_grammar::{Destination, Home, Part, setting_of};
+use tree_grammar::{Destination, Home, Leaf, setting_of};
 
 // The bits of the word that give the shape this value, or none where it doesn't show it.
 fn bits_for(shape: &Expr, value: u64) -> Result<u64, NoMemory>
-    ensures { IfOk result (λ n. n ≡ bits_or_none (shape_setting (term_of shape.now) value)) }
+    ensures { IfOk result (λ n. n ≡ bits_or_none (shape_setting (model_of_expr shape.now) value)) }
 {
     Ok(setting_of(shape, value)?.unwrap_or(0))
 }
 
 /// The bits that name the cells of the cuts.
 pub fn cells_setting(cuts: &[CutCells]) -> Result<u64, NoMemory>
-    ensures { IfOk result (λ n. n ≡ cells_setting_of (cells_of_cuts cuts.now)) }
+    ensures { IfOk result (λ n. n ≡ cells_setting_of (models_of_cut_cells cuts.now)) }
 {
     let mut setting = 0;
     for cut in cuts {
@@ -35,7 +35,7 @@ pub fn cells_setting(cuts: &[CutCells]) -> Result<u64, NoMemory>
 
 // The bits that name the cell of an operand, where it is in the file.
 fn home_setting(home: Home, cell: Option<u64>) -> Result<u64, NoMemory>
-    ensures { IfOk result (λ n. n ≡ home_setting_of (home_at home.entry) cell) }
+    ensures { IfOk result (λ n. n ≡ home_setting_of (model_of_home home.entry) cell) }
 {
     match (home, cell) {
         (Home::File(shape), Some(cell)) => bits_for(shape, cell),
@@ -44,14 +44,14 @@ fn home_setting(home: Home, cell: Option<u64>) -> Result<u64, NoMemory>
 }
 
 /// The bits that name the cells of the operands among the parts, which are given from left to right.
-pub fn homes_setting(parts: &[Part], homes: &[Option<u64>]) -> Result<u64, NoMemory>
-    ensures { IfOk result (λ n. n ≡ homes_setting_of (operands_of (sites_of parts.now)) homes.now) }
+pub fn homes_setting(parts: &[Leaf], homes: &[Option<u64>]) -> Result<u64, NoMemory>
+    ensures { IfOk result (λ n. n ≡ homes_setting_of (operands_of (models_of_leaves parts.now)) homes.now) }
 {
     match parts {
         [] => Ok(0),
         [part, rest @ ..] => match *part {
-            Part::Cut { .. } => homes_setting(rest, homes),
-            Part::Operand { home, .. } => match homes {
+            Leaf::Cut { .. } => homes_setting(rest, homes),
+            Leaf::Operand { home, .. } => match homes {
                 [] => Ok(0),
                 [cell, more @ ..] => {
                     let own = home_setting(home, *cell)?;
@@ -69,7 +69,7 @@ pub fn own_setting(
     own: u64,
     cell: Option<u64>,
 ) -> Result<u64, NoMemory>
-    ensures { IfOk result (λ n. n ≡ own_setting_of (destination_at destination.entry) (rule_of form.now).addr own cell) }
+    ensures { IfOk result (λ n. n ≡ own_setting_of (model_of_destination destination.entry) (model_of_form form.now).addr own cell) }
 {
     match (destination, &form.addr) {
         (Destination::Temp, Some(addr)) => bits_for(addr, own),

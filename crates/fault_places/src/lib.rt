@@ -24,4 +24,4 @@ mod tests;
 pub use forms::FORMS;
 pub use notes::note;
 pub use reason::reason_of;
-pub use spot::{Spot, offset_in, spot_of};
+pub use spot::{FaultPlace, offset_in, spot_of};

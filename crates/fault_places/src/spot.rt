@@ -11,7 +11,7 @@ use std::alloc::Global;
 
 /// What a status tells of a place in a file.
 #[derive(Clone, Copy, Debug, PartialEq, Eq)]
-pub enum Spot {
+pub enum FaultPlace {
     /// The offset.
     At(u64),
     /// The line, counted from 0.
@@ -51,15 +51,18 @@ fn src_offset(fault: SrcFault) -> Option<u64> {
 
 /// The file that a status tells of, by its place among the words that name files, from 0, and what
 /// it tells of the place there. None where it tells of no place.
-pub fn spot_of(status: Status) -> Option<(usize, Spot)> {
+pub fn spot_of(status: Status) -> Option<(usize, FaultPlace)> {
     let (file, spot) = match status {
-        Status::NetText(at) => (0, Spot::At(at)),
-        Status::Net(fault) => (0, Spot::At(net_offset(fault)?)),
-        Status::SrcText(at) | Status::ImageText(at) | Status::AsmText(at) => (1, Spot::At(at)),
-        Status::Src(fault) => (1, Spot::At(src_offset(fault)?)),
-        Status::NoCover(tree) => (1, Spot::Tree(tree)),
-        Status::AsmWord(line) => (1, Spot::Line(line)),
-        Status::MemText(at) | Status::PartText(at) => (2, Spot::At(at)),
+        Status::NetText(at) => (0, FaultPlace::At(at)),
+        Status::Net(fault) => (0, FaultPlace::At(net_offset(fault)?)),
+        Status::SrcText(at) | Status::ImageText(at) | Status::AsmText(at) => (
+            1,
+            FaultPlace::At(at),
+        ),
+        Status::Src(fault) => (1, FaultPlace::At(src_offset(fault)?)),
+        Status::NoCover(tree) => (1, FaultPlace::Tree(tree)),
+        Status::AsmWord(line) => (1, FaultPlace::Line(line)),
+        Status::MemText(at) | Status::PartText(at) => (2, FaultPlace::At(at)),
         _ => return None,
     };
     Some((file, spot))
@@ -91,12 +94,12 @@ fn tree_offset(alloc: Global, text: &[u8], tree: u32) -> Result<Option<u64>, NoM
 }
 
 /// The offset of a place in the file's text. None where the text has no such place.
-pub fn offset_in(alloc: Global, text: &[u8], spot: Spot) -> Result<Option<u64>, NoMemory>
+pub fn offset_in(alloc: Global, text: &[u8], spot: FaultPlace) -> Result<Option<u64>, NoMemory>
     requires { length text.now < 2 ^ 32 }
 {
     match spot {
-        Spot::At(at) => Ok(Some(at)),
-        Spot::Line(number) => Ok(line_offset(text, number)),
-        Spot::Tree(tree) => tree_offset(alloc, text, tree),
+        FaultPlace::At(at) => Ok(Some(at)),
+        FaultPlace::Line(number) => Ok(line_offset(text, number)),
+        FaultPlace::Tree(tree) => tree_offset(alloc, text, tree),
     }
 }

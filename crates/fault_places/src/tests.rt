@@ -1,6 +1,6 @@
 //! What is told of faults in texts.
 
-use crate::{Spot, note, offset_in, reason_of, spot_of};
+use crate::{FaultPlace, note, offset_in, reason_of, spot_of};
 use record_core::Status;
 use src_model::SrcFault;
 use std::test::Fail;
@@ -9,7 +9,7 @@ use std::test::Fail;
 fn a_name_in_a_program(rt: HostRuntime) -> Result<(), Fail> {
     let text = b"var a;\n\ta = b;\n";
     let status = Status::Src(SrcFault::Unknown(12));
-    assert_eq!(rt; spot_of(status), Some((1, Spot::At(12))));
+    assert_eq!(rt; spot_of(status), Some((1, FaultPlace::At(12))));
     let note = note(rt.alloc(), "p.src", text, 12, reason_of(status))?;
     assert_eq!(rt;
         note.as_slice(),
@@ -23,20 +23,20 @@ fn a_tree_without_a_cover(rt: HostRuntime) -> Result<(), Fail> {
     let text = b"var a, i; a = 1;\nfor i = 0 to 3 {\n  if a + 1 < i { a = 2; }\n}\n";
     let places = [10, 21, 21, 39, 51, 21];
     for (tree, at) in places.iter().enumerate() {
-        let spot = Spot::Tree(tree as u32);
+        let spot = FaultPlace::Tree(tree as u32);
         assert_eq!(rt; offset_in(rt.alloc(), text, spot)?, Some(*at));
     }
-    assert_eq!(rt; offset_in(rt.alloc(), text, Spot::Tree(6))?, None);
+    assert_eq!(rt; offset_in(rt.alloc(), text, FaultPlace::Tree(6))?, None);
     Ok(())
 }
 
 #[test]
 fn a_line_by_its_number(rt: HostRuntime) -> Result<(), Fail> {
     let text = b"one\ntwo\n\nfour";
-    assert_eq!(rt; spot_of(Status::AsmWord(3)), Some((1, Spot::Line(3))));
+    assert_eq!(rt; spot_of(Status::AsmWord(3)), Some((1, FaultPlace::Line(3))));
     let starts = [Some(0), Some(4), Some(8), Some(9), None];
     for (number, at) in starts.iter().enumerate() {
-        let spot = Spot::Line(number as u64);
+        let spot = FaultPlace::Line(number as u64);
         assert_eq!(rt; offset_in(rt.alloc(), text, spot)?, *at);
     }
     Ok(())
@@ -44,7 +44,7 @@ fn a_line_by_its_number(rt: HostRuntime) -> Result<(), Fail> {
 
 #[test]
 fn a_line_of_a_part(rt: HostRuntime) -> Result<(), Fail> {
-    assert_eq!(rt; spot_of(Status::PartText(2)), Some((2, Spot::At(2))));
+    assert_eq!(rt; spot_of(Status::PartText(2)), Some((2, FaultPlace::At(2))));
     Ok(())
 }
 

@@ -3,7 +3,7 @@ use Rattle.std.proofs.Common.{lit<, ◌≡◌, ℕ, ◌+◌, ◌-◌, ◌*◌, �
 use Rattle.std.specs.Prelude.{is_some}
 use Rattle.std.proofs.lemmas.Nat.{pow_pos, mod_below, shl_below}
 use Rattle.std.proofs.Math.Nat.{pow-le-pow_right}
-use Rattle.net_model.specs.Terms.{Term, word, reg, const, read, un, bin, slice, cat, zext, sext, select, term_width}
+use Rattle.net_model.specs.Exprs.{ExprModel, word, reg, const, read, un, bin, slice, cat, zext, sext, select, expr_width}
 use Rattle.net_model.specs.Symbolic.{no_state}
 use Rattle.net_model.specs.Meaning.{mean}
 use Rattle.form_model.specs.Shapes.{FieldFits, field_setting, then_some, is_field}
@@ -33,7 +33,7 @@ slice_fits bits hi lo v p q h =
     omega (arith, room, low)
 
 -- the bits that give a field a value are bits of a word
-pub field_setting_fits : (bits : ℕ) (t : Term) → FieldFits bits t → (v b : ℕ) → field_setting t v ≡ Some b → b < 2 ^ bits
+pub field_setting_fits : (bits : ℕ) (t : ExprModel) → FieldFits bits t → (v b : ℕ) → field_setting t v ≡ Some b → b < 2 ^ bits
 field_setting_fits bits (word w) f v b e =
     let g = then_some_true (nat_lt v (2 ^ w)) v b e in
     subst (λ n. n < 2 ^ bits) g.1 (subst (λ k. v < 2 ^ k) f (less_true v (2 ^ w) g.0))
@@ -44,7 +44,7 @@ field_setting_fits bits (slice (word w) hi lo) f v b e =
 field_setting_fits bits e f v b h = absurd (cc)
 
 -- each word gives a field a value of its width
-pub field_small : (bits : ℕ) (t : Term) → is_field t ≡ true → FieldFits bits t → (i : ℕ) → i < 2 ^ bits → mean t no_state i < 2 ^ term_width t
+pub field_small : (bits : ℕ) (t : ExprModel) → is_field t ≡ true → FieldFits bits t → (i : ℕ) → i < 2 ^ bits → mean t no_state i < 2 ^ expr_width t
 field_small bits (word w) p f i lt = subst (λ k. i < 2 ^ k) (sym f) lt
 field_small bits (slice (word w) hi lo) p f i lt = mod_below _ _ (pow_pos (hi + 1 - lo))
 field_small bits (reg r w) p f i lt = absurd (true≢false (sym p))
@@ -59,7 +59,7 @@ field_small bits (sext a w) p f i lt = absurd (true≢false (sym p))
 field_small bits (select a c d) p f i lt = absurd (true≢false (sym p))
 
 -- and has each of these under some word
-pub field_has_setting : (bits : ℕ) (t : Term) → is_field t ≡ true → FieldFits bits t → (v : ℕ) → v < 2 ^ term_width t → is_some (field_setting t v) ≡ true
+pub field_has_setting : (bits : ℕ) (t : ExprModel) → is_field t ≡ true → FieldFits bits t → (v : ℕ) → v < 2 ^ expr_width t → is_some (field_setting t v) ≡ true
 field_has_setting bits (word w) p f v lt = then_some_is (nat_lt v (2 ^ w)) v (true_less v (2 ^ w) lt)
 field_has_setting bits (slice (word w) hi lo) p f v lt = then_some_is (nat_lt v (2 ^ (hi + 1 - lo))) (v * 2 ^ lo) (true_less v (2 ^ (hi + 1 - lo)) lt)
 field_has_setting bits (reg r w) p f v lt = absurd (true≢false (sym p))

@@ -2,14 +2,14 @@
 use Rattle.std.proofs.Common.{◌≡◌, ℕ, ◌≤◌, Bool, Some, refl, ap, ◌∙◌}
 use Rattle.std.specs.Prelude.{slice_get}
 use Rattle.std.proofs.Math.Nat.{le-max_left}
-use Rattle.net_model.specs.Terms.{Term}
-use Rattle.form_model.specs.Rules.{Rule, Kind, into_reg, into_memory, into_file, jumps, branches}
-use Rattle.form_model.specs.Matches.{Home, in_register, in_file, Found, goal_match}
-use Rattle.form_model.specs.Plans.{Plan, use_form}
-use Rattle.form_model.specs.Covers.{Stock, home_destination, home_cells, kind_cells, form_cells, left_cells, need, operands_need, IsOrderly}
+use Rattle.net_model.specs.Exprs.{ExprModel}
+use Rattle.form_model.specs.Forms.{FormModel, GoalModel, into_reg, into_memory, into_file, jumps, branches}
+use Rattle.form_model.specs.Matches.{HomeModel, in_register, in_file, MatchModel, goal_match}
+use Rattle.form_model.specs.CoverModels.{CoverModel, use_form}
+use Rattle.form_model.specs.Covers.{StockModel, home_destination, home_cells, cells_of_goal, form_cells, left_cells, need, operands_need, IsOrderly}
 
 -- a form that goes to a home leaves its value in as many cells of the file as that has
-pub goal_cells : (temps : ℕ) (rule : Rule) (goal : Kind) (home : Home) (t : Term) (whole : Bool) (found : Found) → goal_match temps rule goal (home_destination home) t whole ≡ Some found → kind_cells goal ≡ home_cells home
+pub goal_cells : (temps : ℕ) (rule : FormModel) (goal : GoalModel) (home : HomeModel) (t : ExprModel) (whole : Bool) (found : MatchModel) → goal_match temps rule goal (home_destination home) t whole ≡ Some found → cells_of_goal goal ≡ home_cells home
 goal_cells temps rule (into_reg d) (in_register id) t whole found h = refl
 goal_cells temps rule (into_reg d) (in_file shape) t whole found h = absurd (cc)
 goal_cells temps rule into_memory (in_register id) t whole found h = absurd (cc)
@@ -22,9 +22,9 @@ goal_cells temps rule (branches when_one to) (in_register id) t whole found h = 
 goal_cells temps rule (branches when_one to) (in_file shape) t whole found h = absurd (cc)
 
 -- and so does an orderly cover
-pub cells_left : (stock : Stock) (p : Plan) (home : Home) (t : Term) (whole : Bool) → IsOrderly stock (home_destination home) t whole p → left_cells stock.rules p ≡ home_cells home
+pub cells_left : (stock : StockModel) (p : CoverModel) (home : HomeModel) (t : ExprModel) (whole : Bool) → IsOrderly stock (home_destination home) t whole p → left_cells stock.rules p ≡ home_cells home
 cells_left stock (use_form k ps cs) home t whole (rule, listed, found, m, orderly, stored) =
     ap form_cells listed ∙ goal_cells stock.temps rule rule.goal home t whole found m
 
-pub left_need : (stock : Stock) (p : Plan) → left_cells stock.rules p ≤ need stock.rules p
+pub left_need : (stock : StockModel) (p : CoverModel) → left_cells stock.rules p ≤ need stock.rules p
 left_need stock (use_form k ps cs) = le-max_left (form_cells (slice_get stock.rules k)) (operands_need stock.rules ps)

@@ -5,7 +5,7 @@ use Rattle.std.proofs.lemmas.Bool.{eqb-true, eq-eqb}
 use Rattle.std.proofs.lemmas.Nat.{pow_pos, pow-add, mod_low, pow_below}
 use Rattle.std.proofs.Math.Nat.{pow-le-pow_right, mod-eq_of_lt}
 use Rattle.rec_bits.specs.Operators.{sext_of, is_negative_of}
-use Rattle.net_model.specs.Terms.{Term, word, reg, const, read, un, bin, slice, cat, zext, sext, select, term_width}
+use Rattle.net_model.specs.Exprs.{ExprModel, word, reg, const, read, un, bin, slice, cat, zext, sext, select, expr_width}
 use Rattle.net_model.specs.Symbolic.{no_state}
 use Rattle.net_model.specs.Meaning.{mean}
 use Rattle.form_model.specs.Shapes.{FieldFits, IsReach, PlainFits, field_setting, is_field, is_plain, plain_reach, plain_setting}
@@ -52,11 +52,11 @@ sext_other x n w one less h = by (is_negative_of n x) refl
 -- ---- what shows
 
 -- the bits that give a shape a value are bits of a word
-pub plain_setting_fits : (bits : ℕ) (t : Term) → PlainFits bits t → (v b : ℕ) → plain_setting t v ≡ Some b → b < 2 ^ bits
+pub plain_setting_fits : (bits : ℕ) (t : ExprModel) → PlainFits bits t → (v b : ℕ) → plain_setting t v ≡ Some b → b < 2 ^ bits
 plain_setting_fits bits (const w c) f v b e = subst (λ n. n < 2 ^ bits) (then_some_true (v == c) 0 b e).1 (pow_pos bits)
 plain_setting_fits bits (zext a w) f v b e = field_setting_fits bits a f.0 v b e
 plain_setting_fits bits (sext a w) f v b e =
-    field_setting_fits bits a f.0 (v % 2 ^ term_width a) b (picked (sext_of (v % 2 ^ term_width a) (term_width a) w == v) _ b e).1
+    field_setting_fits bits a f.0 (v % 2 ^ expr_width a) b (picked (sext_of (v % 2 ^ expr_width a) (expr_width a) w == v) _ b e).1
 plain_setting_fits bits (word w) f v b e = field_setting_fits bits (word w) f v b e
 plain_setting_fits bits (slice a hi lo) f v b e = field_setting_fits bits (slice a hi lo) f v b e
 plain_setting_fits bits t f v b e = absurd (cc)
@@ -65,19 +65,19 @@ pub some_of : (o : Option ℕ) → is_some o ≡ true → (b : ℕ) × (o ≡ So
 some_of None e = absurd (true≢false (sym e))
 some_of (Some b) e = (b, refl)
 
-sext_has_setting : (bits : ℕ) (a : Term) (w : ℕ) → is_field a ≡ true → PlainFits bits (sext a w) → (i v : ℕ) → i < 2 ^ bits → mean (sext a w) no_state i ≡ v → is_some (plain_setting (sext a w) v) ≡ true
+sext_has_setting : (bits : ℕ) (a : ExprModel) (w : ℕ) → is_field a ≡ true → PlainFits bits (sext a w) → (i v : ℕ) → i < 2 ^ bits → mean (sext a w) no_state i ≡ v → is_some (plain_setting (sext a w) v) ≡ true
 sext_has_setting bits a w p f i v lt e =
     let x = mean a no_state i in
     let small = field_small bits a p f.0 i lt in
-    let low : v % 2 ^ term_width a ≡ x = ap (λ n. n % 2 ^ term_width a) (sym e) ∙ sext_low x (term_width a) w small (omega (arith, f.2)) in
-    let same : (sext_of (v % 2 ^ term_width a) (term_width a) w == v) ≡ true = eq-eqb _ _ (ap (λ n. sext_of n (term_width a) w) low ∙ e) in
-    subst (λ (t : Bool). is_some (cond t (field_setting a (v % 2 ^ term_width a)) None) ≡ true) (sym same)
-    (field_has_setting bits a p f.0 (v % 2 ^ term_width a) (subst (λ n. n < 2 ^ term_width a) (sym low) small))
+    let low : v % 2 ^ expr_width a ≡ x = ap (λ n. n % 2 ^ expr_width a) (sym e) ∙ sext_low x (expr_width a) w small (omega (arith, f.2)) in
+    let same : (sext_of (v % 2 ^ expr_width a) (expr_width a) w == v) ≡ true = eq-eqb _ _ (ap (λ n. sext_of n (expr_width a) w) low ∙ e) in
+    subst (λ (t : Bool). is_some (cond t (field_setting a (v % 2 ^ expr_width a)) None) ≡ true) (sym same)
+    (field_has_setting bits a p f.0 (v % 2 ^ expr_width a) (subst (λ n. n < 2 ^ expr_width a) (sym low) small))
 
 -- and there is a setting for each value under some word
-pub plain_has_setting : (bits : ℕ) (t : Term) → is_plain t ≡ true → PlainFits bits t → (i v : ℕ) → i < 2 ^ bits → mean t no_state i ≡ v → is_some (plain_setting t v) ≡ true
+pub plain_has_setting : (bits : ℕ) (t : ExprModel) → is_plain t ≡ true → PlainFits bits t → (i v : ℕ) → i < 2 ^ bits → mean t no_state i ≡ v → is_some (plain_setting t v) ≡ true
 plain_has_setting bits (const w c) p f i v lt e = then_some_is (v == c) 0 (eq-eqb v c (sym e))
-plain_has_setting bits (zext a w) p f i v lt e = field_has_setting bits a p f.0 v (subst (λ n. n < 2 ^ term_width a) e (field_small bits a p f.0 i lt))
+plain_has_setting bits (zext a w) p f i v lt e = field_has_setting bits a p f.0 v (subst (λ n. n < 2 ^ expr_width a) e (field_small bits a p f.0 i lt))
 plain_has_setting bits (sext a w) p f i v lt e = sext_has_setting bits a w p f i v lt e
 plain_has_setting bits (word w) p f i v lt e = field_has_setting bits (word w) p f v (subst (λ n. n < 2 ^ w) e (field_small bits (word w) p f i lt))
 plain_has_setting bits (slice a hi lo) p f i v lt e = field_has_setting bits (slice a hi lo) p f v (subst (λ n. n < 2 ^ (hi + 1 - lo)) e (field_small bits (slice a hi lo) p f i lt))
@@ -91,7 +91,7 @@ plain_has_setting bits (select a c d) p f i v lt e = absurd (true≢false (sym p
 -- ---- up to where all numbers are shown
 
 -- a field shows the numbers of its width, and no other
-pub field_reach : (bits : ℕ) (t : Term) → is_field t ≡ true → FieldFits bits t → IsReach bits t (2 ^ term_width t)
+pub field_reach : (bits : ℕ) (t : ExprModel) → is_field t ≡ true → FieldFits bits t → IsReach bits t (2 ^ expr_width t)
 field_reach bits t p f = record {
   below = λ v lt. (let s = some_of (field_setting t v) (field_has_setting bits t p f v lt) in record { word = s.0; fits = field_setting_fits bits t f v s.0 s.1; is = field_means t no_state v s.0 s.1 });
   unshown = λ h. (let small = field_small bits t p f h.word h.fits in let e = h.is in omega (arith, small, e));
@@ -107,16 +107,16 @@ const_reach bits w c false e = record {
   unshown = λ h. (let q : c ≡ 0 = h.is in true≢false (sym (eq-eqb c 0 q) ∙ e));
 }
 
-pub sext_reach : (bits : ℕ) (a : Term) (w : ℕ) → is_field a ≡ true → PlainFits bits (sext a w) → IsReach bits (sext a w) (2 ^ (term_width a - 1))
+pub sext_reach : (bits : ℕ) (a : ExprModel) (w : ℕ) → is_field a ≡ true → PlainFits bits (sext a w) → IsReach bits (sext a w) (2 ^ (expr_width a - 1))
 sext_reach bits a w p f = record {
   below = λ v lt. (let r = field_reach bits a p f.0 in
-      let wide : 2 ^ (term_width a - 1) ≤ 2 ^ term_width a = pow-le-pow_right (lit< tt) (omega arith) in
+      let wide : 2 ^ (expr_width a - 1) ≤ 2 ^ expr_width a = pow-le-pow_right (lit< tt) (omega arith) in
       let h = r.below v (omega (arith, wide, lt)) in
-      record { word = h.word; fits = h.fits; is = ap (λ n. sext_of n (term_width a) w) h.is ∙ sext_plain v (term_width a) w lt });
-  unshown = λ h. sext_other (mean a no_state h.word) (term_width a) w f.1 f.2 (field_small bits a p f.0 h.word h.fits) h.is;
+      record { word = h.word; fits = h.fits; is = ap (λ n. sext_of n (expr_width a) w) h.is ∙ sext_plain v (expr_width a) w lt });
+  unshown = λ h. sext_other (mean a no_state h.word) (expr_width a) w f.1 f.2 (field_small bits a p f.0 h.word h.fits) h.is;
 }
 
-pub plain_reach_is : (bits : ℕ) (t : Term) → is_plain t ≡ true → PlainFits bits t → IsReach bits t (plain_reach t)
+pub plain_reach_is : (bits : ℕ) (t : ExprModel) → is_plain t ≡ true → PlainFits bits t → IsReach bits t (plain_reach t)
 plain_reach_is bits (const w c) p f = const_reach bits w c (c == 0) refl
 plain_reach_is bits (zext a w) p f = (let r = field_reach bits a p f.0 in record {
   below = λ v lt. (let h = r.below v lt in record { word = h.word; fits = h.fits; is = h.is });

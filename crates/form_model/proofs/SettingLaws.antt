@@ -8,7 +8,7 @@ use Rattle.std.proofs.Math.Nat.{add_comm}
 use Rattle.rec_bits.specs.declared.operator.Op2.TheVariants.{Add}
 use Rattle.rec_bits.specs.Operators.{slice_of, sext_of}
 use Rattle.net_model.specs.declared.states.State.{State}
-use Rattle.net_model.specs.Terms.{Term, word, const, bin, slice, zext, sext, term_width}
+use Rattle.net_model.specs.Exprs.{ExprModel, word, const, bin, slice, zext, sext, expr_width}
 use Rattle.net_model.specs.Meaning.{mean}
 use Rattle.form_model.specs.Bits.{uses}
 use Rattle.form_model.specs.Shapes.{Sum, field_setting, less_by, plain_setting, shape_setting, sum_setting, summands}
@@ -17,7 +17,7 @@ use Rattle.form_model.proofs.SumNumbers.{added_back, sum_is_with}
 
 -- the bits give a shape a value: they are among those that occur in it, and each word that has the
 -- same there gives it the value, in each state
-pub record IsSetting (e : Term) (v bits : ℕ) : Type 0 where
+pub record IsSetting (e : ExprModel) (v bits : ℕ) : Type 0 where
   pub within : (k : ℕ) → uses e k ≡ false → bit_at bits k ≡ 0
   pub means : (s : State) (i : ℕ) → ((k : ℕ) → uses e k ≡ true → bit_at i k ≡ bit_at bits k) → mean e s i ≡ v
 
@@ -85,7 +85,7 @@ slice_inside v hi lo i l f = same_from_bits_below (hi + 1 - lo) (slice_of i hi l
         let e : k + lo - lo ≡ k = omega arith in
         slice_bit i hi lo k h ∙ f (k + lo) (inside lo (k + lo) hi (omega arith) (omega arith)) ∙ up_high v lo (k + lo) (omega arith) ∙ ap (λ m. bit_at v m) e
 
-pub field_sets : (e : Term) (v bits : ℕ) → field_setting e v ≡ Some bits → IsSetting e v bits
+pub field_sets : (e : ExprModel) (v bits : ℕ) → field_setting e v ≡ Some bits → IsSetting e v bits
 field_sets (word w) v bits h =
     let e : v ≡ bits = (then_some_true _ _ _ h).1 in
     record { within = λ k f. absurd (true≢false f); means = λ s i f. same_from_bits i v (λ k. f k refl ∙ ap (λ n. bit_at n k) (sym e)) }
@@ -98,15 +98,15 @@ field_sets (slice (word w) hi lo) v bits h =
     }
 field_sets e v bits h = absurd (cc)
 
-plain_sets : (e : Term) (v bits : ℕ) → plain_setting e v ≡ Some bits → IsSetting e v bits
+plain_sets : (e : ExprModel) (v bits : ℕ) → plain_setting e v ≡ Some bits → IsSetting e v bits
 plain_sets (const w c) v bits h =
     let p : ((v == c) ≡ true) × (0 ≡ bits) = then_some_true _ _ _ h in
     record { within = λ k f. ap (λ n. bit_at n k) (sym p.1) ∙ bit_at-zero k; means = λ s i f. sym (eqb-true v c p.0) }
 plain_sets (zext a w) v bits h = let r : IsSetting a v bits = field_sets a v bits h in record { within = r.within; means = r.means }
 plain_sets (sext a w) v bits h =
-    let p : ((sext_of (v % 2 ^ term_width a) (term_width a) w == v) ≡ true) × (field_setting a (v % 2 ^ term_width a) ≡ Some bits) = picked _ _ _ h in
-    let r : IsSetting a (v % 2 ^ term_width a) bits = field_sets a (v % 2 ^ term_width a) bits p.1 in
-    record { within = r.within; means = λ s i f. ap (λ n. sext_of n (term_width a) w) (r.means s i f) ∙ eqb-true _ v p.0 }
+    let p : ((sext_of (v % 2 ^ expr_width a) (expr_width a) w == v) ≡ true) × (field_setting a (v % 2 ^ expr_width a) ≡ Some bits) = picked _ _ _ h in
+    let r : IsSetting a (v % 2 ^ expr_width a) bits = field_sets a (v % 2 ^ expr_width a) bits p.1 in
+    record { within = r.within; means = λ s i f. ap (λ n. sext_of n (expr_width a) w) (r.means s i f) ∙ eqb-true _ v p.0 }
 plain_sets (word w) v bits h = field_sets (word w) v bits h
 plain_sets (slice a hi lo) v bits h = field_sets (slice a hi lo) v bits h
 plain_sets e v bits h = absurd (cc)
@@ -116,7 +116,7 @@ left_unused true h = h
 left_unused false h = refl
 
 -- a sum has the bits of its other part
-sum_sets : (a b : Term) (s : Sum) (v bits : ℕ) → summands a b ≡ Some s → v < 2 ^ s.width → plain_setting s.to (less_by s.width v s.added) ≡ Some bits → IsSetting (bin Add a b) v bits
+sum_sets : (a b : ExprModel) (s : Sum) (v bits : ℕ) → summands a b ≡ Some s → v < 2 ^ s.width → plain_setting s.to (less_by s.width v s.added) ≡ Some bits → IsSetting (bin Add a b) v bits
 sum_sets (const w c) b s v bits e lt h =
     let x = sum_is_with w c b s e in
     let r : IsSetting b (less_by w v c) bits = plain_sets b (less_by w v c) bits (subst (λ (z : Sum). plain_setting z.to (less_by z.width v z.added) ≡ Some bits) (sym x.is) h) in
@@ -132,12 +132,12 @@ sum_sets a (const w c) s v bits e lt h =
     record {
       within = λ k f. r.within k (left_unused (uses a k) f);
       means = λ st i f.
-          ap (λ n. (n + c) % 2 ^ term_width a) (r.means st i (λ k u. f k (ap (λ b. b || false) u)))
+          ap (λ n. (n + c) % 2 ^ expr_width a) (r.means st i (λ k u. f k (ap (λ b. b || false) u)))
           ∙ (ap (λ k. (less_by w v c + c) % 2 ^ k) x.wide ∙ (ap (λ n. n % 2 ^ w) (add_comm (less_by w v c) c) ∙ added_back w v c x.small lt'));
     }
 sum_sets a b s v bits e lt h = absurd (cc)
 
-pub shape_sets : (e : Term) (v bits : ℕ) → shape_setting e v ≡ Some bits → IsSetting e v bits
+pub shape_sets : (e : ExprModel) (v bits : ℕ) → shape_setting e v ≡ Some bits → IsSetting e v bits
 shape_sets (bin Add a b) v bits h = by (summands a b) refl h
   where
     by : (o : Option Sum) → summands a b ≡ o → sum_setting o v ≡ Some bits → IsSetting (bin Add a b) v bits
@@ -154,11 +154,11 @@ shape_sets (slice a hi lo) v bits h = plain_sets (slice a hi lo) v bits h
 shape_sets e v bits h = absurd (cc)
 
 -- the word that has these bits and no other is one of them
-pub setting_means : (e : Term) (s : State) (v bits : ℕ) → shape_setting e v ≡ Some bits → mean e s bits ≡ v
+pub setting_means : (e : ExprModel) (s : State) (v bits : ℕ) → shape_setting e v ≡ Some bits → mean e s bits ≡ v
 setting_means e s v bits h = (shape_sets e v bits h).means s bits (λ k u. refl)
 
-pub plain_means : (e : Term) (s : State) (v bits : ℕ) → plain_setting e v ≡ Some bits → mean e s bits ≡ v
+pub plain_means : (e : ExprModel) (s : State) (v bits : ℕ) → plain_setting e v ≡ Some bits → mean e s bits ≡ v
 plain_means e s v bits h = (plain_sets e v bits h).means s bits (λ k u. refl)
 
-pub field_means : (e : Term) (s : State) (v bits : ℕ) → field_setting e v ≡ Some bits → mean e s bits ≡ v
+pub field_means : (e : ExprModel) (s : State) (v bits : ℕ) → field_setting e v ≡ Some bits → mean e s bits ≡ v
 field_means e s v bits h = (field_sets e v bits h).means s bits (λ k u. refl)

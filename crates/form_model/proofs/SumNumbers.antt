@@ -4,7 +4,7 @@ use Rattle.std.specs.Prelude.{nat_le}
 use Rattle.std.proofs.lemmas.Bool.{eqb-true}
 use Rattle.std.proofs.lemmas.Nat.{mod_low}
 use Rattle.std.proofs.Math.Nat.{mod-eq_of_lt}
-use Rattle.net_model.specs.Terms.{Term, term_width}
+use Rattle.net_model.specs.Exprs.{ExprModel, expr_width}
 use Rattle.form_model.specs.Shapes.{Sum, less_by, sum_with}
 use Rattle.form_model.proofs.FieldLaws.{less_true}
 
@@ -46,15 +46,15 @@ back_added w x c small lt = by (cases_le (2 ^ w) (c + x))
     by (inr less) = ap (λ n. less_by w n c) (mod-eq_of_lt less) ∙ (less_back w (c + x) c (omega arith) less ∙ omega arith)
 
 -- a constant that is added is of its width, and what it is added to is as wide
-pub record IsSumWith (w c : ℕ) (t : Term) (s : Sum) : Type 0 where
+pub record IsSumWith (w c : ℕ) (t : ExprModel) (s : Sum) : Type 0 where
   pub is : record { width = w; added = c; to = t } ≡ s
   pub small : c < 2 ^ w
-  pub wide : term_width t ≡ w
+  pub wide : expr_width t ≡ w
 
-pub sum_is_with : (w c : ℕ) (t : Term) (s : Sum) → sum_with w c t ≡ Some s → IsSumWith w c t s
-sum_is_with w c t s e = by (nat_le w 64) (nat_lt c (2 ^ w)) (term_width t == w) refl refl e
+pub sum_is_with : (w c : ℕ) (t : ExprModel) (s : Sum) → sum_with w c t ≡ Some s → IsSumWith w c t s
+sum_is_with w c t s e = by (nat_le w 64) (nat_lt c (2 ^ w)) (expr_width t == w) refl refl e
   where
-    by : (a b d : Bool) → nat_lt c (2 ^ w) ≡ b → (term_width t == w) ≡ d → cond (a && (b && d)) (Some (record { width = w; added = c; to = t })) None ≡ Some s → IsSumWith w c t s
+    by : (a b d : Bool) → nat_lt c (2 ^ w) ≡ b → (expr_width t == w) ≡ d → cond (a && (b && d)) (Some (record { width = w; added = c; to = t })) None ≡ Some s → IsSumWith w c t s
     by true true true lt eq e = record { is = cc; small = less_true c (2 ^ w) lt; wide = eqb-true _ _ eq }
     by false b d lt eq e = absurd (cc)
     by true false d lt eq e = absurd (cc)

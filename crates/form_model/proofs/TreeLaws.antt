@@ -4,18 +4,18 @@ use Rattle.std.specs.Prelude.{bit_or}
 use Rattle.std.proofs.lemmas.Bool.{and_from}
 use Rattle.rec_bits.proofs.Booleans.{both}
 use Rattle.net_model.specs.declared.hardware.Space.TheVariants.{Memory as InMemory, File as InFile}
-use Rattle.net_model.specs.Terms.{Term, word, reg, const, read, un, bin, slice, cat, zext, sext, select}
+use Rattle.net_model.specs.Exprs.{ExprModel, word, reg, const, read, un, bin, slice, cat, zext, sext, select}
 use Rattle.net_model.specs.Fields.{fields}
 use Rattle.net_model.specs.Occurs.{occurs}
 use Rattle.form_model.specs.declared.trees.Tree.{Tree}
 use Rattle.form_model.specs.declared.trees.Tree.TheVariants.{Lit, Read', Un', Bin', Slice', Zext', Sext'}
-use Rattle.form_model.specs.Trees.{HasNoState, is_tree, tree_term}
+use Rattle.form_model.specs.Trees.{HasNoState, is_tree, model_of_tree}
 
-pub tree_is : (tree : Tree) → is_tree (tree_term tree) ≡ true
+pub tree_is : (tree : Tree) → is_tree (model_of_tree tree) ≡ true
 tree_is (Lit w v) = refl
 tree_is (Read' p a w) = tree_is a
 tree_is (Un' o p a) = tree_is a
-tree_is (Bin' o p a q b) = and_from (is_tree (tree_term a)) (is_tree (tree_term b)) (tree_is a) (tree_is b)
+tree_is (Bin' o p a q b) = and_from (is_tree (model_of_tree a)) (is_tree (model_of_tree b)) (tree_is a) (tree_is b)
 tree_is (Slice' p a hi lo) = tree_is a
 tree_is (Zext' p a w) = tree_is a
 tree_is (Sext' p a w) = tree_is a
@@ -27,7 +27,7 @@ neither false b p q = q
 no_bits : (a b : ℕ) → a ≡ 0 → b ≡ 0 → bit_or a b ≡ 0
 no_bits a b p q = rw (p, q) refl
 
-no_register : (r : ℕ) (t : Term) → is_tree t ≡ true → occurs r t ≡ false
+no_register : (r : ℕ) (t : ExprModel) → is_tree t ≡ true → occurs r t ≡ false
 no_register r (const w v) h = refl
 no_register r (read InMemory a w) h = no_register r a h
 no_register r (read InFile a w) h = absurd (true≢false (sym h))
@@ -42,7 +42,7 @@ no_register r (reg q w) h = absurd (true≢false (sym h))
 no_register r (cat a b) h = absurd (true≢false (sym h))
 no_register r (select c a b) h = absurd (true≢false (sym h))
 
-no_bit : (t : Term) → is_tree t ≡ true → fields t ≡ 0
+no_bit : (t : ExprModel) → is_tree t ≡ true → fields t ≡ 0
 no_bit (const w v) h = refl
 no_bit (read InMemory a w) h = no_bit a h
 no_bit (read InFile a w) h = absurd (true≢false (sym h))
@@ -67,5 +67,5 @@ no_bit (reg q w) h = absurd (true≢false (sym h))
 no_bit (cat a b) h = absurd (true≢false (sym h))
 no_bit (select c a b) h = absurd (true≢false (sym h))
 
-pub has_no_state : (t : Term) → is_tree t ≡ true → HasNoState t
+pub has_no_state : (t : ExprModel) → is_tree t ≡ true → HasNoState t
 has_no_state t h = record { no_register = λ r. no_register r t h; no_bit = no_bit t h }

@@ -3,27 +3,27 @@
 use Rattle.std.proofs.Common.{◌≡◌, ◌⊎◌, inl, inr, ℕ, zero, suc, ◌+◌, ◌<◌, arith, true, List, [], ◌∷◌, Some, None, slice_get, refl, ap, sym, subst}
 use Rattle.rec_bits.specs.declared.operator.Op2.TheVariants.{Sub, Eq as Equal}
 use Rattle.net_model.specs.declared.hardware.Space.TheVariants.{Memory as InMemory}
-use Rattle.net_model.specs.Terms.{Term, word, const, read, bin, slice}
-use Rattle.form_model.specs.Rules.{Rule, absolute, branches, tested}
-use Rattle.form_model.specs.Matches.{Found, taken}
-use Rattle.form_model.specs.Plans.{Plan, use_form, Operands, no_operands, operand_then, Cuts, no_cuts, cut_then, cost, operands_cost, cuts_cost}
-use Rattle.form_model.specs.Covers.{Stock, operands_of, cuts_of, Choice, Covers, ChoiceBefore, Operand, IsOrderly, AreOrderly, AreCut, IsChosen}
+use Rattle.net_model.specs.Exprs.{ExprModel, word, const, read, bin, slice}
+use Rattle.form_model.specs.Forms.{FormModel, absolute, branches, tested}
+use Rattle.form_model.specs.Matches.{MatchModel, taken}
+use Rattle.form_model.specs.CoverModels.{CoverModel, use_form, CoverOperandsModel, no_operands, operand_then, CoverCutsModel, no_cuts, cut_then, cost, operands_cost, cuts_cost}
+use Rattle.form_model.specs.Covers.{StockModel, operands_of, cuts_of, JobCoverModel, Covers, ChoiceBefore, Operand, IsOrderly, AreOrderly, AreCut, IsChosen}
 
-abbrev low_byte : Term
+abbrev low_byte : ExprModel
 low_byte = slice (word 12) 7 0
 
 -- a == 5 as a program's test gives it, with a in cell 3: it is compared, or its difference is
-abbrev equal : Term → Term
+abbrev equal : ExprModel → ExprModel
 equal a = bin Equal a (const 16 5)
 
-abbrev no_difference : Term → Term
+abbrev no_difference : ExprModel → ExprModel
 no_difference a = bin Equal (bin Sub a (const 16 5)) (const 16 0)
 
-abbrev trees : List Term
+abbrev trees : List ExprModel
 trees = equal (read InMemory (const 8 3) 16) ∷ no_difference (read InMemory (const 8 3) 16) ∷ []
 
 -- a branch on each of the two, whose operand is a cell; the difference's comes first
-abbrev branch_on : Term → Rule
+abbrev branch_on : ExprModel → FormModel
 branch_on condition = record {
   pattern = 1;
   goal = branches true (absolute low_byte);
@@ -34,13 +34,13 @@ branch_on condition = record {
   tied = None;
 }
 
-abbrev stock : Stock
+abbrev stock : StockModel
 stock = record { rules = branch_on (no_difference (read InMemory low_byte 16)) ∷ branch_on (equal (read InMemory low_byte 16)) ∷ []; temps = 1; file = 0 }
 
-abbrev of_first : Choice
+abbrev of_first : JobCoverModel
 of_first = record { which = 0; plan = use_form 1 no_operands no_cuts }
 
-abbrev of_second : Choice
+abbrev of_second : JobCoverModel
 of_second = record { which = 1; plan = use_form 0 no_operands no_cuts }
 
 first_covers : Covers stock tested trees of_first
@@ -63,16 +63,16 @@ same_cost : cost of_first.plan ≡ cost of_second.plan
 same_cost = refl
 
 -- without sites there are no operands' covers and no cuts'
-no_more_operands : (sites : List Operand) (ps : Operands) → sites ≡ [] → AreOrderly stock sites ps → ps ≡ no_operands
+no_more_operands : (sites : List Operand) (ps : CoverOperandsModel) → sites ≡ [] → AreOrderly stock sites ps → ps ≡ no_operands
 no_more_operands sites no_operands e h = refl
 no_more_operands sites (operand_then i p ps) e h = (let at : slice_get sites i ≡ Some h.0 = h.1 in let none : slice_get sites i ≡ None = rw e refl in cc)
 
-no_more_cuts : (left : List Term) (cs : Cuts) → left ≡ [] → AreCut stock left cs → cs ≡ no_cuts
+no_more_cuts : (left : List ExprModel) (cs : CoverCutsModel) → left ≡ [] → AreCut stock left cs → cs ≡ no_cuts
 no_more_cuts left no_cuts e h = refl
 no_more_cuts left (cut_then p cs) e h = (let more : left ≡ h.0 ∷ h.1 = h.2 in cc)
 
 -- nothing else covers the first tree
-only_first : (plan : Plan) → IsOrderly stock tested (equal (read InMemory (const 8 3) 16)) true plan → plan ≡ of_first.plan
+only_first : (plan : CoverModel) → IsOrderly stock tested (equal (read InMemory (const 8 3) 16)) true plan → plan ≡ of_first.plan
 only_first (use_form zero ps cs) h =
     let rule : branch_on (no_difference (read InMemory low_byte 16)) ≡ h.0 = (let at : Some (branch_on (no_difference (read InMemory low_byte 16))) ≡ Some h.0 = h.1 in cc) in
     let none : None ≡ Some h.2 = subst (λ r. taken 1 r tested (equal (read InMemory (const 8 3) 16)) true ≡ Some h.2) (sym rule) h.3 in
@@ -80,8 +80,8 @@ only_first (use_form zero ps cs) h =
 only_first (use_form (suc zero) ps cs) h =
     let rule : branch_on (equal (read InMemory low_byte 16)) ≡ h.0 = (let at : Some (branch_on (equal (read InMemory low_byte 16))) ≡ Some h.0 = h.1 in cc) in
     let found : record { setting = 3; sites = [] } ≡ h.2 = (let took : Some (record { setting = 3; sites = [] }) ≡ Some h.2 = subst (λ r. taken 1 r tested (equal (read InMemory (const 8 3) 16)) true ≡ Some h.2) (sym rule) h.3 in cc) in
-    let operands = no_more_operands _ ps (ap (λ (f : Found). operands_of f.sites) (sym found)) h.4 in
-    let cuts = no_more_cuts _ cs (ap (λ (f : Found). cuts_of f.sites) (sym found)) h.5 in
+    let operands = no_more_operands _ ps (ap (λ (f : MatchModel). operands_of f.sites) (sym found)) h.4 in
+    let cuts = no_more_cuts _ cs (ap (λ (f : MatchModel). cuts_of f.sites) (sym found)) h.5 in
     cc
 only_first (use_form (suc (suc k)) ps cs) h = (let none : None ≡ Some h.0 = h.1 in cc)
 
@@ -91,12 +91,12 @@ least zero (suc m) = inl (omega arith)
 least (suc n) m = inl (omega arith)
 
 -- so no other cover comes before it
-before : (which : ℕ) (plan : Plan) (tree : Term) → slice_get trees which ≡ Some tree → IsOrderly stock tested tree true plan
+before : (which : ℕ) (plan : CoverModel) (tree : ExprModel) → slice_get trees which ≡ Some tree → IsOrderly stock tested tree true plan
     → (1 < cost plan) ⊎ ((1 ≡ cost plan) × ((of_first ≡ record { which = which; plan = plan }) ⊎ ChoiceBefore of_first (record { which = which; plan = plan })))
 before zero plan tree used h =
     let is : equal (read InMemory (const 8 3) 16) ≡ tree = (let at : Some (equal (read InMemory (const 8 3) 16)) ≡ Some tree = used in cc) in
     let only = only_first plan (subst (λ t. IsOrderly stock tested t true plan) (sym is) h) in
-    inr (ap cost (sym only), inl (ap (λ (p : Plan). record { which = 0; plan = p }) (sym only)))
+    inr (ap cost (sym only), inl (ap (λ (p : CoverModel). record { which = 0; plan = p }) (sym only)))
 before (suc k) (use_form f ps cs) tree used h = by (least (operands_cost ps) (cuts_cost cs))
   where
     by : (1 < 1 + operands_cost ps + cuts_cost cs) ⊎ (1 ≡ 1 + operands_cost ps + cuts_cost cs)

@@ -1,9 +1,9 @@
 -- The bits of the instruction word that occur in an expression.
 use Rattle.std.specs.Prelude.{ℕ, Bool, true, false, ◌||◌, ◌&&◌, nat_le}
-use Rattle.net_model.specs.Terms.{Term, word, reg, const, read, un, bin, slice, cat, zext, sext, select}
+use Rattle.net_model.specs.Exprs.{ExprModel, word, reg, const, read, un, bin, slice, cat, zext, sext, select}
 
 -- the bit occurs in the expression
-abbrev pub uses : Term → ℕ → Bool
+abbrev pub uses : ExprModel → ℕ → Bool
 uses (word w) k = true
 uses (reg r w) k = false
 uses (const w v) k = false

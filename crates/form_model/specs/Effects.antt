@@ -5,7 +5,7 @@ use Rattle.std.specs.Prelude.{ℕ, Bool, true, false, ◌==◌, ◌||◌, ◌&&�
 use Rattle.net_model.specs.declared.hardware.Space.{Space}
 use Rattle.net_model.specs.declared.hardware.Space.TheVariants.{Memory as InMemory, File as InFile}
 use Rattle.net_model.specs.declared.states.State.{State}
-use Rattle.net_model.specs.Terms.{Term, word, reg, const, read, un, bin, slice, cat, zext, sext, select, Move, keep, write, write_at}
+use Rattle.net_model.specs.Exprs.{ExprModel, word, reg, const, read, un, bin, slice, cat, zext, sext, select, TransferModel, keep, write, write_at}
 use Rattle.net_model.specs.Symbolic.{no_state}
 use Rattle.net_model.specs.Meaning.{mean}
 use Rattle.net_model.specs.MemoryText.{with_cell}
@@ -20,7 +20,7 @@ use Rattle.form_model.specs.Shapes.{is_shape}
 pub record Operation : Type 0 where
   pub storage : ℕ
   pub space : Space
-  pub move : Move
+  pub move : TransferModel
   pub setting : ℕ
 
 -- those of the storage of this number, where the file, if there is one, has that one
@@ -39,15 +39,15 @@ abbrev pub operation_of : Option ℕ → List Pattern → Step → Operation
 operation_of file patterns step = operation_or_none file (slice_get patterns step.pattern) step.setting
 
 -- the new state with the transfer done from the old state
-abbrev pub apply_move : ℕ → Space → Move → ℕ → State → State → State
-apply_move storage space keep setting old new = new
-apply_move storage space (write e) setting old new =
+abbrev pub apply_transfer : ℕ → Space → TransferModel → ℕ → State → State → State
+apply_transfer storage space keep setting old new = new
+apply_transfer storage space (write e) setting old new =
     record new { regs = slice_set new.regs storage (mean e old setting) }
-apply_move storage space (write_at a e) setting old new =
+apply_transfer storage space (write_at a e) setting old new =
     with_cell new space (mean a old setting) (mean e old setting)
 
 abbrev pub apply_operation : Operation → State → State → State
-apply_operation d old new = apply_move d.storage d.space d.move d.setting old new
+apply_operation d old new = apply_transfer d.storage d.space d.move d.setting old new
 
 -- m says what each step does
 abbrev pub apply_all : {A : Type 0} → (A → Operation) → List A → State → State → State
@@ -72,24 +72,24 @@ steps_effect m (x ∷ xs) s = steps_effect m xs (apply_operation (m x) s s)
 
 -- a location that is written: a register, a cell of the memory or of the file whose address the
 -- step settles, or some cell of it
-pub data Location : Type 0 where
-  register : (id : ℕ) → Location
-  cell_at : (space : Space) → (address : ℕ) → Location
-  some_cell : (space : Space) → Location
+pub data LocationModel : Type 0 where
+  register : (id : ℕ) → LocationModel
+  cell_at : (space : Space) → (address : ℕ) → LocationModel
+  some_cell : (space : Space) → LocationModel
 
 -- an address that is a field shape is settled by the setting, a constant's too; any other may be
 -- every address
-abbrev pub location_at : Space → ℕ → Term → Location
+abbrev pub location_at : Space → ℕ → ExprModel → LocationModel
 location_at space setting a = if is_shape a then cell_at space (mean a no_state setting) else some_cell space
 
-abbrev pub move_location : ℕ → Space → ℕ → Move → Location
-move_location storage space setting keep = register storage
-move_location storage space setting (write e) = register storage
-move_location storage space setting (write_at a e) = location_at space setting a
+abbrev pub transfer_location : ℕ → Space → ℕ → TransferModel → LocationModel
+transfer_location storage space setting keep = register storage
+transfer_location storage space setting (write e) = register storage
+transfer_location storage space setting (write_at a e) = location_at space setting a
 
 -- the location that a step writes
-abbrev pub location_of : Operation → Location
-location_of d = move_location d.storage d.space d.setting d.move
+abbrev pub location_of : Operation → LocationModel
+location_of d = transfer_location d.storage d.space d.setting d.move
 
 abbrev pub same_space : Space → Space → Bool
 same_space InMemory InMemory = true
@@ -97,7 +97,7 @@ same_space InFile InFile = true
 same_space _ _ = false
 
 -- a read at the first location may see a write at the second
-abbrev pub may_see : Location → Location → Bool
+abbrev pub may_see : LocationModel → LocationModel → Bool
 may_see x (register r) = false
 may_see (register r) y = false
 may_see (cell_at space v) (cell_at other w) = same_space space other && (v == w)
@@ -105,42 +105,42 @@ may_see (cell_at space v) (some_cell other) = same_space space other
 may_see (some_cell space) (cell_at other w) = same_space space other
 may_see (some_cell space) (some_cell other) = same_space space other
 
-abbrev pub names_register : Location → ℕ → Bool
+abbrev pub names_register : LocationModel → ℕ → Bool
 names_register (register q) r = q == r
 names_register _ r = false
 
-abbrev pub term_reads : ℕ → Term → Location → Bool
-term_reads setting (word w) p = false
-term_reads setting (reg r w) p = names_register p r
-term_reads setting (const w v) p = false
-term_reads setting (read space a w) p = may_see (location_at space setting a) p || term_reads setting a p
-term_reads setting (un o a) p = term_reads setting a p
-term_reads setting (bin o a b) p = term_reads setting a p || term_reads setting b p
-term_reads setting (slice a hi lo) p = term_reads setting a p
-term_reads setting (cat a b) p = term_reads setting a p || term_reads setting b p
-term_reads setting (zext a w) p = term_reads setting a p
-term_reads setting (sext a w) p = term_reads setting a p
-term_reads setting (select c a b) p = term_reads setting c p || (term_reads setting a p || term_reads setting b p)
+abbrev pub expr_reads : ℕ → ExprModel → LocationModel → Bool
+expr_reads setting (word w) p = false
+expr_reads setting (reg r w) p = names_register p r
+expr_reads setting (const w v) p = false
+expr_reads setting (read space a w) p = may_see (location_at space setting a) p || expr_reads setting a p
+expr_reads setting (un o a) p = expr_reads setting a p
+expr_reads setting (bin o a b) p = expr_reads setting a p || expr_reads setting b p
+expr_reads setting (slice a hi lo) p = expr_reads setting a p
+expr_reads setting (cat a b) p = expr_reads setting a p || expr_reads setting b p
+expr_reads setting (zext a w) p = expr_reads setting a p
+expr_reads setting (sext a w) p = expr_reads setting a p
+expr_reads setting (select c a b) p = expr_reads setting c p || (expr_reads setting a p || expr_reads setting b p)
 
-abbrev pub move_reads : ℕ → Move → Location → Bool
-move_reads setting keep p = false
-move_reads setting (write e) p = term_reads setting e p
-move_reads setting (write_at a e) p = term_reads setting a p || term_reads setting e p
+abbrev pub transfer_reads : ℕ → TransferModel → LocationModel → Bool
+transfer_reads setting keep p = false
+transfer_reads setting (write e) p = expr_reads setting e p
+transfer_reads setting (write_at a e) p = expr_reads setting a p || expr_reads setting e p
 
 -- a step reads a location
-abbrev pub reads : Operation → Location → Bool
-reads d p = move_reads d.setting d.move p
+abbrev pub reads : Operation → LocationModel → Bool
+reads d p = transfer_reads d.setting d.move p
 
 -- a register that a step writes
-abbrev pub move_writes : ℕ → Move → ℕ → Bool
-move_writes storage keep r = false
-move_writes storage (write e) r = storage == r
-move_writes storage (write_at a e) r = false
+abbrev pub transfer_writes : ℕ → TransferModel → ℕ → Bool
+transfer_writes storage keep r = false
+transfer_writes storage (write e) r = storage == r
+transfer_writes storage (write_at a e) r = false
 
 abbrev pub writes : Operation → ℕ → Bool
-writes d r = move_writes d.storage d.move r
+writes d r = transfer_writes d.storage d.move r
 
-abbrev pub is_store : Move → Bool
+abbrev pub is_store : TransferModel → Bool
 is_store (write_at a e) = true
 is_store _ = false
 

@@ -1,11 +1,11 @@
 pub mod Trees
 pub mod Shapes
 pub mod Bits
-pub mod Rules
+pub mod Forms
 pub mod WideNodes
 pub mod Registers
 pub mod Matches
-pub mod Plans
+pub mod CoverModels
 pub mod Covers
 pub mod Effects
 pub mod Live

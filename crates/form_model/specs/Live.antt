@@ -1,4 +1,5 @@
--- Which registers are live between groups of steps.
+-- Which registers are live between groups of steps. A destination is a register, the memory, or a
+-- cell of the file; reads and writes at two settled addresses that differ don't meet.
 use Rattle.std.specs.Prelude.{ℕ, Bool, true, false, ◌==◌, ◌||◌, ◌&&◌, ◌+◌, ◌≡◌, not, List, [], ◌∷◌, drop}
 use Rattle.std.specs.Int.{bit_at}
 use Rattle.form_model.specs.Effects.{Operation, register, reads, writes}

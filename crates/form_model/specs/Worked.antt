@@ -3,15 +3,15 @@
 use Rattle.std.specs.Prelude.{ℕ, ◌≡◌, refl, true, false, [], ◌∷◌, List, Option, Some, None}
 use Rattle.rec_bits.specs.declared.operator.Op2.TheVariants.{Add, Sub, Mul}
 use Rattle.net_model.specs.declared.hardware.Space.TheVariants.{Memory as InMemory, File as InFile}
-use Rattle.net_model.specs.Terms.{Term, word, reg, const, read, bin, slice, cat, zext, sext}
+use Rattle.net_model.specs.Exprs.{ExprModel, word, reg, const, read, bin, slice, cat, zext, sext}
 use Rattle.form_model.specs.Trees.{is_tree}
 use Rattle.form_model.specs.Shapes.{is_shape, is_shape_in, reach_of, shape_setting, shows, shows_below}
-use Rattle.form_model.specs.Rules.{Rule, into_reg, into_memory, into, cell, stored, temporary, tested}
-use Rattle.form_model.specs.Matches.{Site, operand, cut, Found, in_register, in_file, matched, taken}
+use Rattle.form_model.specs.Forms.{FormModel, into_reg, into_memory, into, cell, stored, temporary, tested}
+use Rattle.form_model.specs.Matches.{LeafModel, operand, cut, MatchModel, in_register, in_file, matched, taken}
 
 -- ---- field shapes
 
-abbrev low_byte : Term
+abbrev low_byte : ExprModel
 low_byte = slice (word 12) 7 0
 
 -- a field that is extended with zeros shows 255 and not 256
@@ -74,7 +74,7 @@ all_below = refl
 
 -- a sum of a constant and one of these is a field shape from edition 2 on, either way round; there
 -- is no sum in a sum, nor a difference
-abbrev one_more : Term
+abbrev one_more : ExprModel
 one_more = bin Add (zext (slice (word 12) 3 0) 8) (const 8 1)
 
 sum_of_first : is_shape_in 1 one_more ≡ false
@@ -121,20 +121,20 @@ reach_back = refl
 -- ---- matches of expressions
 
 -- ACC := add(ACC, read(M, slice(I,7,0))), and with its operands swapped
-abbrev variable : Term
+abbrev variable : ExprModel
 variable = read InMemory low_byte 16
 
-abbrev extracted : Term
+abbrev extracted : ExprModel
 extracted = bin Add (reg 1 16) variable
 
-abbrev swapped : Term
+abbrev swapped : ExprModel
 swapped = bin Add variable (reg 1 16)
 
 -- the cell at address 1 plus 5
-abbrev sum : Term
+abbrev sum : ExprModel
 sum = bin Add (read InMemory (const 8 1) 16) (const 16 5)
 
-abbrev found : ℕ → List Site → Option Found
+abbrev found : ℕ → List LeafModel → Option MatchModel
 found setting sites = Some (record { setting = setting; sites = sites })
 
 -- the swapped form takes it with the number in the register
@@ -181,11 +181,11 @@ other_width = refl
 -- ---- matches of forms
 
 -- M[slice(I,7,0)] := ACC, whose pattern's number is 7
-abbrev store : Rule
+abbrev store : FormModel
 store = record { pattern = 7; goal = into_memory; addr = Some low_byte; value = reg 1 16; fields = 255; clobbers = 5; tied = None }
 
 -- ACC := add(ACC, read(M, slice(I,7,0)))
-abbrev sum_into : Rule
+abbrev sum_into : FormModel
 sum_into = record { pattern = 3; goal = into_reg 1; addr = None; value = extracted; fields = 255; clobbers = 3; tied = None }
 
 -- the address of a cell is settled, that of a temporary cell isn't yet
@@ -204,7 +204,7 @@ to_number = refl
 
 -- M[AR] := ACC, whose address is in register 2: it stores at any address, which goes into that
 -- register, be it computed or a number
-abbrev store_through : Rule
+abbrev store_through : FormModel
 store_through = record {
   pattern = 8;
   goal = into_memory;

@@ -3,79 +3,79 @@
 use Rattle.std.specs.Prelude.{ℕ, ◌≡◌, refl, [], ◌∷◌, Some, None}
 use Rattle.rec_bits.specs.declared.operator.Op2.TheVariants.{Add, Sub}
 use Rattle.net_model.specs.declared.hardware.Space.TheVariants.{Memory as InMemory, File as InFile}
-use Rattle.net_model.specs.Terms.{Term, word, const, read, bin, slice}
+use Rattle.net_model.specs.Exprs.{ExprModel, word, const, read, bin, slice}
 use Rattle.form_model.specs.declared.forms.Step.{Step}
-use Rattle.form_model.specs.Rules.{Rule, into_memory, into_file, cell}
-use Rattle.form_model.specs.Plans.{Plan, use_form, no_operands, operand_then, no_cuts, cut_then, cost}
-use Rattle.form_model.specs.Covers.{Stock, need}
+use Rattle.form_model.specs.Forms.{FormModel, into_memory, into_file, cell}
+use Rattle.form_model.specs.CoverModels.{CoverModel, use_form, no_operands, operand_then, no_cuts, cut_then, cost}
+use Rattle.form_model.specs.Covers.{StockModel, need}
 use Rattle.form_model.specs.Steps.{cell_of, free_cell, cover_steps}
 
-abbrev f : Term
+abbrev f : ExprModel
 f = slice (word 17) 7 0
 
-abbrev d : Term
+abbrev d : ExprModel
 d = slice (word 17) 9 8
 
-abbrev a : Term
+abbrev a : ExprModel
 a = read InFile (slice (word 17) 11 10) 16
 
-abbrev b : Term
+abbrev b : ExprModel
 b = read InFile (slice (word 17) 13 12) 16
 
 -- R[I[9:8]] := read(M, I[7:0])
-abbrev load : Rule
+abbrev load : FormModel
 load = record { pattern = 2; goal = into_file; addr = Some d; value = read InMemory f 16; fields = 1023; clobbers = 0; tied = None }
 
 -- R[I[9:8]] := sub(R[I[11:10]], R[I[13:12]])
-abbrev difference : Rule
+abbrev difference : FormModel
 difference =
     record { pattern = 4; goal = into_file; addr = Some d; value = bin Sub a b; fields = 16128; clobbers = 0; tied = None }
 
 -- R[I[9:8]] := add(R[I[11:10]], R[I[13:12]])
-abbrev sum : Rule
+abbrev sum : FormModel
 sum =
     record { pattern = 3; goal = into_file; addr = Some d; value = bin Add a b; fields = 16128; clobbers = 0; tied = None }
 
 -- M[I[7:0]] := R[I[11:10]]
-abbrev store : Rule
+abbrev store : FormModel
 store = record { pattern = 5; goal = into_memory; addr = Some f; value = a; fields = 3327; clobbers = 4; tied = None }
 
 -- the same difference where its first operand's cell is written
-abbrev tied_load : Rule
+abbrev tied_load : FormModel
 tied_load = record load { addr = Some (slice (word 17) 11 10) }
 
-abbrev tied_difference : Rule
+abbrev tied_difference : FormModel
 tied_difference = record difference { addr = Some (slice (word 17) 11 10); tied = Some 0 }
 
-abbrev stock : ℕ → Stock
+abbrev stock : ℕ → StockModel
 stock size = record { rules = load ∷ difference ∷ sum ∷ store ∷ []; temps = 1; file = size }
 
-abbrev tied_stock : Stock
+abbrev tied_stock : StockModel
 tied_stock = record { rules = tied_load ∷ tied_difference ∷ sum ∷ store ∷ []; temps = 1; file = 2 }
 
-abbrev at : ℕ → Term
+abbrev at : ℕ → ExprModel
 at n = read InMemory (const 8 n) 16
 
 abbrev step : ℕ → ℕ → Step
 step pattern setting = record { pattern = pattern; setting = setting }
 
-abbrev loaded : Plan
+abbrev loaded : CoverModel
 loaded = use_form 0 no_operands no_cuts
 
 -- ---- a - (b - c)
 
-abbrev differences : Term
+abbrev differences : ExprModel
 differences = bin Sub (at 1) (bin Sub (at 2) (at 3))
 
-abbrev inner : Plan
+abbrev inner : CoverModel
 inner = use_form 1 (operand_then 0 loaded (operand_then 0 loaded no_operands)) no_cuts
 
 -- the inner difference first
-abbrev inner_first : Plan
+abbrev inner_first : CoverModel
 inner_first = use_form 3 (operand_then 0 (use_form 1 (operand_then 1 inner (operand_then 0 loaded no_operands)) no_cuts) no_operands) no_cuts
 
 -- from left to right
-abbrev left_first : Plan
+abbrev left_first : CoverModel
 left_first = use_form 3 (operand_then 0 (use_form 1 (operand_then 0 loaded (operand_then 0 inner no_operands)) no_cuts) no_operands) no_cuts
 
 two_suffice : need (stock 2).rules inner_first ≡ 2
@@ -111,14 +111,14 @@ in_second = refl
 
 -- ---- (b + c) - (b - c)
 
-abbrev sums : Term
+abbrev sums : ExprModel
 sums = bin Sub (bin Add (at 2) (at 3)) (bin Sub (at 2) (at 3))
 
-abbrev two_loads : ℕ → Plan
+abbrev two_loads : ℕ → CoverModel
 two_loads form = use_form form (operand_then 0 loaded (operand_then 0 loaded no_operands)) no_cuts
 
 -- in four cells: the sum, then the difference while it waits
-abbrev waiting : Plan
+abbrev waiting : CoverModel
 waiting =
     use_form 3
     (operand_then 0 (use_form 1 (operand_then 0 (two_loads 2) (operand_then 0 (two_loads 1) no_operands)) no_cuts)
@@ -135,7 +135,7 @@ waiting_steps : cover_steps (stock 4) (cell 4) sums waiting
 waiting_steps = refl
 
 -- in two cells: the difference as a cut, which a load brings back
-abbrev stored_first : Plan
+abbrev stored_first : CoverModel
 stored_first =
     use_form 3
     (operand_then 0

@@ -1,7 +1,7 @@
 //! The forms of a netlist: the transfers that code is made of.
 
 ghost use Rattle.form_model.specs.Registers.{AreLow};
-ghost use Rattle.form_model.specs.Rules.{rules_of};
+ghost use Rattle.form_model.specs.Forms.{models_of_forms};
 
 use net_model::Expr;
 
@@ -63,7 +63,7 @@ pub struct Forms {
     /// The number of cells of the register file, and 0 where there is none.
     pub file: u32,
     /// A set of registers has a bit for each register that a form goes to or names.
-    pub ghost low: { AreLow (rules_of list.items) },
+    pub ghost low: { AreLow (models_of_forms list.items) },
 }
 
 /// A pattern with the values of its field bits.

@@ -18,8 +18,8 @@
 //! - `covers`: covers of trees by forms.
 //! - `laws`: the two laws above.
 //! - `specs/`, all cited by public contracts in the crates above: `Trees`, `Shapes` (field shapes),
-//!   `Rules` (forms as plain values), `Registers` (those that forms go to and name), `Matches` (what
-//!   a form takes of a tree), `Plans` and `Covers` (covers, orderly ones, and the chosen one),
+//!   `Forms` (forms as plain values), `Registers` (those that forms go to and name), `Matches` (what
+//!   a form takes of a tree), `CoverModels` and `Covers` (covers, orderly ones, and the chosen one),
 //!   `Steps` (the steps of a cover, and the cells of the file that they name), `Effects` and `Live`
 //!   (what steps do and read, and live registers). `Worked` has shapes and matches, computed, and
 //!   `WorkedFile` the steps of covers whose operands are in a file.

@@ -9,7 +9,7 @@ use Rattle.net_model.specs.Nets.{file_place, memory_id, place_in}
 use Rattle.net_model.specs.Patterns.{IsWordOf, Pattern}
 use Rattle.sym_expr.specs.declared.pool.Node.{Node}
 use Rattle.net_model.specs.Transfers.{Keeps, StepsOn}
-use Rattle.transfer_set.specs.Tables.{Table}
+use Rattle.transfer_set.specs.Tables.{PatternTable}
 use Rattle.form_set.specs.declared.pattern_ids.PatternIds.{PatternIds}
 use Rattle.form_set.specs.Inner.PatternIds.{InSet, ArePatternIds, ids_pattern}
 use Rattle.transfer_set.specs.Ready.{IsReady}
@@ -41,7 +41,7 @@ same_set book P Q set h same = record {
   words = λ word lt. ((λ e. (same word).0 ((h.words word lt).0 e)), λ q. (h.words word lt).1 ((same word).1 q));
 }
 
-module _ (netlist : Netlist) (old new : Diagrams) (pool : List Node) (table : Table) (ready : IsReady netlist old pool table) where
+module _ (netlist : Netlist) (old new : Diagrams) (pool : List Node) (table : PatternTable) (ready : IsReady netlist old pool table) where
   -- the words that keep the memory
   memory_set : memory_id netlist.storages < length netlist.storages → (id : ℕ) → id ≡ table.memory → (set : ℕ) → set ≡ slice_index table.keeps id → IsSetOf old (Keeps netlist (memory_id netlist.storages)) set
   memory_set within id ei set es =
@@ -128,7 +128,7 @@ told book P set f g b h e s small =
     let k = each_is book P set f s small in
     subst (λ n. (b ≡ true) ↔ ForEachSetting n P) e ((λ t. k.0 (h.0 t)), λ t. h.1 (k.1 t))
 
-module _ (netlist : Netlist) (book : Diagrams) (pool : List Node) (table : Table) (ready : IsReady netlist book pool table) (ids : PatternIds) (p : ArePatternIds netlist book pool ids) where
+module _ (netlist : Netlist) (book : Diagrams) (pool : List Node) (table : PatternTable) (ready : IsReady netlist book pool table) (ids : PatternIds) (p : ArePatternIds netlist book pool ids) where
   pub keep_told : (registers set : ℕ) → IsSetOf book (KeepsOthers netlist (ids_pattern pool ids) registers) set → (b : Bool) → (b ≡ true) ↔ ForEachSetting ids.fields (InSet book set)
       → (b ≡ true) ↔ CanKeep netlist (ids_pattern pool ids) registers
   keep_told registers set s b h = told book (KeepsOthers netlist (ids_pattern pool ids) registers) set ids.fields _ b h p.fields s

@@ -7,13 +7,13 @@ use Rattle.std.proofs.lemmas.Nat.{and_le_l}
 use Rattle.std.proofs.lemmas.Nat.Bits.{bit_at_or, bit_at_xor, bit_at-lt, bit_at-pow_same}
 use Rattle.net_model.specs.declared.hardware.Netlist.{Netlist}
 use Rattle.net_model.specs.declared.hardware.Storage.{Storage}
-use Rattle.net_model.specs.Fields.{move_fields}
+use Rattle.net_model.specs.Fields.{transfer_fields}
 use Rattle.net_model.specs.declared.hardware.Space.TheVariants.{File as InFile}
 use Rattle.net_model.specs.Nets.{IsRegister, counter_of, place_in}
 use Rattle.net_model.specs.Patterns.{Pattern}
-use Rattle.net_model.specs.Terms.{Move, Term, keep, write}
-use Rattle.form_model.specs.Rules.{Rule}
-use Rattle.form_set.specs.Listing.{AreRules, AreRulesOf, plain, jump, branch, other, IsPlain, branch_rule, plain_rule, sides_of, test_sides}
+use Rattle.net_model.specs.Exprs.{TransferModel, ExprModel, keep, write}
+use Rattle.form_model.specs.Forms.{FormModel}
+use Rattle.form_set.specs.Listing.{AreFormModels, AreFormModelsOf, plain, jump, branch, other, IsPlain, branch_form_model, plain_form_model, sides_of, test_sides}
 use Rattle.form_set.specs.Promises.{HasWords, IsForm, IsFormOf, of_branch, of_jump, of_plain}
 use Rattle.form_set.specs.Swaps.{map_below, swap_count}
 use Rattle.form_set.specs.Words.{AreClobbers, AreKept, CanKeep, Joins, joins, fails, none, all_registers, is_register_storage, own_storage, registers_below, with}
@@ -93,14 +93,14 @@ pub counter_clobber : (netlist : Netlist) (p : Pattern) (clobbers : ℕ) → IsR
     → bit_at clobbers (counter_of netlist.codes) ≡ 1
 counter_clobber netlist p clobbers reg h c = by (bit_cases clobbers (counter_of netlist.codes))
   where
-    stays : (m : Move) (a b : Term) → m ≡ keep → (m ≡ write a) ⊎ (m ≡ write b) → ⊥
+    stays : (m : TransferModel) (a b : ExprModel) → m ≡ keep → (m ≡ write a) ⊎ (m ≡ write b) → ⊥
     stays m a b k (inl e) = cc
     stays m a b k (inr e) = cc
 
     by : (bit_at clobbers (counter_of netlist.codes) ≡ 0) ⊎ (bit_at clobbers (counter_of netlist.codes) ≡ 1) → bit_at clobbers (counter_of netlist.codes) ≡ 1
     by (inr e) = e
     by (inl z) =
-        (let w = plain_words netlist p clobbers h c 0 (let le = and_le_l 0 (move_fields p.move) in omega (arith, le)) in
+        (let w = plain_words netlist p clobbers h c 0 (let le = and_le_l 0 (transfer_fields p.move) in omega (arith, le)) in
         absurd (stays _ _ _ (w.2.registers (counter_of netlist.codes) reg z) w.2.steps.step))
 
 -- ---- the forms of a list
@@ -122,23 +122,23 @@ each_at f (suc n) k x e = by (append_at (map_below f n) (f n ∷ []) k x e) (λ 
     by (inl q) before = before q
     by (inr q) before = (n, last q.0 q.1)
 
-of_rules : (netlist : Netlist) (reach number : ℕ) (p : Pattern) (rules : List Rule) → AreRulesOf netlist reach number p rules → (k : ℕ) (rule : Rule) → slice_get rules k ≡ Some rule → IsFormOf netlist reach number p rule
-of_rules netlist reach number p rules (plain clobbers h c e) k rule at =
-    (let r = each_at (plain_rule netlist number p clobbers) (2 ^ swap_count (sides_of p.move)) k rule (subst (λ rs. slice_get rs k ≡ Some rule) e at) in of_plain r.0 clobbers h c r.1)
-of_rules netlist reach number p rules (jump h e) zero rule at = (let q = subst (λ rs. slice_get rs zero ≡ Some rule) e at in of_jump h (cc))
-of_rules netlist reach number p rules (jump h e) (suc k) rule at = (let q = subst (λ rs. slice_get rs (suc k) ≡ Some rule) e at in absurd (cc))
-of_rules netlist reach number p rules (branch parts h e) k rule at =
-    (let r = each_at (branch_rule netlist number p parts) (2 ^ swap_count (test_sides parts)) k rule (subst (λ rs. slice_get rs k ≡ Some rule) e at) in of_branch r.0 parts h r.1)
-of_rules netlist reach number p rules (other a b c e) k rule at = (let q = subst (λ rs. slice_get rs k ≡ Some rule) e at in absurd (cc))
+of_forms : (netlist : Netlist) (reach number : ℕ) (p : Pattern) (rules : List FormModel) → AreFormModelsOf netlist reach number p rules → (k : ℕ) (rule : FormModel) → slice_get rules k ≡ Some rule → IsFormOf netlist reach number p rule
+of_forms netlist reach number p rules (plain clobbers h c e) k rule at =
+    (let r = each_at (plain_form_model netlist number p clobbers) (2 ^ swap_count (sides_of p.move)) k rule (subst (λ rs. slice_get rs k ≡ Some rule) e at) in of_plain r.0 clobbers h c r.1)
+of_forms netlist reach number p rules (jump h e) zero rule at = (let q = subst (λ rs. slice_get rs zero ≡ Some rule) e at in of_jump h (cc))
+of_forms netlist reach number p rules (jump h e) (suc k) rule at = (let q = subst (λ rs. slice_get rs (suc k) ≡ Some rule) e at in absurd (cc))
+of_forms netlist reach number p rules (branch parts h e) k rule at =
+    (let r = each_at (branch_form_model netlist number p parts) (2 ^ swap_count (test_sides parts)) k rule (subst (λ rs. slice_get rs k ≡ Some rule) e at) in of_branch r.0 parts h r.1)
+of_forms netlist reach number p rules (other a b c e) k rule at = (let q = subst (λ rs. slice_get rs k ≡ Some rule) e at in absurd (cc))
 
 -- each form of a list is one of its pattern
-pub form_at : (netlist : Netlist) (reach number : ℕ) (ps : List Pattern) (rules : List Rule) → AreRules netlist reach number ps rules → (k : ℕ) (rule : Rule) → slice_get rules k ≡ Some rule
+pub form_at : (netlist : Netlist) (reach number : ℕ) (ps : List Pattern) (rules : List FormModel) → AreFormModels netlist reach number ps rules → (k : ℕ) (rule : FormModel) → slice_get rules k ≡ Some rule
     → IsForm netlist reach number ps rule
 form_at netlist reach number [] rules h k rule at = (let q = subst (λ rs. slice_get rs k ≡ Some rule) h at in absurd (cc))
 form_at netlist reach number (p ∷ ps) rules h k rule at =
     by (append_at h.0 h.1 k rule (subst (λ rs. slice_get rs k ≡ Some rule) h.4 at)) (λ j q. form_at netlist reach (number + 1) ps h.1 h.3 j rule q)
   where
     by : (slice_get h.0 k ≡ Some rule) ⊎ ((j : ℕ) × (slice_get h.1 j ≡ Some rule)) → ((j : ℕ) → slice_get h.1 j ≡ Some rule → IsForm netlist reach (number + 1) ps rule) → IsForm netlist reach number (p ∷ ps) rule
-    by (inl q) later = record { place = 0; pattern = p; at = refl; of = subst (λ n. IsFormOf netlist reach n p rule) (let e : number ≡ number + 0 = omega arith in e) (of_rules netlist reach number p h.0 h.2 k rule q) }
+    by (inl q) later = record { place = 0; pattern = p; at = refl; of = subst (λ n. IsFormOf netlist reach n p rule) (let e : number ≡ number + 0 = omega arith in e) (of_forms netlist reach number p h.0 h.2 k rule q) }
     by (inr q) later = (let f = later q.0 q.1 in
         record { place = suc f.place; pattern = f.pattern; at = f.at; of = subst (λ n. IsFormOf netlist reach n f.pattern rule) (let e : number + 1 + f.place ≡ number + suc f.place = omega arith in e) f.of })

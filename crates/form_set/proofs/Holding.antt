@@ -13,8 +13,8 @@ use Rattle.net_model.specs.CheckedRules.{memory_count}
 use Rattle.net_model.specs.declared.hardware.Space.TheVariants.{File as InFile}
 use Rattle.net_model.specs.Nets.{memory_id, place_in}
 use Rattle.net_model.specs.Patterns.{IsWordOf, Pattern}
-use Rattle.net_model.specs.Terms.{keep}
-use Rattle.net_model.specs.Transfers.{Keeps, StepsOn, move_at, transfer_of}
+use Rattle.net_model.specs.Exprs.{keep}
+use Rattle.net_model.specs.Transfers.{Keeps, StepsOn, transfer_at, transfer_of}
 use Rattle.form_set.specs.Inner.Holds.{KeepsMemory, StepsTo}
 use Rattle.transfer_set.specs.Sets.{IsKeepSet, IsStepSet}
 use Rattle.sym_expr.specs.declared.pool.Node.{Node}
@@ -142,9 +142,9 @@ one_more netlist p kept r word = (
   ),
 )
   where
-    by : KeepsOthers netlist p kept word → Keeps netlist r word → (q : ℕ) → (bit_at kept q ≡ 1) ⊎ (q ≡ r) → move_at netlist word q ≡ keep
+    by : KeepsOthers netlist p kept word → Keeps netlist r word → (q : ℕ) → (bit_at kept q ≡ 1) ⊎ (q ≡ r) → transfer_at netlist word q ≡ keep
     by h k q (inl b) = h.registers q b
-    by h k q (inr e) = ap (move_at netlist word) e ∙ k.keeps
+    by h k q (inr e) = ap (transfer_at netlist word) e ∙ k.keeps
 
 -- ---- as a book grows
 

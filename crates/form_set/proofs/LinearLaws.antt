@@ -5,11 +5,11 @@ use Rattle.std.specs.Prelude.{bit_and, bit_or, ◌⊎◌}
 use Rattle.std.specs.Int.{bit_at}
 use Rattle.std.proofs.lemmas.Bool.{eqb-true, eq-eqb}
 use Rattle.std.proofs.lemmas.Nat.Bits.{bit_at_and, bit_at_or, bit_at-lt, bit_at-zero, same_from_bits}
-use Rattle.net_model.specs.Terms.{Term, word, reg, const, read, un, bin, slice, cat, zext, sext, select, Move, keep, write, write_at}
+use Rattle.net_model.specs.Exprs.{ExprModel, word, reg, const, read, un, bin, slice, cat, zext, sext, select, TransferModel, keep, write, write_at}
 use Rattle.net_model.specs.Fields.{fields}
 use Rattle.net_model.specs.Occurs.{IsLinear, bit_uses, register_uses, registers}
 use Rattle.net_model.proofs.Counts.{fields_has, registers_has}
-use Rattle.form_set.specs.Inner.Linear.{are_apart, is_linear, meet_in, move_linear}
+use Rattle.form_set.specs.Inner.Linear.{are_apart, is_linear, meet_in, transfer_linear}
 use Rattle.form_set.proofs.Bits.{bit_cases}
 
 -- ---- sets that meet in a third
@@ -39,11 +39,11 @@ join_and true b p q = q
 join_and false b p q = p
 
 -- two expressions have nothing in common: what occurs in one doesn't in the other
-pub record AreApart (free : ℕ) (a b : Term) : Type 0 where
+pub record AreApart (free : ℕ) (a b : ExprModel) : Type 0 where
   pub registers : (r : ℕ) → bit_at free r ≡ 0 → min (register_uses r a) (register_uses r b) ≡ 0
   pub bits : (k : ℕ) → min (bit_uses k a) (bit_uses k b) ≡ 0
 
-apart_is : (free : ℕ) (a b : Term) → (are_apart free a b ≡ true) ↔ AreApart free a b
+apart_is : (free : ℕ) (a b : ExprModel) → (are_apart free a b ≡ true) ↔ AreApart free a b
 apart_is free a b = (
   (λ e. let s = split_and (meet_in free (registers a) (registers b)) (meet_in 0 (fields a) (fields b)) e in record {
     registers = λ r z. (let m = meet_bits free (registers a) (registers b) s.0 r z in let x = registers_has r a in let y = registers_has r b in omega (arith, m, x, y));
@@ -54,7 +54,7 @@ apart_is free a b = (
       (bits_meet 0 (fields a) (fields b) (λ k z. let m = h.bits k in let x = fields_has k a in let y = fields_has k b in omega (arith, m, x, y))),
 )
 
-once_two : (free : ℕ) (a b : Term) → AreApart free a b → IsLinear free (write a) → IsLinear free (write b)
+once_two : (free : ℕ) (a b : ExprModel) → AreApart free a b → IsLinear free (write a) → IsLinear free (write b)
     → ((r : ℕ) → bit_at free r ≡ 0 → register_uses r a + register_uses r b ≤ 1) × ((k : ℕ) → bit_uses k a + bit_uses k b ≤ 1)
 once_two free a b h x y = (
   (λ r z. let m = h.registers r z in let p = x.registers r z in let q = y.registers r z in omega (arith, m, p, q)),
@@ -63,7 +63,7 @@ once_two free a b h x y = (
 
 -- ---- linear is: at most once
 
-pub linear_once : (free : ℕ) (t : Term) → is_linear free t ≡ true → IsLinear free (write t)
+pub linear_once : (free : ℕ) (t : ExprModel) → is_linear free t ≡ true → IsLinear free (write t)
 linear_once free (word w) e = record { registers = λ r z. omega arith; bits = λ k. small (nat_lt k w) }
   where
     small : (b : Bool) → cond b 1 0 ≤ 1
@@ -87,7 +87,7 @@ linear_once free (slice a hi lo) e = slice_once (linear_once free a e)
     small true = omega arith
     small false = omega arith
 
-    slice_bits : (t : Term) → ((k : ℕ) → bit_uses k t ≤ 1) → (k : ℕ) → bit_uses k (slice t hi lo) ≤ 1
+    slice_bits : (t : ExprModel) → ((k : ℕ) → bit_uses k t ≤ 1) → (k : ℕ) → bit_uses k (slice t hi lo) ≤ 1
     slice_bits (word w) h k = small (nat_le lo k && nat_le k hi)
     slice_bits (reg r w) h k = h k
     slice_bits (const w v) h k = h k
@@ -125,7 +125,7 @@ linear_once free (select c a b) e =
       bits = λ j. omega (arith, x.bits j, y.bits j, z.bits j, k.bits j, l.bits j, m.bits j);
     })
 
-two_linear : (free : ℕ) (a b : Term) → ((r : ℕ) → bit_at free r ≡ 0 → register_uses r a + register_uses r b ≤ 1) → ((k : ℕ) → bit_uses k a + bit_uses k b ≤ 1)
+two_linear : (free : ℕ) (a b : ExprModel) → ((r : ℕ) → bit_at free r ≡ 0 → register_uses r a + register_uses r b ≤ 1) → ((k : ℕ) → bit_uses k a + bit_uses k b ≤ 1)
     → (IsLinear free (write a) → is_linear free a ≡ true) → (IsLinear free (write b) → is_linear free b ≡ true) → (are_apart free a b && (is_linear free a && is_linear free b)) ≡ true
 two_linear free a b p q f g =
     join_and (are_apart free a b) (is_linear free a && is_linear free b)
@@ -135,7 +135,7 @@ two_linear free a b p q f g =
     (g (record { registers = λ r z. omega (arith, p r z); bits = λ k. omega (arith, q k) })))
 
 -- and the other way round
-pub once_linear : (free : ℕ) (t : Term) → IsLinear free (write t) → is_linear free t ≡ true
+pub once_linear : (free : ℕ) (t : ExprModel) → IsLinear free (write t) → is_linear free t ≡ true
 once_linear free (word w) h = refl
 once_linear free (reg r w) h = refl
 once_linear free (const w v) h = refl
@@ -144,7 +144,7 @@ once_linear free (un o a) h = once_linear free a (record { registers = h.registe
 once_linear free (bin o a b) h = two_linear free a b (λ r z. h.registers r z) (λ k. h.bits k) (once_linear free a) (once_linear free b)
 once_linear free (slice a hi lo) h = slice_linear a h (once_linear free a)
   where
-    slice_linear : (t : Term) → IsLinear free (write (slice t hi lo)) → (IsLinear free (write t) → is_linear free t ≡ true) → is_linear free t ≡ true
+    slice_linear : (t : ExprModel) → IsLinear free (write (slice t hi lo)) → (IsLinear free (write t) → is_linear free t ≡ true) → is_linear free t ≡ true
     slice_linear (word w) h f = refl
     slice_linear (reg r w) h f = refl
     slice_linear (const w v) h f = refl
@@ -174,10 +174,10 @@ once_linear free (select c a b) h =
 
 -- ---- transfers: address and value together
 
-two_parts : (free : ℕ) (a e : Term) → IsLinear free (write_at a e) → (are_apart free a e && (is_linear free a && is_linear free e)) ≡ true
+two_parts : (free : ℕ) (a e : ExprModel) → IsLinear free (write_at a e) → (are_apart free a e && (is_linear free a && is_linear free e)) ≡ true
 two_parts free a e h = two_linear free a e (λ r z. h.registers r z) (λ k. h.bits k) (once_linear free a) (once_linear free e)
 
-parts_two : (free : ℕ) (a e : Term) → (are_apart free a e && (is_linear free a && is_linear free e)) ≡ true → IsLinear free (write_at a e)
+parts_two : (free : ℕ) (a e : ExprModel) → (are_apart free a e && (is_linear free a && is_linear free e)) ≡ true → IsLinear free (write_at a e)
 parts_two free a e t =
     let s = split_and (are_apart free a e) (is_linear free a && is_linear free e) t in
     let u = split_and (is_linear free a) (is_linear free e) s.1 in
@@ -185,7 +185,7 @@ parts_two free a e t =
     record { registers = two.0; bits = two.1 }
 
 -- what is computed says that no register but the free ones and no instruction bit occurs twice
-pub linear_is : (free : ℕ) (move : Move) → (move_linear free move ≡ true) ↔ IsLinear free move
+pub linear_is : (free : ℕ) (move : TransferModel) → (transfer_linear free move ≡ true) ↔ IsLinear free move
 linear_is free keep = ((λ t. record { registers = λ r z. omega arith; bits = λ k. omega arith }), λ h. refl)
 linear_is free (write e) = ((λ t. linear_once free e t), λ h. once_linear free e h)
 linear_is free (write_at a e) = ((λ t. parts_two free a e t), λ h. two_parts free a e h)

@@ -21,22 +21,22 @@ use Rattle.transfer_set.proofs.ReadyLaws.{row_at}
 use Rattle.form_set.proofs.FieldsBelow.{move_small}
 use Rattle.form_set.proofs.Holding.{memory_within}
 use Rattle.net_model.specs.Patterns.{IsPattern, Pattern}
-use Rattle.net_model.specs.Terms.{Move, keep, write}
-use Rattle.net_model.specs.Transfers.{move_at, same_reg, storage_move, transfer_of}
+use Rattle.net_model.specs.Exprs.{TransferModel, keep, write}
+use Rattle.net_model.specs.Transfers.{transfer_at, same_reg, storage_transfer, transfer_of}
 use Rattle.sym_expr.specs.declared.pool.Node.{Node}
-use Rattle.sym_expr.specs.Pools.{TermFits, term_at}
+use Rattle.sym_expr.specs.Pools.{ExprFits, expr_of_id}
 use Rattle.transfer_set.specs.declared.row.Row.{Row}
 use Rattle.transfer_set.specs.Rows.{row_pattern, row_patterns}
-use Rattle.transfer_set.specs.Tables.{IsRow, Table}
-use Rattle.transfer_set.specs.TextMarks.{IsMoveOf}
-use Rattle.transfer_set.proofs.TermsOf.{move_terms}
+use Rattle.transfer_set.specs.Tables.{IsRow, PatternTable}
+use Rattle.transfer_set.specs.TextMarks.{IsTransferOf}
+use Rattle.transfer_set.proofs.TermsOf.{move_exprs}
 use Rattle.form_set.specs.declared.pattern_ids.PatternIds.{PatternIds}
 use Rattle.form_set.specs.Inner.PatternIds.{IsNarrow, ArePatternIds, row_ids, ids_pattern}
 use Rattle.transfer_set.specs.Ready.{IsReady}
 
 -- ---- the program counter takes few bits
 
-narrow_if : (b : Bool) (m n : Move) → IsNarrow m → IsNarrow n → IsNarrow (cond b m n)
+narrow_if : (b : Bool) (m n : TransferModel) → IsNarrow m → IsNarrow n → IsNarrow (cond b m n)
 narrow_if true m n h k = h
 narrow_if false m n h k = k
 
@@ -45,7 +45,7 @@ fits_at netlist [] h id storage e = absurd (cc)
 fits_at netlist (x ∷ storages) h zero storage e = (let q : x ≡ storage = cc in subst (StorageFits netlist) q h.0)
 fits_at netlist (x ∷ storages) h (suc id) storage e = fits_at netlist storages h.1 id storage e
 
-counter_at : (netlist : Netlist) → IsTyped netlist → (i id : ℕ) (storage : Storage) → StorageFits netlist storage → IsCounter (Some storage) → IsNarrow (storage_move (sym_of netlist i) (value_of netlist no_state i) id storage)
+counter_at : (netlist : Netlist) → IsTyped netlist → (i id : ℕ) (storage : Storage) → StorageFits netlist storage → IsCounter (Some storage) → IsNarrow (storage_transfer (sym_of netlist i) (value_of netlist no_state i) id storage)
 counter_at netlist typed i id (Register name width input None) f h =
     narrow_if (is_enabled (value_of netlist no_state i) None) _ keep
     (narrow_if (same_reg (sym_of netlist i input) id) keep (write (sym_of netlist i input)) tt
@@ -54,7 +54,7 @@ counter_at netlist typed i id (Register name width input (Some when)) f h = absu
 counter_at netlist typed i id (Memory cells) f h = absurd h
 counter_at netlist typed i id (File cells) f h = absurd h
 
-counter_narrow : (netlist : Netlist) → IsTyped netlist → (i id : ℕ) → IsCounter (slice_get netlist.storages id) → IsNarrow (move_at netlist i id)
+counter_narrow : (netlist : Netlist) → IsTyped netlist → (i id : ℕ) → IsCounter (slice_get netlist.storages id) → IsNarrow (transfer_at netlist i id)
 counter_narrow netlist typed i id h = by (slice_get netlist.storages id) refl h
   where
     by : (o : Option Storage) → slice_get netlist.storages id ≡ o → IsCounter o → IsNarrow (transfer_of netlist i id o)
@@ -69,10 +69,10 @@ word_bits netlist (code ∷ codes) h e = h.0.0
 
 -- ---- the ids of a pattern
 
-pub ids_are : (netlist : Netlist) (order : List ℕ) → KeepsRules netlist order → (book : Diagrams) (pool : List Node) → book.bits ≡ word_width netlist → ((id : ℕ) → id < length pool → TermFits (term_at pool id))
+pub ids_are : (netlist : Netlist) (order : List ℕ) → KeepsRules netlist order → (book : Diagrams) (pool : List Node) → book.bits ≡ word_width netlist → ((id : ℕ) → id < length pool → ExprFits (expr_of_id pool id))
     → (row : Row) → IsRow netlist book pool row → IsPattern netlist (row_pattern pool row) → ArePatternIds netlist book pool (row_ids row)
 ids_are netlist order k book pool bits fits row r p =
-    let terms = subst (IsMoveOf netlist) p.given.gives (move_terms netlist order k p.word row.storage) in
+    let terms = subst (IsTransferOf netlist) p.given.gives (move_exprs netlist order k p.word row.storage) in
     let w = word_bits netlist netlist.codes k.formed.codes k.roles.code in
     record {
       storage = storage_within netlist (row_pattern pool row) p;
@@ -82,7 +82,7 @@ ids_are netlist order k book pool bits fits row r p =
       fields = r.told.fields;
       fits = subst (λ b. row.fields < 2 ^ b) (sym bits) (subst (λ n. n < 2 ^ word_width netlist) (sym r.told.fields) (move_small netlist pool fits row.addr row.value r.addr r.value terms));
       terms = terms;
-      narrow = λ e. subst IsNarrow (ap (move_at netlist p.word) (sym e) ∙ p.given.gives)
+      narrow = λ e. subst IsNarrow (ap (transfer_at netlist p.word) (sym e) ∙ p.given.gives)
           (counter_narrow netlist (typed_of netlist k.formed k.roles) p.word (counter_of netlist.codes) k.roles.counter);
       few = omega (arith, w.1, bits);
       clean = λ word c. subst (λ b. word < 2 ^ b) (sym bits) (clean_below netlist order k word c);
@@ -101,7 +101,7 @@ get_pattern pool [] n row d e = absurd (cc)
 get_pattern pool (x ∷ rows) zero row d e = (omega arith, (let q : x ≡ row = cc in ap (row_pattern pool) q))
 get_pattern pool (x ∷ rows) (suc n) row d e = (let r = get_pattern pool rows n row d e in (omega (arith, r.0), r.1))
 
-module _ (netlist : Netlist) (order : List ℕ) (k : KeepsRules netlist order) (book : Diagrams) (pool : List Node) (table : Table) (ready : IsReady netlist book pool table) (fits : (id : ℕ) → id < length pool → TermFits (term_at pool id)) where
+module _ (netlist : Netlist) (order : List ℕ) (k : KeepsRules netlist order) (book : Diagrams) (pool : List Node) (table : PatternTable) (ready : IsReady netlist book pool table) (fits : (id : ℕ) → id < length pool → ExprFits (expr_of_id pool id)) where
   pub row_ids_are : (n : ℕ) (row : Row) → slice_get table.rows n ≡ Some row → ArePatternIds netlist book pool (row_ids row)
   row_ids_are n row e =
       let b = get_pattern pool table.rows n row (row_pattern pool row) e in

@@ -7,22 +7,22 @@ use Rattle.std.proofs.lemmas.Option.{get_or_from_slice_get, slice_get_within}
 use Rattle.net_model.specs.declared.hardware.Netlist.{Netlist}
 use Rattle.net_model.specs.CheckedRules.{KeepsRules}
 use Rattle.net_model.specs.Nets.{memory_id}
-use Rattle.net_model.specs.Occurs.{move_occurs, occurs}
+use Rattle.net_model.specs.Occurs.{transfer_occurs, occurs}
 use Rattle.net_model.specs.Patterns.{IsPattern, Pattern}
-use Rattle.net_model.specs.Terms.{Term, word, reg, const, read, un, bin, slice, cat, zext, sext, select, Move, keep, write, write_at}
+use Rattle.net_model.specs.Exprs.{ExprModel, word, reg, const, read, un, bin, slice, cat, zext, sext, select, TransferModel, keep, write, write_at}
 use Rattle.net_model.proofs.Far.{reads_far}
 use Rattle.net_model.proofs.KeptRules.{few_storages, sound_of}
 use Rattle.net_model.proofs.Storages.{storage_within}
 use Rattle.rec_bits.specs.declared.operator.Op2.{Op2}
 use Rattle.transfer_set.specs.declared.stepping.Counter.{Counter}
 use Rattle.transfer_set.specs.Stepping.{is_next}
-use Rattle.form_model.specs.Registers.{AreLow, IsLow, IsLowGoal, IsLowTerm}
-use Rattle.form_model.specs.Rules.{BranchTarget, Rule, into_file, into_memory, into_reg}
-use Rattle.form_set.specs.Listing.{AreRules, counter_at, goal_at, sides_of}
+use Rattle.form_model.specs.Registers.{AreLow, IsLow, IsLowGoal, IsLowExpr}
+use Rattle.form_model.specs.Forms.{TargetModel, FormModel, into_file, into_memory, into_reg}
+use Rattle.form_set.specs.Listing.{AreFormModels, counter_at, goal_at, sides_of}
 use Rattle.form_set.specs.Static.{is_file_at}
 use Rattle.form_set.specs.Promises.{IsFormOf, of_branch, of_jump, of_plain}
 use Rattle.form_set.specs.Swaps.{Path, ordered, picks, swap_at, swap_paths, swapped, swaps_here}
-use Rattle.form_set.specs.Targets.{Branch, allowed_target, branch_if, first_of, term_branch}
+use Rattle.form_set.specs.Targets.{Branch, allowed_target, branch_if, first_of, expr_branch}
 use Rattle.form_set.proofs.FormLaws.{form_at}
 
 -- ---- swaps
@@ -41,12 +41,12 @@ either_right true b e = refl
 either_right false b e = e
 
 module _ (q : ℕ) where
-  turned : (o : Op2) (a b : Term) (swaps : Bool) → occurs q (ordered swaps o a b) ≡ (occurs q a || occurs q b)
+  turned : (o : Op2) (a b : ExprModel) (swaps : Bool) → occurs q (ordered swaps o a b) ≡ (occurs q a || occurs q b)
   turned o a b true = or_turned (occurs q a) (occurs q b)
   turned o a b false = refl
 
   -- the same registers occur after swaps
-  swap_occurs : (chosen : Path → Bool) (t : Term) → occurs q (swap_at chosen t) ≡ occurs q t
+  swap_occurs : (chosen : Path → Bool) (t : ExprModel) → occurs q (swap_at chosen t) ≡ occurs q t
   swap_occurs chosen (word w) = refl
   swap_occurs chosen (reg r w) = refl
   swap_occurs chosen (const w v) = refl
@@ -68,14 +68,14 @@ first_some : {A : Type 0} (x y : Option A) (v : A) → first_of x y ≡ Some v �
 first_some (Some x) y v e = inl e
 first_some None y v e = inr e
 
-if_test : (b when_one : Bool) (c : Term) (to : Option BranchTarget) (parts : Branch) → branch_if b when_one c to ≡ Some parts → c ≡ parts.test
+if_test : (b when_one : Bool) (c : ExprModel) (to : Option TargetModel) (parts : Branch) → branch_if b when_one c to ≡ Some parts → c ≡ parts.test
 if_test true when_one c (Some to) parts e =
     let is : ◌≡◌ {A = Branch} (record { when_one = when_one; test = c; to = to }) parts = cc in ap (λ (x : Branch). x.test) is
 if_test true when_one c None parts e = absurd (cc)
 if_test false when_one c to parts e = absurd (cc)
 
 -- what occurs in it occurs in the value of its pattern
-test_occurs : (q edition : ℕ) (pc : Counter) (reach : ℕ) (t : Term) (parts : Branch) → term_branch edition pc reach t ≡ Some parts → occurs q parts.test ≡ true → occurs q t ≡ true
+test_occurs : (q edition : ℕ) (pc : Counter) (reach : ℕ) (t : ExprModel) (parts : Branch) → expr_branch edition pc reach t ≡ Some parts → occurs q parts.test ≡ true → occurs q t ≡ true
 test_occurs q edition pc reach (select c a b) parts e k = either_left (occurs q c) (occurs q a || occurs q b) (ap (occurs q) test ∙ k)
   where
     test : c ≡ parts.test
@@ -96,7 +96,7 @@ goal_low netlist storage lt = by (storage == memory_id netlist.storages) (is_fil
     by false false q e = let same : storage ≡ q = cc in subst (λ n. n < 16) same lt
 
 -- the registers of an address and of a value
-addr_low : (choice : ℕ) (m : Move) → ((q : ℕ) → move_occurs q m ≡ true → q < 16) → (a : Term) → (swapped choice (sides_of m)).addr ≡ Some a → IsLowTerm a
+addr_low : (choice : ℕ) (m : TransferModel) → ((q : ℕ) → transfer_occurs q m ≡ true → q < 16) → (a : ExprModel) → (swapped choice (sides_of m)).addr ≡ Some a → IsLowExpr a
 addr_low choice keep low a e = absurd (cc)
 addr_low choice (write v) low a e = absurd (cc)
 addr_low choice (write_at x v) low a e =
@@ -104,21 +104,21 @@ addr_low choice (write_at x v) low a e =
     let same : swap_at chosen x ≡ a = cc in
     λ q k. low q (either_left (occurs q x) (occurs q v) (sym (swap_occurs q chosen x) ∙ ap (occurs q) same ∙ k))
 
-value_low : (choice : ℕ) (m : Move) → ((q : ℕ) → move_occurs q m ≡ true → q < 16) → IsLowTerm (swapped choice (sides_of m)).value
+value_low : (choice : ℕ) (m : TransferModel) → ((q : ℕ) → transfer_occurs q m ≡ true → q < 16) → IsLowExpr (swapped choice (sides_of m)).value
 value_low choice keep low q k = absurd (true≢false (sym k))
 value_low choice (write v) low q k = low q (sym (swap_occurs q (λ path. picks choice (swap_paths (sides_of (write v))) (1 ∷ path)) v) ∙ k)
 value_low choice (write_at a v) low q k =
     low q (either_right (occurs q a) (occurs q v) (sym (swap_occurs q (λ path. picks choice (swap_paths (sides_of (write_at a v))) (1 ∷ path)) v) ∙ k))
 
 module _ (netlist : Netlist) (order : List ℕ) (keeps : KeepsRules netlist order) where
-  pattern_low : (p : Pattern) → IsPattern netlist p → (q : ℕ) → move_occurs q p.move ≡ true → q < 16
+  pattern_low : (p : Pattern) → IsPattern netlist p → (q : ℕ) → transfer_occurs q p.move ≡ true → q < 16
   pattern_low p is q k = elim (cases_lt q 16) [
     | inl lt ↦ lt
-    | inr ge ↦ absurd (true≢false (sym k ∙ sym (ap (move_occurs q) is.given.gives)
+    | inr ge ↦ absurd (true≢false (sym k ∙ sym (ap (transfer_occurs q) is.given.gives)
         ∙ reads_far q netlist (omega (arith, few_storages netlist order keeps, ge)) (sound_of netlist order keeps).typed is.word p.storage))
   ]
 
-  of_low : (reach number : ℕ) (p : Pattern) (rule : Rule) → IsPattern netlist p → IsFormOf netlist reach number p rule → IsLow rule
+  of_low : (reach number : ℕ) (p : Pattern) (rule : FormModel) → IsPattern netlist p → IsFormOf netlist reach number p rule → IsLow rule
   of_low reach number p rule is (of_plain choice clobbers plain are e) =
       subst IsLow (sym e) (
         goal_low netlist p.storage (let within = storage_within netlist p is in omega (arith, within, few_storages netlist order keeps)),
@@ -126,13 +126,13 @@ module _ (netlist : Netlist) (order : List ℕ) (keeps : KeepsRules netlist orde
         value_low choice p.move (pattern_low p is),
       )
   of_low reach number p rule is (of_jump h e) =
-      subst IsLow (sym e) ((λ q x. absurd (cc)), (λ a x. absurd (cc)), (λ q k. pattern_low p is q (ap (move_occurs q) h.move ∙ k)))
+      subst IsLow (sym e) ((λ q x. absurd (cc)), (λ a x. absurd (cc)), (λ q k. pattern_low p is q (ap (transfer_occurs q) h.move ∙ k)))
   of_low reach number p rule is (of_branch choice parts b e) =
       let chosen : Path → Bool = λ path. picks choice (swap_paths (record { addr = None; value = parts.test })) (1 ∷ path) in
       subst IsLow (sym e) (
         (λ q x. absurd (cc)),
         (λ a x. absurd (cc)),
-        (λ q k. pattern_low p is q (ap (move_occurs q) b.move
+        (λ q k. pattern_low p is q (ap (transfer_occurs q) b.move
             ∙ test_occurs q netlist.edition (counter_at netlist) reach b.value parts b.parts (sym (swap_occurs q chosen parts.test) ∙ k))),
       )
 
@@ -140,7 +140,7 @@ module _ (netlist : Netlist) (order : List ℕ) (keeps : KeepsRules netlist orde
   pattern_at patterns i p each at =
       subst (IsPattern netlist) (get_or_from_slice_get patterns i p p at) (All-get_or (IsPattern netlist) patterns i p (slice_get_within patterns i p at) each)
 
-  pub forms_low : (reach : ℕ) (patterns : List Pattern) (rules : List Rule) → All (IsPattern netlist) patterns → AreRules netlist reach 0 patterns rules → AreLow rules
+  pub forms_low : (reach : ℕ) (patterns : List Pattern) (rules : List FormModel) → All (IsPattern netlist) patterns → AreFormModels netlist reach 0 patterns rules → AreLow rules
   forms_low reach patterns rules each list k rule at =
       let f = form_at netlist reach 0 patterns rules list k rule at in
       of_low reach (0 + f.place) f.pattern rule (pattern_at patterns f.place f.pattern each f.at) f.of

@@ -5,15 +5,15 @@ use Rattle.std.proofs.lemmas.Nat.{pow_pos, and_le_l}
 use Rattle.net_model.specs.declared.hardware.Netlist.{Netlist}
 use Rattle.net_model.specs.Nets.{counter_of, counter_width, memory_id}
 use Rattle.net_model.specs.Patterns.{Pattern}
-use Rattle.net_model.specs.Terms.{Term, Move, write, next_of, swapped_next_of}
-use Rattle.net_model.specs.Transfers.{move_at}
-use Rattle.net_model.specs.Fields.{move_fields}
-use Rattle.form_model.specs.Rules.{Rule, into_file, into_memory, into_reg}
+use Rattle.net_model.specs.Exprs.{ExprModel, TransferModel, write, next_of, swapped_next_of}
+use Rattle.net_model.specs.Transfers.{transfer_at}
+use Rattle.net_model.specs.Fields.{transfer_fields}
+use Rattle.form_model.specs.Forms.{FormModel, into_file, into_memory, into_reg}
 use Rattle.form_set.specs.Static.{is_file_at}
-use Rattle.form_set.specs.Listing.{AreRules, AreRulesOf, plain, jump, branch, other, IsBranch, IsJump, IsPlain, branch_rule, plain_rule, counter_at, goal_at, sides_of, test_sides}
-use Rattle.form_set.specs.Promises.{all_rules, is_no_jump, is_control_goal, no_jumps, only_control}
+use Rattle.form_set.specs.Listing.{AreFormModels, AreFormModelsOf, plain, jump, branch, other, IsBranch, IsJump, IsPlain, branch_form_model, plain_form_model, counter_at, goal_at, sides_of, test_sides}
+use Rattle.form_set.specs.Promises.{all_form_models, is_no_jump, is_control_goal, no_jumps, only_control}
 use Rattle.form_set.specs.Swaps.{map_below, swap_count}
-use Rattle.form_set.specs.Targets.{Branch, term_branch}
+use Rattle.form_set.specs.Targets.{Branch, expr_branch}
 use Rattle.transfer_set.specs.declared.stepping.Counter.{Counter}
 use Rattle.form_set.proofs.RuleLists.{branch_not_jump, plain_not_jump}
 
@@ -27,22 +27,22 @@ both_and : (a b : Bool) → a ≡ true → b ≡ true → (a && b) ≡ true
 both_and true b p q = q
 both_and false b p q = p
 
-all_append : (q : Rule → Bool) (xs ys : List Rule) → all_rules q (xs ++ ys) ≡ (all_rules q xs && all_rules q ys)
+all_append : (q : FormModel → Bool) (xs ys : List FormModel) → all_form_models q (xs ++ ys) ≡ (all_form_models q xs && all_form_models q ys)
 all_append q [] ys = refl
 all_append q (x ∷ xs) ys = by (q x) (all_append q xs ys)
   where
-    by : (b : Bool) → all_rules q (xs ++ ys) ≡ (all_rules q xs && all_rules q ys) → (b && all_rules q (xs ++ ys)) ≡ ((b && all_rules q xs) && all_rules q ys)
+    by : (b : Bool) → all_form_models q (xs ++ ys) ≡ (all_form_models q xs && all_form_models q ys) → (b && all_form_models q (xs ++ ys)) ≡ ((b && all_form_models q xs) && all_form_models q ys)
     by true e = e
     by false e = refl
 
-all_each : (q : Rule → Bool) (f : ℕ → Rule) → ((k : ℕ) → q (f k) ≡ true) → (n : ℕ) → all_rules q (map_below f n) ≡ true
+all_each : (q : FormModel → Bool) (f : ℕ → FormModel) → ((k : ℕ) → q (f k) ≡ true) → (n : ℕ) → all_form_models q (map_below f n) ≡ true
 all_each q f h zero = refl
-all_each q f h (suc n) = all_append q (map_below f n) (f n ∷ []) ∙ both_and (all_rules q (map_below f n)) (all_rules q (f n ∷ [])) (all_each q f h n) (both_and (q (f n)) true (h n) refl)
+all_each q f h (suc n) = all_append q (map_below f n) (f n ∷ []) ∙ both_and (all_form_models q (map_below f n)) (all_form_models q (f n ∷ [])) (all_each q f h n) (both_and (q (f n)) true (h n) refl)
 
-none_each : (q : Rule → Bool) (f : ℕ → Rule) → ((k : ℕ) → q (f k) ≡ false) → (n : ℕ) → 0 < n → all_rules q (map_below f n) ≡ true → ⊥
+none_each : (q : FormModel → Bool) (f : ℕ → FormModel) → ((k : ℕ) → q (f k) ≡ false) → (n : ℕ) → 0 < n → all_form_models q (map_below f n) ≡ true → ⊥
 none_each q f h zero lt e = omega (arith, lt)
 none_each q f h (suc n) lt e =
-    let s = and_both (all_rules q (map_below f n)) (all_rules q (f n ∷ [])) (sym (all_append q (map_below f n) (f n ∷ [])) ∙ e) in
+    let s = and_both (all_form_models q (map_below f n)) (all_form_models q (f n ∷ [])) (sym (all_append q (map_below f n) (f n ∷ [])) ∙ e) in
     true≢false (sym (and_both (q (f n)) true s.1).0 ∙ h n)
 
 -- ---- goals
@@ -57,75 +57,75 @@ goal_plain netlist storage = by (storage == memory_id netlist.storages) (is_file
 
 -- ---- a pattern that steps is no branch
 
-sum_no_branch : (edition : ℕ) (pc : Counter) (reach : ℕ) (t : Term) (id width : ℕ) → (t ≡ next_of id width) ⊎ (t ≡ swapped_next_of id width) → term_branch edition pc reach t ≡ None
-sum_no_branch edition pc reach t id width (inl e) = ap (term_branch edition pc reach) e
-sum_no_branch edition pc reach t id width (inr e) = ap (term_branch edition pc reach) e
+sum_no_branch : (edition : ℕ) (pc : Counter) (reach : ℕ) (t : ExprModel) (id width : ℕ) → (t ≡ next_of id width) ⊎ (t ≡ swapped_next_of id width) → expr_branch edition pc reach t ≡ None
+sum_no_branch edition pc reach t id width (inl e) = ap (expr_branch edition pc reach) e
+sum_no_branch edition pc reach t id width (inr e) = ap (expr_branch edition pc reach) e
 
-write_both : (m : Move) (t : Term) (a b : Term) → m ≡ write t → (m ≡ write a) ⊎ (m ≡ write b) → (t ≡ a) ⊎ (t ≡ b)
+write_both : (m : TransferModel) (t : ExprModel) (a b : ExprModel) → m ≡ write t → (m ≡ write a) ⊎ (m ≡ write b) → (t ≡ a) ⊎ (t ≡ b)
 write_both m t a b e (inl q) = inl (cc)
 write_both m t a b e (inr q) = inr (cc)
 
 pub plain_not_branch : (netlist : Netlist) (reach : ℕ) (p : Pattern) (parts : Branch) → IsPlain netlist p → IsBranch netlist reach p parts → ⊥
 plain_not_branch netlist reach p parts h b =
-    let w = h.ok 0 (let le = and_le_l 0 (move_fields p.move) in omega (arith, le)) in
-    let to : move_at netlist w.0 (counter_of netlist.codes) ≡ write b.value = sym (ap (move_at netlist w.0) b.storage) ∙ w.2.given.gives ∙ b.move in
+    let w = h.ok 0 (let le = and_le_l 0 (transfer_fields p.move) in omega (arith, le)) in
+    let to : transfer_at netlist w.0 (counter_of netlist.codes) ≡ write b.value = sym (ap (transfer_at netlist w.0) b.storage) ∙ w.2.given.gives ∙ b.move in
     let nothing = sum_no_branch netlist.edition (counter_at netlist) reach b.value (counter_of netlist.codes) (counter_width netlist) (write_both _ b.value _ _ to w.2.steps.step) in
     let some = b.parts in
     absurd (cc)
 
 -- ---- one pattern
 
-control_of : (netlist : Netlist) (reach number : ℕ) (p : Pattern) (rules : List Rule) → AreRulesOf netlist reach number p rules → (only_control rules ≡ true) ↔ (IsPlain netlist p → ⊥)
+control_of : (netlist : Netlist) (reach number : ℕ) (p : Pattern) (rules : List FormModel) → AreFormModelsOf netlist reach number p rules → (only_control rules ≡ true) ↔ (IsPlain netlist p → ⊥)
 control_of netlist reach number p rules (plain clobbers h c e) = (
-  (λ t k. none_each (λ rule. is_control_goal rule.goal) (plain_rule netlist number p clobbers) (λ j. (goal_plain netlist p.storage).0) (2 ^ swap_count (sides_of p.move)) (pow_pos (swap_count (sides_of p.move)))
+  (λ t k. none_each (λ rule. is_control_goal rule.goal) (plain_form_model netlist number p clobbers) (λ j. (goal_plain netlist p.storage).0) (2 ^ swap_count (sides_of p.move)) (pow_pos (swap_count (sides_of p.move)))
       (subst (λ rs. only_control rs ≡ true) e t)),
   λ never. absurd (never h),
 )
 control_of netlist reach number p rules (jump h e) = ((λ t k. plain_not_jump netlist p k h), λ never. ap only_control e)
 control_of netlist reach number p rules (branch parts h e) = (
   (λ t k. plain_not_branch netlist reach p parts k h),
-  λ never. ap only_control e ∙ all_each (λ rule. is_control_goal rule.goal) (branch_rule netlist number p parts) (λ j. refl) (2 ^ swap_count (test_sides parts)),
+  λ never. ap only_control e ∙ all_each (λ rule. is_control_goal rule.goal) (branch_form_model netlist number p parts) (λ j. refl) (2 ^ swap_count (test_sides parts)),
 )
 control_of netlist reach number p rules (other a b c e) = ((λ t. a), λ never. ap only_control e)
 
-jumps_of : (netlist : Netlist) (reach number : ℕ) (p : Pattern) (rules : List Rule) → AreRulesOf netlist reach number p rules → (no_jumps rules ≡ true) ↔ (IsJump netlist p → ⊥)
+jumps_of : (netlist : Netlist) (reach number : ℕ) (p : Pattern) (rules : List FormModel) → AreFormModelsOf netlist reach number p rules → (no_jumps rules ≡ true) ↔ (IsJump netlist p → ⊥)
 jumps_of netlist reach number p rules (plain clobbers h c e) = (
   (λ t j. plain_not_jump netlist p h j),
-  λ never. ap no_jumps e ∙ all_each (λ rule. is_no_jump rule.goal) (plain_rule netlist number p clobbers) (λ j. (goal_plain netlist p.storage).1) (2 ^ swap_count (sides_of p.move)),
+  λ never. ap no_jumps e ∙ all_each (λ rule. is_no_jump rule.goal) (plain_form_model netlist number p clobbers) (λ j. (goal_plain netlist p.storage).1) (2 ^ swap_count (sides_of p.move)),
 )
 jumps_of netlist reach number p rules (jump h e) = ((λ t. absurd (true≢false (sym (subst (λ rs. no_jumps rs ≡ true) e t)))), λ never. absurd (never h))
 jumps_of netlist reach number p rules (branch parts h e) = (
   (λ t j. branch_not_jump netlist reach p parts h j),
-  λ never. ap no_jumps e ∙ all_each (λ rule. is_no_jump rule.goal) (branch_rule netlist number p parts) (λ j. refl) (2 ^ swap_count (test_sides parts)),
+  λ never. ap no_jumps e ∙ all_each (λ rule. is_no_jump rule.goal) (branch_form_model netlist number p parts) (λ j. refl) (2 ^ swap_count (test_sides parts)),
 )
 jumps_of netlist reach number p rules (other a b c e) = ((λ t. b), λ never. ap no_jumps e)
 
 -- ---- all patterns
 
-module _ (netlist : Netlist) (reach : ℕ) (q : Rule → Bool) (P : Pattern → Type 0)
-    (one : (number : ℕ) (p : Pattern) (rules : List Rule) → AreRulesOf netlist reach number p rules → (all_rules q rules ≡ true) ↔ (P p → ⊥)) where
-  none_is : (number : ℕ) (ps : List Pattern) (rules : List Rule) → AreRules netlist reach number ps rules
-      → (all_rules q rules ≡ true) ↔ ((k : ℕ) (p : Pattern) → slice_get ps k ≡ Some p → P p → ⊥)
-  none_is number [] rules h = ((λ t k p at. absurd (cc)), λ never. ap (all_rules q) h)
+module _ (netlist : Netlist) (reach : ℕ) (q : FormModel → Bool) (P : Pattern → Type 0)
+    (one : (number : ℕ) (p : Pattern) (rules : List FormModel) → AreFormModelsOf netlist reach number p rules → (all_form_models q rules ≡ true) ↔ (P p → ⊥)) where
+  none_is : (number : ℕ) (ps : List Pattern) (rules : List FormModel) → AreFormModels netlist reach number ps rules
+      → (all_form_models q rules ≡ true) ↔ ((k : ℕ) (p : Pattern) → slice_get ps k ≡ Some p → P p → ⊥)
+  none_is number [] rules h = ((λ t k p at. absurd (cc)), λ never. ap (all_form_models q) h)
   none_is number (x ∷ ps) rules h =
       let f = one number x h.0 h.2 in
       let r = none_is (number + 1) ps h.1 h.3 in
-      let e = ap (all_rules q) h.4 ∙ all_append q h.0 h.1 in (
-        (λ t. (let s = and_both (all_rules q h.0) (all_rules q h.1) (sym e ∙ t) in here s.0 s.1 f.0 r.0)),
-        λ never. e ∙ both_and (all_rules q h.0) (all_rules q h.1) (f.1 (λ y. never 0 x refl y)) (r.1 (λ k p at y. never (suc k) p at y)),
+      let e = ap (all_form_models q) h.4 ∙ all_append q h.0 h.1 in (
+        (λ t. (let s = and_both (all_form_models q h.0) (all_form_models q h.1) (sym e ∙ t) in here s.0 s.1 f.0 r.0)),
+        λ never. e ∙ both_and (all_form_models q h.0) (all_form_models q h.1) (f.1 (λ y. never 0 x refl y)) (r.1 (λ k p at y. never (suc k) p at y)),
       )
     where
-      here : all_rules q h.0 ≡ true → all_rules q h.1 ≡ true → (all_rules q h.0 ≡ true → P x → ⊥) → (all_rules q h.1 ≡ true → (k : ℕ) (p : Pattern) → slice_get ps k ≡ Some p → P p → ⊥)
+      here : all_form_models q h.0 ≡ true → all_form_models q h.1 ≡ true → (all_form_models q h.0 ≡ true → P x → ⊥) → (all_form_models q h.1 ≡ true → (k : ℕ) (p : Pattern) → slice_get ps k ≡ Some p → P p → ⊥)
           → (k : ℕ) (p : Pattern) → slice_get (x ∷ ps) k ≡ Some p → P p → ⊥
       here a b f r zero p at y = f a (let e : p ≡ x = cc in subst P e y)
       here a b f r (suc k) p at y = r b k p at y
 
 -- no form but jump and branch forms: no pattern is plain
-pub no_step : (netlist : Netlist) (reach number : ℕ) (ps : List Pattern) (rules : List Rule) → AreRules netlist reach number ps rules
+pub no_step : (netlist : Netlist) (reach number : ℕ) (ps : List Pattern) (rules : List FormModel) → AreFormModels netlist reach number ps rules
     → (only_control rules ≡ true) ↔ ((k : ℕ) (p : Pattern) → slice_get ps k ≡ Some p → IsPlain netlist p → ⊥)
 no_step netlist reach number ps rules h = none_is netlist reach (λ rule. is_control_goal rule.goal) (IsPlain netlist) (control_of netlist reach) number ps rules h
 
 -- no jump form: no pattern is a jump
-pub no_jump : (netlist : Netlist) (reach number : ℕ) (ps : List Pattern) (rules : List Rule) → AreRules netlist reach number ps rules
+pub no_jump : (netlist : Netlist) (reach number : ℕ) (ps : List Pattern) (rules : List FormModel) → AreFormModels netlist reach number ps rules
     → (no_jumps rules ≡ true) ↔ ((k : ℕ) (p : Pattern) → slice_get ps k ≡ Some p → IsJump netlist p → ⊥)
 no_jump netlist reach number ps rules h = none_is netlist reach (λ rule. is_no_jump rule.goal) (IsJump netlist) (jumps_of netlist reach) number ps rules h

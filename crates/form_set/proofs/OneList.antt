@@ -3,13 +3,13 @@ use Rattle.std.proofs.Common.{◌≡◌, ℕ, zero, suc, ◌+◌, ◌^◌, max, 
 use Rattle.std.specs.Prelude.{bit_or, bit_xor}
 use Rattle.net_model.specs.declared.hardware.Netlist.{Netlist}
 use Rattle.net_model.specs.Patterns.{Pattern}
-use Rattle.net_model.specs.Terms.{Term, Move, write}
-use Rattle.net_model.specs.Fields.{move_fields}
-use Rattle.form_model.specs.Rules.{Rule}
+use Rattle.net_model.specs.Exprs.{ExprModel, TransferModel, write}
+use Rattle.net_model.specs.Fields.{transfer_fields}
+use Rattle.form_model.specs.Forms.{FormModel}
 use Rattle.form_model.specs.Shapes.{reach_of}
 use Rattle.form_set.specs.Inner.Adding.{IsGreatestReach, IsReachOf, jumps_not, jumps_to}
-use Rattle.form_set.specs.Listing.{AreForms, AreRules, AreRulesOf, plain, jump, branch, other, IsBranch, branch_rules, counter_at, jump_rule, plain_rules}
-use Rattle.form_set.specs.Targets.{Branch, term_branch}
+use Rattle.form_set.specs.Listing.{AreForms, AreFormModels, AreFormModelsOf, plain, jump, branch, other, IsBranch, branch_form_models, counter_at, jump_form_model, plain_form_models}
+use Rattle.form_set.specs.Targets.{Branch, expr_branch}
 use Rattle.form_set.specs.Words.{AreClobbers, AreKept, Joins, joins, fails, none, all_registers, own_storage}
 use Rattle.form_set.proofs.RuleLists.{branch_not_jump, greatest_is, plain_not_jump}
 use Rattle.form_set.proofs.NoForms.{plain_not_branch}
@@ -39,7 +39,7 @@ clobbers_one netlist p a b h k =
 
 -- ---- the forms of one pattern
 
-write_one : (m : Move) (a b : Term) → m ≡ write a → m ≡ write b → a ≡ b
+write_one : (m : TransferModel) (a b : ExprModel) → m ≡ write a → m ≡ write b → a ≡ b
 write_one m a b e f = cc
 
 some_one : {A : Type 0} (o : Option A) (a b : A) → o ≡ Some a → o ≡ Some b → a ≡ b
@@ -48,21 +48,21 @@ some_one o a b e f = cc
 parts_one : (netlist : Netlist) (reach : ℕ) (p : Pattern) (a b : Branch) → IsBranch netlist reach p a → IsBranch netlist reach p b → a ≡ b
 parts_one netlist reach p a b h k =
     let e = write_one p.move h.value k.value h.move k.move in
-    some_one (term_branch netlist.edition (counter_at netlist) reach k.value) a b (subst (λ t. term_branch netlist.edition (counter_at netlist) reach t ≡ Some a) e h.parts) k.parts
+    some_one (expr_branch netlist.edition (counter_at netlist) reach k.value) a b (subst (λ t. expr_branch netlist.edition (counter_at netlist) reach t ≡ Some a) e h.parts) k.parts
 
-of_one : (netlist : Netlist) (reach number : ℕ) (p : Pattern) (xs ys : List Rule) → AreRulesOf netlist reach number p xs → AreRulesOf netlist reach number p ys → xs ≡ ys
-of_one netlist reach number p xs ys (plain a h c e) (plain b k d f) = e ∙ ap (plain_rules netlist number p) (clobbers_one netlist p a b c d) ∙ sym f
+of_one : (netlist : Netlist) (reach number : ℕ) (p : Pattern) (xs ys : List FormModel) → AreFormModelsOf netlist reach number p xs → AreFormModelsOf netlist reach number p ys → xs ≡ ys
+of_one netlist reach number p xs ys (plain a h c e) (plain b k d f) = e ∙ ap (plain_form_models netlist number p) (clobbers_one netlist p a b c d) ∙ sym f
 of_one netlist reach number p xs ys (plain a h c e) (jump k f) = absurd (plain_not_jump netlist p h k)
 of_one netlist reach number p xs ys (plain a h c e) (branch b k f) = absurd (plain_not_branch netlist reach p b h k)
 of_one netlist reach number p xs ys (plain a h c e) (other k l m f) = absurd (k h)
 of_one netlist reach number p xs ys (jump h e) (plain b k d f) = absurd (plain_not_jump netlist p k h)
 of_one netlist reach number p xs ys (jump h e) (jump k f) =
-    e ∙ ap (λ t. jump_rule netlist number t (move_fields p.move) ∷ []) (write_one p.move h.target k.target h.move k.move) ∙ sym f
+    e ∙ ap (λ t. jump_form_model netlist number t (transfer_fields p.move) ∷ []) (write_one p.move h.target k.target h.move k.move) ∙ sym f
 of_one netlist reach number p xs ys (jump h e) (branch b k f) = absurd (branch_not_jump netlist reach p b k h)
 of_one netlist reach number p xs ys (jump h e) (other k l m f) = absurd (l h)
 of_one netlist reach number p xs ys (branch a h e) (plain b k d f) = absurd (plain_not_branch netlist reach p a k h)
 of_one netlist reach number p xs ys (branch a h e) (jump k f) = absurd (branch_not_jump netlist reach p a h k)
-of_one netlist reach number p xs ys (branch a h e) (branch b k f) = e ∙ ap (branch_rules netlist number p) (parts_one netlist reach p a b h k) ∙ sym f
+of_one netlist reach number p xs ys (branch a h e) (branch b k f) = e ∙ ap (branch_form_models netlist number p) (parts_one netlist reach p a b h k) ∙ sym f
 of_one netlist reach number p xs ys (branch a h e) (other k l m f) = absurd (m a h)
 of_one netlist reach number p xs ys (other h i j e) (plain b k d f) = absurd (h k)
 of_one netlist reach number p xs ys (other h i j e) (jump k f) = absurd (i k)
@@ -71,23 +71,23 @@ of_one netlist reach number p xs ys (other h i j e) (other k l m f) = e ∙ sym 
 
 -- ---- the whole list
 
-rules_one : (netlist : Netlist) (reach number : ℕ) (ps : List Pattern) (xs ys : List Rule) → AreRules netlist reach number ps xs → AreRules netlist reach number ps ys → xs ≡ ys
-rules_one netlist reach number [] xs ys h k = h ∙ sym k
-rules_one netlist reach number (p ∷ ps) xs ys h k =
-    h.4 ∙ (λ j. of_one netlist reach number p h.0 k.0 h.2 k.2 j ++ rules_one netlist reach (number + 1) ps h.1 k.1 h.3 k.3 j) ∙ sym k.4
+form_models_one : (netlist : Netlist) (reach number : ℕ) (ps : List Pattern) (xs ys : List FormModel) → AreFormModels netlist reach number ps xs → AreFormModels netlist reach number ps ys → xs ≡ ys
+form_models_one netlist reach number [] xs ys h k = h ∙ sym k
+form_models_one netlist reach number (p ∷ ps) xs ys h k =
+    h.4 ∙ (λ j. of_one netlist reach number p h.0 k.0 h.2 k.2 j ++ form_models_one netlist reach (number + 1) ps h.1 k.1 h.3 k.3 j) ∙ sym k.4
 
 -- ---- the reach is that of the patterns, whatever the branches
 
-reach_of_rules : (netlist : Netlist) (reach number : ℕ) (p : Pattern) (rules : List Rule) → AreRulesOf netlist reach number p rules → (r : ℕ) × IsReachOf netlist p r
-reach_of_rules netlist reach number p rules (plain a h c e) = (0, jumps_not (λ j. plain_not_jump netlist p h j) refl)
-reach_of_rules netlist reach number p rules (jump h e) = (reach_of h.target, jumps_to h refl)
-reach_of_rules netlist reach number p rules (branch a h e) = (0, jumps_not (λ j. branch_not_jump netlist reach p a h j) refl)
-reach_of_rules netlist reach number p rules (other h i j e) = (0, jumps_not i refl)
+reach_of_forms : (netlist : Netlist) (reach number : ℕ) (p : Pattern) (rules : List FormModel) → AreFormModelsOf netlist reach number p rules → (r : ℕ) × IsReachOf netlist p r
+reach_of_forms netlist reach number p rules (plain a h c e) = (0, jumps_not (λ j. plain_not_jump netlist p h j) refl)
+reach_of_forms netlist reach number p rules (jump h e) = (reach_of h.target, jumps_to h refl)
+reach_of_forms netlist reach number p rules (branch a h e) = (0, jumps_not (λ j. branch_not_jump netlist reach p a h j) refl)
+reach_of_forms netlist reach number p rules (other h i j e) = (0, jumps_not i refl)
 
-greatest_exists : (netlist : Netlist) (reach number : ℕ) (ps : List Pattern) (rules : List Rule) → AreRules netlist reach number ps rules → (r : ℕ) × IsGreatestReach netlist ps r
+greatest_exists : (netlist : Netlist) (reach number : ℕ) (ps : List Pattern) (rules : List FormModel) → AreFormModels netlist reach number ps rules → (r : ℕ) × IsGreatestReach netlist ps r
 greatest_exists netlist reach number [] rules h = (0, refl)
 greatest_exists netlist reach number (p ∷ ps) rules h =
-    let a = reach_of_rules netlist reach number p h.0 h.2 in
+    let a = reach_of_forms netlist reach number p h.0 h.2 in
     let b = greatest_exists netlist reach (number + 1) ps h.1 h.3 in
     (max a.0 b.0, (a.0, b.0, a.1, b.1, refl))
 
@@ -103,9 +103,9 @@ greatest_one netlist (p ∷ ps) a b h k =
     h.4 ∙ (λ j. max (reach_one netlist p h.0 k.0 h.2 k.2 j) (greatest_one netlist ps h.1 k.1 h.3 k.3 j)) ∙ sym k.4
 
 -- a netlist with these patterns has one list of forms and one reach
-pub forms_one : (netlist : Netlist) (ps : List Pattern) (xs ys : List Rule) (a b : ℕ) → AreForms netlist ps xs a → AreForms netlist ps ys b → (xs ≡ ys) × (a ≡ b)
+pub forms_one : (netlist : Netlist) (ps : List Pattern) (xs ys : List FormModel) (a b : ℕ) → AreForms netlist ps xs a → AreForms netlist ps ys b → (xs ≡ ys) × (a ≡ b)
 forms_one netlist ps xs ys a b h k =
     let f = greatest_exists netlist a 0 ps xs h.list in
     let g = greatest_exists netlist b 0 ps ys k.list in
     let e : a ≡ b = h.greatest_is ∙ sym (greatest_is netlist a 0 ps xs f.0 h.list f.1) ∙ greatest_one netlist ps f.0 g.0 f.1 g.1 ∙ greatest_is netlist b 0 ps ys g.0 k.list g.1 ∙ sym k.greatest_is in
-    (rules_one netlist a 0 ps xs ys h.list (subst (λ r. AreRules netlist r 0 ps ys) (sym e) k.list), e)
+    (form_models_one netlist a 0 ps xs ys h.list (subst (λ r. AreFormModels netlist r 0 ps ys) (sym e) k.list), e)

@@ -5,11 +5,11 @@ use Rattle.net_model.specs.declared.hardware.Storage.TheVariants.{Register, Memo
 use Rattle.net_model.specs.Nets.{IsRegister}
 use Rattle.form_set.specs.Words.{is_register_storage}
 use Rattle.net_model.specs.declared.hardware.Netlist.{Netlist}
-use Rattle.net_model.specs.Terms.{Term, reg}
-use Rattle.transfer_set.specs.TextMarks.{IsTermOf}
+use Rattle.net_model.specs.Exprs.{ExprModel, reg}
+use Rattle.transfer_set.specs.TextMarks.{IsExprOf}
 
-pub reg_within : (netlist : Netlist) (t : Term) (id width : ℕ) → t ≡ reg id width → IsTermOf netlist t → length netlist.storages ≤ 15 → id < 16
-reg_within netlist t id width e h few = (let q = subst (IsTermOf netlist) e h in omega (arith, q.0, few))
+pub reg_within : (netlist : Netlist) (t : ExprModel) (id width : ℕ) → t ≡ reg id width → IsExprOf netlist t → length netlist.storages ≤ 15 → id < 16
+reg_within netlist t id width e h few = (let q = subst (IsExprOf netlist) e h in omega (arith, q.0, few))
 
 -- past the end of a list of numbers
 pub index_none : (xs : List ℕ) (i : ℕ) → None ≡ slice_get xs i → 0 ≡ slice_index xs i

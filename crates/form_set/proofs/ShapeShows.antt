@@ -4,7 +4,7 @@ use Rattle.std.specs.Prelude.{is_some}
 use Rattle.std.proofs.lemmas.Bool.{ltb-false}
 use Rattle.std.proofs.lemmas.Nat.{mod_below, pow_pos}
 use Rattle.rec_bits.specs.Operators.{sext_of}
-use Rattle.net_model.specs.Terms.{Term, word, reg, const, read, un, bin, slice, cat, zext, sext, select, term_width}
+use Rattle.net_model.specs.Exprs.{ExprModel, word, reg, const, read, un, bin, slice, cat, zext, sext, select, expr_width}
 use Rattle.form_model.specs.Shapes.{field_setting, then_some, is_field, is_plain, plain_setting, shows, shows_below}
 use Rattle.form_model.proofs.ShapeLaws.{below_is}
 
@@ -19,7 +19,7 @@ less_is a b lt = by (nat_lt a b) refl
     by true e = refl
     by false e = absurd (omega (arith, ltb-false a b e, lt))
 
-pub field_shows : (a : Term) → is_field a ≡ true → (v : ℕ) → is_some (field_setting a v) ≡ nat_lt v (2 ^ term_width a)
+pub field_shows : (a : ExprModel) → is_field a ≡ true → (v : ℕ) → is_some (field_setting a v) ≡ nat_lt v (2 ^ expr_width a)
 field_shows (word w) h v = given_is (nat_lt v (2 ^ w)) v
 field_shows (slice (word w) hi lo) h v = given_is (nat_lt v (2 ^ (hi + 1 - lo))) (v * 2 ^ lo)
 field_shows (reg r w) h v = absurd (true≢false (sym h))
@@ -38,26 +38,26 @@ some_cond true o = refl
 some_cond false o = refl
 
 -- which numbers a shape shows that is no sum
-pub const_shows : (t : Term) (w c v : ℕ) → t ≡ const w c → (v == c) ≡ is_some (plain_setting t v)
+pub const_shows : (t : ExprModel) (w c v : ℕ) → t ≡ const w c → (v == c) ≡ is_some (plain_setting t v)
 const_shows t w c v e = sym (given_is (v == c) 0) ∙ ap (λ z. is_some (plain_setting z v)) (sym e)
 
-pub zext_shows : (t a : Term) (w v : ℕ) → t ≡ zext a w → is_plain t ≡ true → nat_lt v (2 ^ term_width a) ≡ is_some (plain_setting t v)
+pub zext_shows : (t a : ExprModel) (w v : ℕ) → t ≡ zext a w → is_plain t ≡ true → nat_lt v (2 ^ expr_width a) ≡ is_some (plain_setting t v)
 zext_shows t a w v e h = sym (field_shows a (ap is_plain (sym e) ∙ h) v) ∙ ap (λ z. is_some (plain_setting z v)) (sym e)
 
-pub sext_shows : (t a : Term) (w v : ℕ) → t ≡ sext a w → is_plain t ≡ true → (sext_of (v % 2 ^ term_width a) (term_width a) w == v) ≡ is_some (plain_setting t v)
+pub sext_shows : (t a : ExprModel) (w v : ℕ) → t ≡ sext a w → is_plain t ≡ true → (sext_of (v % 2 ^ expr_width a) (expr_width a) w == v) ≡ is_some (plain_setting t v)
 sext_shows t a w v e h =
-    by (sext_of (v % 2 ^ term_width a) (term_width a) w == v)
-    ∙ sym (some_cond (sext_of (v % 2 ^ term_width a) (term_width a) w == v) (field_setting a (v % 2 ^ term_width a))) ∙ ap (λ z. is_some (plain_setting z v)) (sym e)
+    by (sext_of (v % 2 ^ expr_width a) (expr_width a) w == v)
+    ∙ sym (some_cond (sext_of (v % 2 ^ expr_width a) (expr_width a) w == v) (field_setting a (v % 2 ^ expr_width a))) ∙ ap (λ z. is_some (plain_setting z v)) (sym e)
   where
-    low : is_some (field_setting a (v % 2 ^ term_width a)) ≡ true
-    low = field_shows a (ap is_plain (sym e) ∙ h) (v % 2 ^ term_width a) ∙ less_is (v % 2 ^ term_width a) (2 ^ term_width a) (mod_below v (2 ^ term_width a) (pow_pos (term_width a)))
+    low : is_some (field_setting a (v % 2 ^ expr_width a)) ≡ true
+    low = field_shows a (ap is_plain (sym e) ∙ h) (v % 2 ^ expr_width a) ∙ less_is (v % 2 ^ expr_width a) (2 ^ expr_width a) (mod_below v (2 ^ expr_width a) (pow_pos (expr_width a)))
 
-    by : (b : Bool) → b ≡ cond b (is_some (field_setting a (v % 2 ^ term_width a))) false
+    by : (b : Bool) → b ≡ cond b (is_some (field_setting a (v % 2 ^ expr_width a))) false
     by true = sym low
     by false = refl
 
 -- a shape that doesn't show one of the numbers doesn't show each
-pub one_missing : (t : Term) (n v u : ℕ) → v < n → u ≡ v → shows t u ≡ false → false ≡ shows_below t n
+pub one_missing : (t : ExprModel) (n v u : ℕ) → v < n → u ≡ v → shows t u ≡ false → false ≡ shows_below t n
 one_missing t n v u lt e h = by (shows_below t n) refl
   where
     by : (b : Bool) → shows_below t n ≡ b → false ≡ b

@@ -12,14 +12,14 @@ use Rattle.std.proofs.lemmas.Bool.{and_parts}
 use Rattle.net_model.specs.Nets.{held}
 use Rattle.net_model.specs.declared.hardware.Space.{Space}
 use Rattle.net_model.specs.Meaning.{mean}
-use Rattle.net_model.specs.Terms.{Term, word, reg, const, read, un, bin, slice, cat, zext, sext, select, term_width}
+use Rattle.net_model.specs.Exprs.{ExprModel, word, reg, const, read, un, bin, slice, cat, zext, sext, select, expr_width}
 use Rattle.form_set.specs.Promises.{AreAlike, IsAddrAlike, IsAlike}
-use Rattle.form_set.specs.Swaps.{Path, Sides, can_swap, ordered, picks, swap_at, swap_paths, swapped, swaps_here}
+use Rattle.form_set.specs.Swaps.{Path, SidesModel, can_swap, ordered, picks, swap_at, swap_paths, swapped, swaps_here}
 
-alike_refl : (t : Term) → IsAlike t t
+alike_refl : (t : ExprModel) → IsAlike t t
 alike_refl t = record { width = λ f. refl; fits = λ f. f; same = λ f s i. refl }
 
-alike_trans : (t u v : Term) → IsAlike t u → IsAlike u v → IsAlike t v
+alike_trans : (t u v : ExprModel) → IsAlike t u → IsAlike u v → IsAlike t v
 alike_trans t u v h k = record {
   width = λ f. k.width (h.fits f) ∙ h.width f;
   fits = λ f. k.fits (h.fits f);
@@ -28,56 +28,56 @@ alike_trans t u v h k = record {
 
 -- ---- inside operators
 
-alike_read : (space : Space) (a b : Term) (w : ℕ) → IsAlike a b → IsAlike (read space a w) (read space b w)
+alike_read : (space : Space) (a b : ExprModel) (w : ℕ) → IsAlike a b → IsAlike (read space a w) (read space b w)
 alike_read space a b w h = record {
   width = λ f. refl;
   fits = λ f. (h.fits f.0, f.1);
   same = λ f s i. ap (slice_index (held s space)) (h.same f.0 s i);
 }
 
-alike_un : (o : Op1) (a b : Term) → IsAlike a b → IsAlike (un o a) (un o b)
+alike_un : (o : Op1) (a b : ExprModel) → IsAlike a b → IsAlike (un o a) (un o b)
 alike_un o a b h = record {
   width = λ f. h.width f;
   fits = λ f. h.fits f;
   same = λ f s i. (λ j. apply1_of o (h.width f j) (h.same f s i j));
 }
 
-alike_slice : (a b : Term) (hi lo : ℕ) → IsAlike a b → IsAlike (slice a hi lo) (slice b hi lo)
+alike_slice : (a b : ExprModel) (hi lo : ℕ) → IsAlike a b → IsAlike (slice a hi lo) (slice b hi lo)
 alike_slice a b hi lo h = record {
   width = λ f. refl;
   fits = λ f. (h.fits f.0, (f.1.0, subst (λ n. hi < n) (sym (h.width f.0)) f.1.1));
   same = λ f s i. ap (λ n. slice_of n hi lo) (h.same f.0 s i);
 }
 
-alike_zext : (a b : Term) (w : ℕ) → IsAlike a b → IsAlike (zext a w) (zext b w)
+alike_zext : (a b : ExprModel) (w : ℕ) → IsAlike a b → IsAlike (zext a w) (zext b w)
 alike_zext a b w h = record {
   width = λ f. refl;
   fits = λ f. (h.fits f.0, (subst (λ n. n < w) (sym (h.width f.0)) f.1.0, f.1.1));
   same = λ f s i. h.same f.0 s i;
 }
 
-alike_sext : (a b : Term) (w : ℕ) → IsAlike a b → IsAlike (sext a w) (sext b w)
+alike_sext : (a b : ExprModel) (w : ℕ) → IsAlike a b → IsAlike (sext a w) (sext b w)
 alike_sext a b w h = record {
   width = λ f. refl;
   fits = λ f. (h.fits f.0, (subst (λ n. n < w) (sym (h.width f.0)) f.1.0, f.1.1));
   same = λ f s i. (λ j. sext_of (h.same f.0 s i j) (h.width f.0 j) w);
 }
 
-alike_bin : (o : Op2) (a b c d : Term) → IsAlike a c → IsAlike b d → IsAlike (bin o a b) (bin o c d)
+alike_bin : (o : Op2) (a b c d : ExprModel) → IsAlike a c → IsAlike b d → IsAlike (bin o a b) (bin o c d)
 alike_bin o a b c d h k = record {
   width = λ f. ap (result_width o) (h.width f.0);
   fits = λ f. (h.fits f.0, k.fits f.1, k.width f.1 ∙ f.2 ∙ sym (h.width f.0));
   same = λ f s i. (λ j. apply2_of o (h.width f.0 j) (h.same f.0 s i j) (k.same f.1 s i j));
 }
 
-alike_cat : (a b c d : Term) → IsAlike a c → IsAlike b d → IsAlike (cat a b) (cat c d)
+alike_cat : (a b c d : ExprModel) → IsAlike a c → IsAlike b d → IsAlike (cat a b) (cat c d)
 alike_cat a b c d h k = record {
   width = λ f. (λ j. h.width f.0 j + k.width f.1 j);
   fits = λ f. (h.fits f.0, k.fits f.1, (let x = h.width f.0 in let y = k.width f.1 in let z = f.2 in omega (arith, x, y, z)));
   same = λ f s i. (λ j. cat_of (h.same f.0 s i j) (k.same f.1 s i j) (k.width f.1 j));
 }
 
-alike_select : (a b c d e g : Term) → IsAlike a d → IsAlike b e → IsAlike c g → IsAlike (select a b c) (select d e g)
+alike_select : (a b c d e g : ExprModel) → IsAlike a d → IsAlike b e → IsAlike c g → IsAlike (select a b c) (select d e g)
 alike_select a b c d e g h k l = record {
   width = λ f. k.width f.1;
   fits = λ f. (h.fits f.0, k.fits f.1, l.fits f.2, (h.width f.0 ∙ f.3.0, l.width f.2 ∙ f.3.1 ∙ sym (k.width f.1)));
@@ -111,16 +111,16 @@ apply_comm Sar c w a b = absurd (true≢false (sym c))
 apply_comm Ltu c w a b = absurd (true≢false (sym c))
 apply_comm Lts c w a b = absurd (true≢false (sym c))
 
-turn_alike : (o : Op2) (a b : Term) → can_swap o ≡ true → IsAlike (bin o a b) (bin o b a)
+turn_alike : (o : Op2) (a b : ExprModel) → can_swap o ≡ true → IsAlike (bin o a b) (bin o b a)
 turn_alike o a b c = record {
   width = λ f. ap (result_width o) f.2;
   fits = λ f. (f.1, f.0, sym f.2);
-  same = λ f s i. ap (λ w. apply2_of o w (mean b s i) (mean a s i)) f.2 ∙ apply_comm o c (term_width a) (mean a s i) (mean b s i);
+  same = λ f s i. ap (λ w. apply2_of o w (mean b s i) (mean a s i)) f.2 ∙ apply_comm o c (expr_width a) (mean a s i) (mean b s i);
 }
 
 -- ---- at chosen operators
 
-pub at_alike : (chosen : Path → Bool) (t : Term) → IsAlike t (swap_at chosen t)
+pub at_alike : (chosen : Path → Bool) (t : ExprModel) → IsAlike t (swap_at chosen t)
 at_alike chosen (word w) = alike_refl (word w)
 at_alike chosen (reg r w) = alike_refl (reg r w)
 at_alike chosen (const w v) = alike_refl (const w v)
@@ -132,10 +132,10 @@ at_alike chosen (sext a w) = alike_sext a _ w (at_alike (λ path. chosen (0 ∷ 
 at_alike chosen (bin o a b) =
     by (swaps_here o a b) (chosen []) refl (alike_bin o a b c d (at_alike (λ path. chosen (0 ∷ path)) a) (at_alike (λ path. chosen (1 ∷ path)) b))
   where
-    c : Term
+    c : ExprModel
     c = swap_at (λ path. chosen (0 ∷ path)) a
 
-    d : Term
+    d : ExprModel
     d = swap_at (λ path. chosen (1 ∷ path)) b
 
     by : (can is : Bool) → swaps_here o a b ≡ can → IsAlike (bin o a b) (bin o c d) → IsAlike (bin o a b) (ordered (can && is) o c d)
@@ -146,12 +146,12 @@ at_alike chosen (cat a b) = alike_cat a b _ _ (at_alike (λ path. chosen (0 ∷ 
 at_alike chosen (select c a b) =
     alike_select c a b _ _ _ (at_alike (λ path. chosen (0 ∷ path)) c) (at_alike (λ path. chosen (1 ∷ path)) a) (at_alike (λ path. chosen (2 ∷ path)) b)
 
-addr_alike : (chosen : Path → Bool) (a : Option Term) → IsAddrAlike a (option_map (swap_at chosen) a)
+addr_alike : (chosen : Path → Bool) (a : Option ExprModel) → IsAddrAlike a (option_map (swap_at chosen) a)
 addr_alike chosen None = tt
 addr_alike chosen (Some a) = at_alike chosen a
 
 -- no choice of swaps changes an address or a value
-pub swapped_alike : (choice : ℕ) (sides : Sides) → AreAlike sides (swapped choice sides)
+pub swapped_alike : (choice : ℕ) (sides : SidesModel) → AreAlike sides (swapped choice sides)
 swapped_alike choice sides = record {
   addr = addr_alike (λ path. picks choice (swap_paths sides) (0 ∷ path)) sides.addr;
   value = at_alike (λ path. picks choice (swap_paths sides) (1 ∷ path)) sides.value;

@@ -9,8 +9,8 @@ use Rattle.std.proofs.lemmas.Nat.Bits.{bit_at_lowest}
 use Rattle.std.specs.List.{AllByRecursion}
 use Rattle.rec_bits.proofs.Lists.{all_append, all_weaker}
 use Rattle.rec_bits.specs.declared.operator.Op2.{Op2}
-use Rattle.net_model.specs.Terms.{Term, word, reg, const, read, un, bin, slice, cat, zext, sext, select}
-use Rattle.form_set.specs.Swaps.{Path, Sides, addr_paths, at_level, level_paths, levels, operator_paths, ordered, paths_from, picks, same_path, swap_at, swap_count, swapped, swaps_here, under}
+use Rattle.net_model.specs.Exprs.{ExprModel, word, reg, const, read, un, bin, slice, cat, zext, sext, select}
+use Rattle.form_set.specs.Swaps.{Path, SidesModel, addr_paths, at_level, level_paths, levels, operator_paths, ordered, paths_from, picks, same_path, swap_at, swap_count, swapped, swaps_here, under}
 use Rattle.form_set.proofs.SumSwaps.{here_stays}
 use Rattle.form_set.specs.Inner.LevelSwaps.{addr_swaps, left_behind, left_levels, left_of, root_swaps, swap_level, swap_levels, swaps_of}
 
@@ -127,7 +127,7 @@ root_passes : (can : Bool) (choice : ℕ) → (if can then choice / 2 else choic
 root_passes true choice = refl
 root_passes false choice = refl
 
-level_left : (level choice : ℕ) (t : Term) → left_of level choice t ≡ left_behind choice (level_paths level t)
+level_left : (level choice : ℕ) (t : ExprModel) → left_of level choice t ≡ left_behind choice (level_paths level t)
 level_left level choice (word w) = refl
 level_left level choice (reg r w) = refl
 level_left level choice (const w v) = refl
@@ -150,14 +150,14 @@ level_left level choice (select c a b) =
 
 -- ---- a level is swapped at its paths
 
-swap_same : (f g : Path → Bool) (t : Term) → ((p : Path) → f p ≡ g p) → swap_at f t ≡ swap_at g t
+swap_same : (f g : Path → Bool) (t : ExprModel) → ((p : Path) → f p ≡ g p) → swap_at f t ≡ swap_at g t
 swap_same f g t h = (λ j. swap_at (λ p. h p j) t)
 
 and_none : (a : Bool) → (a && false) ≡ false
 and_none true = refl
 and_none false = refl
 
-swap_none : (t : Term) → swap_at (λ p. false) t ≡ t
+swap_none : (t : ExprModel) → swap_at (λ p. false) t ≡ t
 swap_none (word w) = refl
 swap_none (reg r w) = refl
 swap_none (const w v) = refl
@@ -170,15 +170,15 @@ swap_none (bin o a b) = (λ j. ordered (and_none (swaps_here o a b) j) o (swap_n
 swap_none (cat a b) = (λ j. cat (swap_none a j) (swap_none b j))
 swap_none (select c a b) = (λ j. select (swap_none c j) (swap_none a j) (swap_none b j))
 
-pub swap_no : (f : Path → Bool) (t : Term) → ((p : Path) → f p ≡ false) → swap_at f t ≡ t
+pub swap_no : (f : Path → Bool) (t : ExprModel) → ((p : Path) → f p ≡ false) → swap_at f t ≡ t
 swap_no f t h = swap_same f (λ p. false) t h ∙ swap_none t
 
-one_swaps : (k : Term → Term) (here : Bool) (choice : ℕ) (ps : List Path) (a x : Term) → x ≡ swap_at (picks choice ps) a
+one_swaps : (k : ExprModel → ExprModel) (here : Bool) (choice : ℕ) (ps : List Path) (a x : ExprModel) → x ≡ swap_at (picks choice ps) a
     → (if here then k a else k x) ≡ k (swap_at (λ p. picks choice (if here then [] else under 0 ps) (0 ∷ p)) a)
 one_swaps k true choice ps a x e = ap k (sym (swap_none a))
 one_swaps k false choice ps a x e = ap k (e ∙ swap_same _ _ a (λ p. sym (picks_under 0 choice ps p)))
 
-bin_swaps : (o : Op2) (here : Bool) (choice : ℕ) (ps qs : List Path) (a b x y : Term)
+bin_swaps : (o : Op2) (here : Bool) (choice : ℕ) (ps qs : List Path) (a b x y : ExprModel)
     → x ≡ swap_at (picks choice ps) a → y ≡ swap_at (picks (left_behind choice ps) qs) b
     → (if here then ordered (swaps_here o a b && bit_at choice 0 == 1) o a b else bin o x y)
     ≡ swap_at (picks choice (if here then (if swaps_here o a b then [] ∷ [] else []) else two ps qs)) (bin o a b)
@@ -198,14 +198,14 @@ bin_swaps o false choice ps qs a b x y d e =
     ∙ (λ j. ordered (sym (ap (λ is. swaps_here o a b && is) (two_root choice ps qs) ∙ and_none (swaps_here o a b)) j) o
     (swap_at (λ p. picks choice (two ps qs) (0 ∷ p)) a) (swap_at (λ p. picks choice (two ps qs) (1 ∷ p)) b))
 
-cat_swaps : (here : Bool) (choice : ℕ) (ps qs : List Path) (a b x y : Term)
+cat_swaps : (here : Bool) (choice : ℕ) (ps qs : List Path) (a b x y : ExprModel)
     → x ≡ swap_at (picks choice ps) a → y ≡ swap_at (picks (left_behind choice ps) qs) b
     → (if here then cat a b else cat x y) ≡ swap_at (picks choice (if here then [] else two ps qs)) (cat a b)
 cat_swaps true choice ps qs a b x y d e = (λ j. cat (sym (swap_none a) j) (sym (swap_none b) j))
 cat_swaps false choice ps qs a b x y d e =
     (λ j. cat ((d ∙ swap_same _ _ a (λ p. sym (two_first choice ps qs p))) j) ((e ∙ swap_same _ _ b (λ p. sym (two_second choice ps qs p))) j))
 
-select_swaps : (here : Bool) (choice : ℕ) (ps qs rs : List Path) (c a b x y z : Term)
+select_swaps : (here : Bool) (choice : ℕ) (ps qs rs : List Path) (c a b x y z : ExprModel)
     → x ≡ swap_at (picks choice ps) c → y ≡ swap_at (picks (left_behind choice ps) qs) a → z ≡ swap_at (picks (left_behind (left_behind choice ps) qs) rs) b
     → (if here then select c a b else select x y z) ≡ swap_at (picks choice (if here then [] else three ps qs rs)) (select c a b)
 select_swaps true choice ps qs rs c a b x y z d e f = (λ j. select (sym (swap_none c) j) (sym (swap_none a) j) (sym (swap_none b) j))
@@ -213,7 +213,7 @@ select_swaps false choice ps qs rs c a b x y z d e f =
     (λ j. select ((d ∙ swap_same _ _ c (λ p. sym (three_first choice ps qs rs p))) j) ((e ∙ swap_same _ _ a (λ p. sym (three_second choice ps qs rs p))) j)
     ((f ∙ swap_same _ _ b (λ p. sym (three_third choice ps qs rs p))) j))
 
-level_swaps : (level choice : ℕ) (t : Term) → swap_level level choice t ≡ swap_at (picks choice (level_paths level t)) t
+level_swaps : (level choice : ℕ) (t : ExprModel) → swap_level level choice t ≡ swap_at (picks choice (level_paths level t)) t
 level_swaps level choice (word w) = refl
 level_swaps level choice (reg r w) = refl
 level_swaps level choice (const w v) = refl
@@ -238,7 +238,7 @@ level_swaps level choice (select c a b) =
 -- ---- one swap after another
 
 -- where no path of the second has one of the first above it, the first may come before
-swap_both : (f g : Path → Bool) (t : Term) → ((p q : Path) → g p ≡ true → f (p ++ q) ≡ false) → swap_at f (swap_at g t) ≡ swap_at (λ p. f p || g p) t
+swap_both : (f g : Path → Bool) (t : ExprModel) → ((p q : Path) → g p ≡ true → f (p ++ q) ≡ false) → swap_at f (swap_at g t) ≡ swap_at (λ p. f p || g p) t
 swap_both f g (word w) h = refl
 swap_both f g (reg r w) h = refl
 swap_both f g (const w v) h = refl
@@ -320,7 +320,7 @@ root_long : (can : Bool) (level : ℕ) → (level == 0) ≡ true → Long level 
 root_long true level e = (sym (eqb-true level 0 e), tt)
 root_long false level e = tt
 
-level_long : (level : ℕ) (t : Term) → Long level (level_paths level t)
+level_long : (level : ℕ) (t : ExprModel) → Long level (level_paths level t)
 level_long level (word w) = tt
 level_long level (reg r w) = tt
 level_long level (const w v) = tt
@@ -338,7 +338,7 @@ level_long level (select c a b) =
     three_long (level == 0) level (level_paths (level - 1) c) (level_paths (level - 1) a) (level_paths (level - 1) b) refl
     (level_long (level - 1) c) (level_long (level - 1) a) (level_long (level - 1) b)
 
-paths_far : (more level : ℕ) (t : Term) → AllByRecursion (λ p. level ≤ length p) (paths_from more level t)
+paths_far : (more level : ℕ) (t : ExprModel) → AllByRecursion (λ p. level ≤ length p) (paths_from more level t)
 paths_far zero level t = tt
 paths_far (suc more) level t =
     all_append (λ p. level ≤ length p) (level_paths level t) (paths_from more (level + 1) t)
@@ -359,14 +359,14 @@ two_stay : (here : Bool) (level : ℕ) (hs ps qs xs ys : List Path) → (level =
 two_stay true level hs ps qs xs ys e h k = refl
 two_stay false level hs ps qs xs ys e h k = (λ j. two (h e j) (k e j))
 
-bin_stays : (level : ℕ) (o : Op2) (a b c d : Term) → swaps_here o c d ≡ swaps_here o a b
+bin_stays : (level : ℕ) (o : Op2) (a b c d : ExprModel) → swaps_here o c d ≡ swaps_here o a b
     → ((level == 0) ≡ false → level_paths (level - 1) c ≡ level_paths (level - 1) a) → ((level == 0) ≡ false → level_paths (level - 1) d ≡ level_paths (level - 1) b)
     → level_paths level (bin o c d) ≡ level_paths level (bin o a b)
 bin_stays level o a b c d e h k =
     ap (λ (can : Bool). if level == 0 then (if can then [] ∷ [] else []) else two (level_paths (level - 1) c) (level_paths (level - 1) d)) e
     ∙ two_stay (level == 0) level (if swaps_here o a b then [] ∷ [] else []) (level_paths (level - 1) c) (level_paths (level - 1) d) (level_paths (level - 1) a) (level_paths (level - 1) b) refl h k
 
-level_stays : (level : ℕ) (f : Path → Bool) (t : Term) → ((p : Path) → length p ≤ level → f p ≡ false) → level_paths level (swap_at f t) ≡ level_paths level t
+level_stays : (level : ℕ) (f : Path → Bool) (t : ExprModel) → ((p : Path) → length p ≤ level → f p ≡ false) → level_paths level (swap_at f t) ≡ level_paths level t
 level_stays level f (word w) h = refl
 level_stays level f (reg r w) h = refl
 level_stays level f (const w v) h = refl
@@ -404,7 +404,7 @@ level_stays level f (select c a b) h =
 
 -- ---- all levels
 
-pub all_left : (more level choice : ℕ) (t : Term) → left_levels more level choice t ≡ left_behind choice (paths_from more level t)
+pub all_left : (more level choice : ℕ) (t : ExprModel) → left_levels more level choice t ≡ left_behind choice (paths_from more level t)
 all_left zero level choice t = refl
 all_left (suc more) level choice t =
     all_left more (level + 1) (left_of level choice t) t ∙ ap (λ k. left_behind k (paths_from more (level + 1) t)) (level_left level choice t)
@@ -413,7 +413,7 @@ all_left (suc more) level choice t =
 not_picked : (choice : ℕ) (ps : List Path) (p : Path) → (picks choice ps p ≡ true → ⊥) → picks choice ps p ≡ false
 not_picked choice ps p h = false_from_ne_true (picks choice ps p) h
 
-pub all_swap : (more level choice : ℕ) (t : Term) → swap_levels more level choice t ≡ swap_at (picks choice (paths_from more level t)) t
+pub all_swap : (more level choice : ℕ) (t : ExprModel) → swap_levels more level choice t ≡ swap_at (picks choice (paths_from more level t)) t
 all_swap zero level choice t = sym (swap_none t)
 all_swap (suc more) level choice t =
     ap (swap_level level choice) (all_swap more (level + 1) rest t) ∙ level_swaps level choice (swap_at below t)
@@ -449,7 +449,7 @@ abbrev total : ℕ → ℕ → (ℕ → ℕ) → ℕ
 total zero level f = 0
 total (suc n) level f = f level + total n (level + 1) f
 
-paths_total : (n level : ℕ) (t : Term) → length (paths_from n level t) ≡ total n level (λ k. length (level_paths k t))
+paths_total : (n level : ℕ) (t : ExprModel) → length (paths_from n level t) ≡ total n level (λ k. length (level_paths k t))
 paths_total zero level t = refl
 paths_total (suc n) level t =
     length-append (level_paths level t) (paths_from n (level + 1) t) ∙ ap (λ m. length (level_paths level t) + m) (paths_total n (level + 1) t)
@@ -476,20 +476,20 @@ up_level k x y = (λ j. if (not_first j) then x else y)
     not_first : (k + 1 == 0) ≡ false
     not_first = false_from_ne_true (k + 1 == 0) (λ e. (let z = eqb-true (k + 1) 0 e in omega (arith, z)))
 
-length_under : (step k : ℕ) (a : Term) → length (under step (level_paths (k + 1 - 1) a)) ≡ length (level_paths k a)
+length_under : (step k : ℕ) (a : ExprModel) → length (under step (level_paths (k + 1 - 1) a)) ≡ length (level_paths k a)
 length_under step k a =
     length-map (level_paths (k + 1 - 1) a) (λ path. step ∷ path) ∙ ap (λ m. length (level_paths m a)) (let e : k + 1 - 1 ≡ k = omega arith in e)
 
-one_up : (k : ℕ) (a : Term) → length (at_level (k + 1) [] (under 0 (level_paths (k + 1 - 1) a))) ≡ length (level_paths k a)
+one_up : (k : ℕ) (a : ExprModel) → length (at_level (k + 1) [] (under 0 (level_paths (k + 1 - 1) a))) ≡ length (level_paths k a)
 one_up k a = ap length (up_level k [] (under 0 (level_paths (k + 1 - 1) a))) ∙ length_under 0 k a
 
-two_up : (k : ℕ) (hs : List Path) (a b : Term)
+two_up : (k : ℕ) (hs : List Path) (a b : ExprModel)
     → length (at_level (k + 1) hs (two (level_paths (k + 1 - 1) a) (level_paths (k + 1 - 1) b))) ≡ length (level_paths k a) + length (level_paths k b)
 two_up k hs a b =
     ap length (up_level k hs (two (level_paths (k + 1 - 1) a) (level_paths (k + 1 - 1) b)))
     ∙ length-append (under 0 (level_paths (k + 1 - 1) a)) (under 1 (level_paths (k + 1 - 1) b)) ∙ (λ j. length_under 0 k a j + length_under 1 k b j)
 
-three_up : (k : ℕ) (c a b : Term)
+three_up : (k : ℕ) (c a b : ExprModel)
     → length (at_level (k + 1) [] (three (level_paths (k + 1 - 1) c) (level_paths (k + 1 - 1) a) (level_paths (k + 1 - 1) b)))
     ≡ length (level_paths k c) + (length (level_paths k a) + length (level_paths k b))
 three_up k c a b =
@@ -497,18 +497,18 @@ three_up k c a b =
     ∙ length-append (under 0 (level_paths (k + 1 - 1) c)) (under 1 (level_paths (k + 1 - 1) a) ++ under 2 (level_paths (k + 1 - 1) b))
     ∙ (λ j. length_under 0 k c j + (length-append (under 1 (level_paths (k + 1 - 1) a)) (under 2 (level_paths (k + 1 - 1) b)) ∙ (λ i. length_under 1 k a i + length_under 2 k b i)) j)
 
-one_total : (n m : ℕ) (c : ℕ → ℕ) (a : Term) → levels a + 1 ≤ n → c 0 ≡ 0 → ((k : ℕ) → c (k + 1) ≡ length (level_paths k a))
+one_total : (n m : ℕ) (c : ℕ → ℕ) (a : ExprModel) → levels a + 1 ≤ n → c 0 ≡ 0 → ((k : ℕ) → c (k + 1) ≡ length (level_paths k a))
     → ((x : ℕ) → levels a ≤ x → total x 0 (λ k. length (level_paths k a)) ≡ m) → total n 0 c ≡ m
 one_total n m c a h z e f = (let s = step_total n c (λ k. length (level_paths k a)) (levels a) m h e f in omega (arith, s, z))
 
-root_count : (o : Op2) (a b : Term) → length {A = Path} (if swaps_here o a b then [] ∷ [] else []) ≡ root_swaps (bin o a b)
+root_count : (o : Op2) (a b : ExprModel) → length {A = Path} (if swaps_here o a b then [] ∷ [] else []) ≡ root_swaps (bin o a b)
 root_count o a b = by (swaps_here o a b)
   where
     by : (can : Bool) → length {A = Path} (if can then [] ∷ [] else []) ≡ (if can then 1 else 0)
     by true = refl
     by false = refl
 
-levels_count : (t : Term) (n : ℕ) → levels t ≤ n → total n 0 (λ k. length (level_paths k t)) ≡ swaps_of t
+levels_count : (t : ExprModel) (n : ℕ) → levels t ≤ n → total n 0 (λ k. length (level_paths k t)) ≡ swaps_of t
 levels_count (word w) n h = total_none n 0
 levels_count (reg r w) n h = total_none n 0
 levels_count (const w v) n h = total_none n 0
@@ -535,14 +535,14 @@ levels_count (select c a b) n h =
     + (total_add x 0 (λ k. length (level_paths k a)) (λ k. length (level_paths k b)) ∙ (λ i. levels_count a x (omega (arith, l)) i + levels_count b x (omega (arith, l)) i)) j))
     in omega (arith, s))
 
-paths_count : (t : Term) → length (operator_paths t) ≡ swaps_of t
+paths_count : (t : ExprModel) → length (operator_paths t) ≡ swaps_of t
 paths_count t = paths_total (levels t) 0 t ∙ levels_count t (levels t) (omega arith)
 
-addr_count : (a : Option Term) → length (addr_paths a) ≡ addr_swaps a
+addr_count : (a : Option ExprModel) → length (addr_paths a) ≡ addr_swaps a
 addr_count None = refl
 addr_count (Some a) = paths_count a
 
-pub sides_count : (sides : Sides) → swap_count sides ≡ min 8 (addr_swaps sides.addr + swaps_of sides.value)
+pub sides_count : (sides : SidesModel) → swap_count sides ≡ min 8 (addr_swaps sides.addr + swaps_of sides.value)
 sides_count sides =
     length-take 8 (under 0 (addr_paths sides.addr) ++ under 1 (operator_paths sides.value))
     ∙ ap (min 8) (length-append (under 0 (addr_paths sides.addr)) (under 1 (operator_paths sides.value))
@@ -571,7 +571,7 @@ picks_take (suc n) choice (first ∷ rest) p =
     low = bit_at_lowest choice ∙ (let s = split in omega (arith, s)) ∙ sym (bit_at_lowest (choice % 2 ^ suc n))
 
 -- the swaps of the address by the lowest bits, and those of the value by what they leave
-pub sides_swap : (choice : ℕ) (sides new : Sides)
+pub sides_swap : (choice : ℕ) (sides new : SidesModel)
     → new.addr ≡ option_map (swap_at (picks (choice % 256) (addr_paths sides.addr))) sides.addr
     → new.value ≡ swap_at (picks (left_behind (choice % 256) (addr_paths sides.addr)) (operator_paths sides.value)) sides.value
     → new ≡ swapped choice sides
@@ -589,6 +589,6 @@ sides_swap choice sides new a v = (λ j. record { addr = (a ∙ addr_is sides.ad
     value_at : (p : Path) → picks choice (take 8 (two ps qs)) (1 ∷ p) ≡ picks (left_behind (choice % 256) ps) qs p
     value_at p = picks_take 8 choice (two ps qs) (1 ∷ p) ∙ two_second (choice % 256) ps qs p
 
-    addr_is : (o : Option Term) → option_map (swap_at (picks (choice % 256) ps)) o ≡ option_map (swap_at (λ p. picks choice (take 8 (two ps qs)) (0 ∷ p))) o
+    addr_is : (o : Option ExprModel) → option_map (swap_at (picks (choice % 256) ps)) o ≡ option_map (swap_at (λ p. picks choice (take 8 (two ps qs)) (0 ∷ p))) o
     addr_is None = refl
     addr_is (Some t) = (λ j. Some (swap_same (picks (choice % 256) ps) (λ p. picks choice (take 8 (two ps qs)) (0 ∷ p)) t (λ p. sym (addr_at p)) j))

@@ -1,4 +1,5 @@
--- What the forms of a netlist promise, as statements.
+-- What the forms of a netlist promise, as statements: what a form of the list is, words of a plain
+-- form, expressions of one width and one meaning, when a list has no form of a kind.
 use Rattle.std.specs.Prelude.{◌≡◌, ◌≢◌, ◌↔◌, ℕ, ◌^◌, ◌<◌, true, bit_and, List, Some, slice_get}
 use Rattle.std.specs.Int.{bit_at}
 use Rattle.net_model.specs.declared.hardware.Netlist.{Netlist}
@@ -8,28 +9,28 @@ use Rattle.net_model.specs.Fields.{fields}
 use Rattle.net_model.specs.Meaning.{mean}
 use Rattle.net_model.specs.Nets.{IsRegister, counter_of, place_in, word_width}
 use Rattle.net_model.specs.Patterns.{Pattern}
-use Rattle.net_model.specs.Terms.{Term}
-use Rattle.form_model.specs.Rules.{Rule}
+use Rattle.net_model.specs.Exprs.{ExprModel}
+use Rattle.form_model.specs.Forms.{FormModel}
 use Rattle.form_model.specs.Shapes.{IsReach, ShapeFits, is_shape, reach_of, shape_setting}
-use Rattle.sym_expr.specs.Pools.{TermFits}
-use Rattle.transfer_set.specs.TextMarks.{IsTermOf}
+use Rattle.sym_expr.specs.Pools.{ExprFits}
+use Rattle.transfer_set.specs.TextMarks.{IsExprOf}
 use Rattle.form_set.specs.Listing.{AreForms, IsJump, IsPlain}
 use Rattle.form_set.specs.Promises.{AreAlike, HasWords, IsForm, no_jumps, only_control}
-use Rattle.form_set.specs.Swaps.{Sides, swapped}
+use Rattle.form_set.specs.Swaps.{SidesModel, swapped}
 use Rattle.form_set.specs.Words.{AreClobbers}
 
 -- patterns have one list of forms, and one greatest reach
 abbrev pub FormsAreOne : Type 0
 FormsAreOne =
-    (netlist : Netlist) (patterns : List Pattern) (rules others : List Rule) (reach other : ℕ) →
+    (netlist : Netlist) (patterns : List Pattern) (rules others : List FormModel) (reach other : ℕ) →
     AreForms netlist patterns rules reach → AreForms netlist patterns others other → (rules ≡ others) × (reach ≡ other)
 
 -- each form of the list is that of the pattern whose number it has, plain, a jump or a branch
 abbrev pub FormsAreOfPatterns : Type 0
 FormsAreOfPatterns =
-    (netlist : Netlist) (patterns : List Pattern) (rules : List Rule) (reach : ℕ) →
+    (netlist : Netlist) (patterns : List Pattern) (rules : List FormModel) (reach : ℕ) →
     AreForms netlist patterns rules reach →
-    (k : ℕ) (rule : Rule) → slice_get rules k ≡ Some rule → IsForm netlist reach 0 patterns rule
+    (k : ℕ) (rule : FormModel) → slice_get rules k ≡ Some rule → IsForm netlist reach 0 patterns rule
 
 -- for every setting of a plain pattern some word does its transfer, steps, and changes nothing that
 -- code sees but what it writes and the clobbers
@@ -53,12 +54,12 @@ ClobbersHaveCounter =
 
 -- no choice of swaps changes the width or the meaning of an address or a value
 abbrev pub SwapsChangeNothing : Type 0
-SwapsChangeNothing = (choice : ℕ) (sides : Sides) → AreAlike sides (swapped choice sides)
+SwapsChangeNothing = (choice : ℕ) (sides : SidesModel) → AreAlike sides (swapped choice sides)
 
 -- a list has no form but jumps and branches exactly where no pattern is plain
 abbrev pub NoPlainForm : Type 0
 NoPlainForm =
-    (netlist : Netlist) (patterns : List Pattern) (rules : List Rule) (reach : ℕ) →
+    (netlist : Netlist) (patterns : List Pattern) (rules : List FormModel) (reach : ℕ) →
     AreForms netlist patterns rules reach →
     (only_control rules ≡ true)
     ↔ ((k : ℕ) (pattern : Pattern) → slice_get patterns k ≡ Some pattern → IsPlain netlist pattern → ⊥)
@@ -66,7 +67,7 @@ NoPlainForm =
 -- and no jump form exactly where no pattern is a jump
 abbrev pub NoJumpForm : Type 0
 NoJumpForm =
-    (netlist : Netlist) (patterns : List Pattern) (rules : List Rule) (reach : ℕ) →
+    (netlist : Netlist) (patterns : List Pattern) (rules : List FormModel) (reach : ℕ) →
     AreForms netlist patterns rules reach →
     (no_jumps rules ≡ true)
     ↔ ((k : ℕ) (pattern : Pattern) → slice_get patterns k ≡ Some pattern → IsJump netlist pattern → ⊥)
@@ -75,7 +76,7 @@ NoJumpForm =
 -- the value
 abbrev pub SettingsAreOfShapes : Type 0
 SettingsAreOfShapes =
-    (bits : ℕ) (shape : Term) → is_shape shape ≡ true → ShapeFits bits shape → (value setting : ℕ) →
+    (bits : ℕ) (shape : ExprModel) → is_shape shape ≡ true → ShapeFits bits shape → (value setting : ℕ) →
     shape_setting shape value ≡ Some setting →
     (bit_and setting (fields shape) ≡ setting)
     × ((s : State) (word : ℕ) → word < 2 ^ bits → bit_and word (fields shape) ≡ setting → mean shape s word ≡ value)
@@ -84,5 +85,5 @@ SettingsAreOfShapes =
 abbrev pub ReachIsExact : Type 0
 ReachIsExact =
     (netlist : Netlist) (pattern : Pattern) (h : IsJump netlist pattern) →
-    IsTermOf netlist h.target → TermFits h.target →
+    IsExprOf netlist h.target → ExprFits h.target →
     IsReach (word_width netlist) h.target (reach_of h.target)

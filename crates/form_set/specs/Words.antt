@@ -1,4 +1,10 @@
--- The words that do a pattern's transfer and leave other storages alone.
+-- The words that do a pattern's transfer and leave other storages alone. A setting is a choice of
+-- values for instruction bits. Words of a pattern that step, and keep the data memory and the
+-- register file, unless that is what the pattern writes, and these registers; `CanKeep`, every
+-- setting has one; `CanJump`, every setting has a word that keeps the data memory; `CanTurn`, one
+-- that keeps the mode, too. The registers that are kept, taken in order of declaration, each where
+-- every setting still has a word; the clobbers are what the pattern writes and the registers that
+-- aren't kept. Of single words all of it: no diagram occurs in a definition.
 use Rattle.std.specs.Prelude.{◌≡◌, ◌≢◌, ◌↔◌, ℕ, zero, suc, ◌^◌, ◌<◌, Bool, true, false, if◌then◌else◌, bit_and, bit_or, bit_xor, List, length, Option, Some, None, slice_get}
 use Rattle.std.specs.Int.{bit_at}
 use Rattle.bit_bdd.specs.Diagrams.{Diagrams, has_word}
@@ -8,9 +14,9 @@ use Rattle.net_model.specs.declared.hardware.Storage.{Storage}
 use Rattle.net_model.specs.declared.hardware.Storage.TheVariants.{Register, Memory, File}
 use Rattle.net_model.specs.Nets.{IsRegister, memory_id, place_in}
 use Rattle.net_model.specs.Patterns.{IsWordOf, Pattern}
-use Rattle.net_model.specs.Terms.{keep}
-use Rattle.net_model.specs.Transfers.{Steps, memory_move, move_at, space_move}
-use Rattle.net_model.specs.Fields.{move_fields}
+use Rattle.net_model.specs.Exprs.{keep}
+use Rattle.net_model.specs.Transfers.{Steps, memory_transfer, transfer_at, space_transfer}
+use Rattle.net_model.specs.Fields.{transfer_fields}
 use Rattle.form_set.specs.Static.{is_file_at}
 
 -- ---- settings
@@ -31,32 +37,32 @@ ForEachSetting fields P =
 pub record KeepsOthers (netlist : Netlist) (pattern : Pattern) (kept : ℕ) (word : ℕ) : Type 0 where
   pub given : IsWordOf netlist pattern word
   pub steps : Steps netlist word
-  pub memory : pattern.storage ≢ memory_id netlist.storages → memory_move netlist word ≡ keep
-  pub file : pattern.storage ≢ place_in InFile netlist.storages → space_move netlist InFile word ≡ keep
-  pub registers : (r : ℕ) → bit_at kept r ≡ 1 → move_at netlist word r ≡ keep
+  pub memory : pattern.storage ≢ memory_id netlist.storages → memory_transfer netlist word ≡ keep
+  pub file : pattern.storage ≢ place_in InFile netlist.storages → space_transfer netlist InFile word ≡ keep
+  pub registers : (r : ℕ) → bit_at kept r ≡ 1 → transfer_at netlist word r ≡ keep
 
 -- for every setting there is such a word
 abbrev pub CanKeep : Netlist → Pattern → ℕ → Type 0
-CanKeep netlist pattern kept = ForEachSetting (move_fields pattern.move) (KeepsOthers netlist pattern kept)
+CanKeep netlist pattern kept = ForEachSetting (transfer_fields pattern.move) (KeepsOthers netlist pattern kept)
 
 -- the word is in the pattern's set and keeps the data memory
 pub record WordKeepsMemory (netlist : Netlist) (pattern : Pattern) (word : ℕ) : Type 0 where
   pub given : IsWordOf netlist pattern word
-  pub memory : memory_move netlist word ≡ keep
+  pub memory : memory_transfer netlist word ≡ keep
 
 -- what a jump or a branch asks for
 abbrev pub CanJump : Netlist → Pattern → Type 0
-CanJump netlist pattern = ForEachSetting (move_fields pattern.move) (WordKeepsMemory netlist pattern)
+CanJump netlist pattern = ForEachSetting (transfer_fields pattern.move) (WordKeepsMemory netlist pattern)
 
 -- the word is in the pattern's set and keeps the data memory and one register, the mode
 pub record WordKeepsBoth (netlist : Netlist) (pattern : Pattern) (mode : ℕ) (word : ℕ) : Type 0 where
   pub given : IsWordOf netlist pattern word
-  pub memory : memory_move netlist word ≡ keep
-  pub special : move_at netlist word mode ≡ keep
+  pub memory : memory_transfer netlist word ≡ keep
+  pub special : transfer_at netlist word mode ≡ keep
 
 -- what a jump or a branch asks for that keeps the mode
 abbrev pub CanTurn : Netlist → Pattern → ℕ → Type 0
-CanTurn netlist pattern mode = ForEachSetting (move_fields pattern.move) (WordKeepsBoth netlist pattern mode)
+CanTurn netlist pattern mode = ForEachSetting (transfer_fields pattern.move) (WordKeepsBoth netlist pattern mode)
 
 abbrev pub TurnsAt : Netlist → Option Pattern → ℕ → Type 0
 TurnsAt netlist None mode = ⊥

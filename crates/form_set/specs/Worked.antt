@@ -2,69 +2,69 @@
 use Rattle.std.specs.Prelude.{◌≡◌, refl, true, false, [], ◌∷◌, Some, None}
 use Rattle.rec_bits.specs.declared.operator.Op2.TheVariants.{Add, Sub, Mul, And, Or, Xor, Eq, Ltu}
 use Rattle.net_model.specs.declared.hardware.Space.TheVariants.{Memory as InMemory, File as InFile}
-use Rattle.net_model.specs.Terms.{Term, word, reg, const, read, bin, slice, zext, select, write, write_at}
+use Rattle.net_model.specs.Exprs.{ExprModel, word, reg, const, read, bin, slice, zext, select, write, write_at}
 use Rattle.net_model.specs.Worked.{a16, z16}
-use Rattle.form_model.specs.Rules.{absolute, branches, into_memory, into_reg}
-use Rattle.form_set.specs.Inner.Linear.{move_linear}
-use Rattle.form_set.specs.Static.{move_shaped, move_shown}
-use Rattle.form_set.specs.Swaps.{operator_paths, same_path, swap_at, swap_count, swap_paths, swapped, Sides}
-use Rattle.form_set.specs.Targets.{term_branch}
+use Rattle.form_model.specs.Forms.{absolute, branches, into_memory, into_reg}
+use Rattle.form_set.specs.Inner.Linear.{transfer_linear}
+use Rattle.form_set.specs.Static.{transfer_shaped, transfer_shown}
+use Rattle.form_set.specs.Swaps.{operator_paths, same_path, swap_at, swap_count, swap_paths, swapped, SidesModel}
+use Rattle.form_set.specs.Targets.{expr_branch}
 use Rattle.form_set.specs.Tied.{counted, tied_of}
 use Rattle.form_set.specs.Words.{all_registers}
-use Rattle.form_set.specs.Listing.{branch_rules, counter_at, greatest_reach, jump_rule, plain_rules}
+use Rattle.form_set.specs.Listing.{branch_form_models, counter_at, greatest_reach, jump_form_model, plain_form_models}
 
-abbrev f : Term
+abbrev f : ExprModel
 f = slice (word 12) 7 0
 
-abbrev step : Term
+abbrev step : ExprModel
 step = bin Add (reg 0 8) (const 8 1)
 
-abbrev acc : Term
+abbrev acc : ExprModel
 acc = reg 1 16
 
 -- the patterns of A16 in their order: PC := add(PC,1#8), PC := select(eq(ACC,0#16),f,add(PC,1#8)),
 -- PC := f, ACC := add(ACC,read(M,f)), ACC := read(M,f), ACC := sub(ACC,read(M,f)), ACC :=
 -- zext(f,16), M[f] := ACC
-abbrev branch_value : Term
+abbrev branch_value : ExprModel
 branch_value = select (bin Eq acc (const 16 0)) f step
 
 -- the branch of A16: PC occurs twice in it, and is free
-a16_linear : move_linear 0 (write (bin Add acc (read InMemory f 16))) ≡ true
+a16_linear : transfer_linear 0 (write (bin Add acc (read InMemory f 16))) ≡ true
 a16_linear = refl
 
-a16_twice : move_linear 0 (write (bin Add acc acc)) ≡ false
+a16_twice : transfer_linear 0 (write (bin Add acc acc)) ≡ false
 a16_twice = refl
 
-a16_bits : move_linear 0 (write_at f (bin Add acc (zext f 16))) ≡ false
+a16_bits : transfer_linear 0 (write_at f (bin Add acc (zext f 16))) ≡ false
 a16_bits = refl
 
-a16_branch : move_linear 1 (write branch_value) ≡ true
+a16_branch : transfer_linear 1 (write branch_value) ≡ true
 a16_branch = refl
 
 -- PC is no more than the step
-a16_branch_bits : move_linear 1 (write (select (bin Eq acc (zext f 16)) f step)) ≡ false
+a16_branch_bits : transfer_linear 1 (write (select (bin Eq acc (zext f 16)) f step)) ≡ false
 a16_branch_bits = refl
 
-a16_shaped : move_shaped 1 (write_at f acc) ≡ true
+a16_shaped : transfer_shaped 1 (write_at f acc) ≡ true
 a16_shaped = refl
 
 -- an operator over instruction bits is no field shape
-a16_unshaped : move_shaped 1 (write (bin Add acc (bin Add (zext f 16) (const 16 1)))) ≡ false
+a16_unshaped : transfer_shaped 1 (write (bin Add acc (bin Add (zext f 16) (const 16 1)))) ≡ false
 a16_unshaped = refl
 
-a16_reach : greatest_reach (jump_rule a16 2 f 255 ∷ []) ≡ 256
+a16_reach : greatest_reach (jump_form_model a16 2 f 255 ∷ []) ≡ 256
 a16_reach = refl
 
-a16_test : term_branch 1 (counter_at a16) 256 branch_value
+a16_test : expr_branch 1 (counter_at a16) 256 branch_value
     ≡ Some (record { when_one = true; test = bin Eq acc (const 16 0); to = absolute f })
 a16_test = refl
 
 -- a target that reaches less
-a16_near : term_branch 1 (counter_at a16) 257 branch_value ≡ None
+a16_near : expr_branch 1 (counter_at a16) 257 branch_value ≡ None
 a16_near = refl
 
 -- the other way round
-a16_other : term_branch 1 (counter_at a16) 256 (select (bin Eq acc (const 16 0)) step f)
+a16_other : expr_branch 1 (counter_at a16) 256 (select (bin Eq acc (const 16 0)) step f)
     ≡ Some (record { when_one = false; test = bin Eq acc (const 16 0); to = absolute f })
 a16_other = refl
 
@@ -75,7 +75,7 @@ z16_registers : all_registers z16.storages ≡ 7
 z16_registers = refl
 
 -- pattern 3 of A16 has two forms, in this order
-a16_sums : plain_rules a16 3 (record { storage = 1; move = write (bin Add acc (read InMemory f 16)) }) 3
+a16_sums : plain_form_models a16 3 (record { storage = 1; move = write (bin Add acc (read InMemory f 16)) }) 3
     ≡ record {
       pattern = 3;
       goal = into_reg 1;
@@ -97,12 +97,12 @@ a16_sums : plain_rules a16 3 (record { storage = 1; move = write (bin Add acc (r
     ∷ []
 a16_sums = refl
 
-a16_store : plain_rules a16 7 (record { storage = 2; move = write_at f acc }) 5
+a16_store : plain_form_models a16 7 (record { storage = 2; move = write_at f acc }) 5
     ≡ record { pattern = 7; goal = into_memory; addr = Some f; value = acc; fields = 255; clobbers = 5; tied = None } ∷ []
 a16_store = refl
 
 -- pattern 1 of A16 has two forms, and its step stays as it is
-a16_branches : branch_rules a16 1 (record { storage = 0; move = write branch_value })
+a16_branches : branch_form_models a16 1 (record { storage = 0; move = write branch_value })
     (record { when_one = true; test = bin Eq acc (const 16 0); to = absolute f })
     ≡ record {
       pattern = 1;
@@ -128,7 +128,7 @@ a16_branches = refl
 -- ---- the operators that can be swapped
 
 -- a sum in a sum: the outer one is operator 0
-abbrev sums : Term
+abbrev sums : ExprModel
 sums = bin Add (bin Add (reg 1 4) (reg 2 4)) (reg 3 4)
 
 sums_paths : operator_paths sums ≡ [] ∷ (0 ∷ []) ∷ []
@@ -145,7 +145,7 @@ sums_both = refl
 
 -- by levels: the product at the root is 0, the two sums below are 1 and 2, and the product below
 -- the second sum is 3
-abbrev deep : Term
+abbrev deep : ExprModel
 deep = bin Mul (bin Add (reg 1 4) (reg 2 4)) (bin Add (bin Mul (reg 3 4) (reg 4 4)) (reg 5 4))
 
 deep_paths : operator_paths deep ≡ [] ∷ (0 ∷ []) ∷ (1 ∷ []) ∷ (1 ∷ 0 ∷ []) ∷ []
@@ -163,7 +163,7 @@ deep_swapped : swapped 11 (record { addr = None; value = deep })
 deep_swapped = refl
 
 -- operators that have no other order have no number, and those in them do
-abbrev others : Term
+abbrev others : ExprModel
 others = select (bin Ltu (reg 1 4) (bin Xor (reg 2 4) (reg 3 4))) (bin Sub (bin And (reg 1 4) (reg 2 4)) (reg 3 4))
     (bin Or (reg 4 4) (reg 5 4))
 
@@ -179,7 +179,7 @@ others_swapped : swapped 5 (record { addr = None; value = others })
 others_swapped = refl
 
 -- operators of the address come first, also those below the root of the value
-abbrev both : Sides
+abbrev both : SidesModel
 both = record { addr = Some (bin Add (reg 1 4) (bin Mul (reg 2 4) (reg 3 4))); value = bin Add (reg 4 4) (reg 5 4) }
 
 both_paths : swap_paths both ≡ (0 ∷ []) ∷ (0 ∷ 1 ∷ []) ∷ (1 ∷ []) ∷ []
@@ -190,13 +190,13 @@ both_swapped : swapped 5 both
 both_swapped = refl
 
 -- a ninth operator keeps its operands in their order
-abbrev sum : Term → Term
+abbrev sum : ExprModel → ExprModel
 sum t = bin Add t (reg 1 4)
 
 nine_count : swap_count (record { addr = None; value = sum (sum (sum (sum (sum (sum (sum (sum (sum (reg 2 4))))))))) }) ≡ 8
 nine_count = refl
 
-abbrev turned : Term → Term
+abbrev turned : ExprModel → ExprModel
 turned t = bin Add (reg 1 4) t
 
 nine_swapped : swapped 511 (record { addr = None; value = sum (sum (sum (sum (sum (sum (sum (sum (sum (reg 2 4))))))))) })
@@ -209,23 +209,23 @@ ninth_swapped = refl
 
 -- ---- transfers of a register file of four cells, in words of 17 bits
 
-abbrev d : Term
+abbrev d : ExprModel
 d = slice (word 17) 9 8
 
-abbrev a : Term
+abbrev a : ExprModel
 a = slice (word 17) 11 10
 
-abbrev b : Term
+abbrev b : ExprModel
 b = slice (word 17) 13 12
 
-abbrev cell_at : Term → Term
+abbrev cell_at : ExprModel → ExprModel
 cell_at at = read InFile at 16
 
-abbrev sum_at : Term → Sides
+abbrev sum_at : ExprModel → SidesModel
 sum_at at = record { addr = Some at; value = bin Add (cell_at a) (cell_at b) }
 
 -- three addresses of their own
-sum_apart : move_linear 0 (counted true (write_at d (bin Add (cell_at a) (cell_at b)))) ≡ true
+sum_apart : transfer_linear 0 (counted true (write_at d (bin Add (cell_at a) (cell_at b)))) ≡ true
 sum_apart = refl
 
 sum_untied : tied_of true (sum_at d) ≡ None
@@ -235,7 +235,7 @@ sum_untied = refl
 sum_first : tied_of true (sum_at a) ≡ Some 0
 sum_first = refl
 
-sum_linear : move_linear 0 (counted true (write_at a (bin Add (cell_at a) (cell_at b)))) ≡ true
+sum_linear : transfer_linear 0 (counted true (write_at a (bin Add (cell_at a) (cell_at b)))) ≡ true
 sum_linear = refl
 
 -- with its operands swapped it is the second one
@@ -243,30 +243,30 @@ sum_swapped : tied_of true (swapped 1 (sum_at a)) ≡ Some 1
 sum_swapped = refl
 
 -- both can't be
-both_tied : move_linear 0 (counted true (write_at a (bin Add (cell_at a) (cell_at a)))) ≡ false
+both_tied : transfer_linear 0 (counted true (write_at a (bin Add (cell_at a) (cell_at a)))) ≡ false
 both_tied = refl
 
 -- what writes the memory has no tied read
-stored_at : move_linear 0 (counted false (write_at a (cell_at a))) ≡ false
+stored_at : transfer_linear 0 (counted false (write_at a (cell_at a))) ≡ false
 stored_at = refl
 
 -- addresses of two bits show four cells, and not five
-sum_shown : move_shown true 4 (write_at d (bin Add (cell_at a) (cell_at b))) ≡ true
+sum_shown : transfer_shown true 4 (write_at d (bin Add (cell_at a) (cell_at b))) ≡ true
 sum_shown = refl
 
-sum_hidden : move_shown true 5 (write_at d (bin Add (cell_at a) (cell_at b))) ≡ false
+sum_hidden : transfer_shown true 5 (write_at d (bin Add (cell_at a) (cell_at b))) ≡ false
 sum_hidden = refl
 
 -- ---- sums as field shapes
 
-abbrev next_cell : Term
+abbrev next_cell : ExprModel
 next_cell = bin Add d (const 2 1)
 
 -- from edition 2 on
-next_shaped : move_shaped 2 (write_at d (cell_at next_cell)) ≡ true
+next_shaped : transfer_shaped 2 (write_at d (cell_at next_cell)) ≡ true
 next_shaped = refl
 
-next_unshaped : move_shaped 1 (write_at d (cell_at next_cell)) ≡ false
+next_unshaped : transfer_shaped 1 (write_at d (cell_at next_cell)) ≡ false
 next_unshaped = refl
 
 -- its operator isn't swapped

@@ -4,9 +4,9 @@ ghost use Rattle.std.specs.Prelude.{◌≡◌, ◌<◌, ◌≤◌, ◌&&◌, tru
 ghost use Rattle.form_model.specs.Shapes.{is_shape_in, shows};
 ghost use Rattle.form_set.specs.Inner.Copies.{AreBranchIds, id_target, ids_branch};
 ghost use Rattle.form_set.specs.Listing.{counter_at};
-ghost use Rattle.form_set.specs.Targets.{allowed_target, branch_if, relative_target, select_branch, term_branch};
-ghost use Rattle.net_model.specs.Terms.{term_width};
-ghost use Rattle.sym_expr.specs.Pools.{term_at};
+ghost use Rattle.form_set.specs.Targets.{allowed_target, branch_if, relative_target, select_branch, expr_branch};
+ghost use Rattle.net_model.specs.Exprs.{expr_width};
+ghost use Rattle.sym_expr.specs.Pools.{expr_of_id};
 ghost use Rattle.transfer_set.specs.Stepping.{is_next};
 
 use crate::shapes::{is_shape_in, shape_reach, shape_shows};
@@ -33,8 +33,8 @@ pub(crate) struct BranchIds {
 // Whether an expression is a distance that is used.
 fn is_distance(pool: &Pool, edition: u8, expr: ExprId) -> bool
     requires within { expr < length pool.now }
-    requires narrow { term_width (term_at pool.now expr) ≤ 16 }
-    ensures { result ≡ (is_shape_in edition (term_at pool.now expr) && shows (term_at pool.now expr) 2) }
+    requires narrow { expr_width (expr_of_id pool.now expr) ≤ 16 }
+    ensures { result ≡ (is_shape_in edition (expr_of_id pool.now expr) && shows (expr_of_id pool.now expr) 2) }
 {
     if is_shape_in(pool, edition, expr) {
         shape_shows(pool, expr, 2)
@@ -46,9 +46,9 @@ fn is_distance(pool: &Pool, edition: u8, expr: ExprId) -> bool
 // The distance of a relative target.
 fn distance_at(pool: &Pool, edition: u8, counter: Counter, expr: ExprId) -> Option<TargetId>
     requires within { expr < length pool.now }
-    requires narrow { term_width (term_at pool.now expr) ≤ 16 }
+    requires narrow { expr_width (expr_of_id pool.now expr) ≤ 16 }
     ensures known { IfSome result (λ target. target.expr < length pool.now) }
-    ensures target { option_map (id_target pool.now) result ≡ relative_target edition counter (term_at pool.now expr) }
+    ensures target { option_map (id_target pool.now) result ≡ relative_target edition counter (expr_of_id pool.now expr) }
 {
     match pool.node(expr) {
         Node::Bin(Op2::Add, a, b) => {
@@ -79,9 +79,9 @@ fn target_at(
     expr: ExprId,
 ) -> Option<TargetId>
     requires within { expr < length pool.now }
-    requires narrow { term_width (term_at pool.now expr) ≤ 16 }
+    requires narrow { expr_width (expr_of_id pool.now expr) ≤ 16 }
     ensures known { IfSome result (λ target. target.expr < length pool.now) }
-    ensures target { option_map (id_target pool.now) result ≡ allowed_target edition counter reach (term_at pool.now expr) }
+    ensures target { option_map (id_target pool.now) result ≡ allowed_target edition counter reach (expr_of_id pool.now expr) }
 {
     if is_shape_in(pool, edition, expr) && reach <= shape_reach(pool, expr) {
         Some(TargetId {
@@ -108,11 +108,11 @@ fn branch_to(
     requires test { test < length pool.now }
     requires to { to < length pool.now }
     requires step { step < length pool.now }
-    requires narrow { term_width (term_at pool.now to) ≤ 16 }
+    requires narrow { expr_width (expr_of_id pool.now to) ≤ 16 }
     ensures known { IfSome result (AreBranchIds (length pool.now)) }
     ensures branch { option_map (ids_branch pool.now) result
-        ≡ branch_if (is_next counter (term_at pool.now step)) when_one (term_at pool.now test)
-        (allowed_target edition counter reach (term_at pool.now to)) }
+        ≡ branch_if (is_next counter (expr_of_id pool.now step)) when_one (expr_of_id pool.now test)
+        (allowed_target edition counter reach (expr_of_id pool.now to)) }
 {
     if !is_step(pool, step, counter) {
         return None;
@@ -139,11 +139,11 @@ fn choice_at(
     requires test { test < length pool.now }
     requires first { a < length pool.now }
     requires second { b < length pool.now }
-    requires narrow_first { term_width (term_at pool.now a) ≤ 16 }
-    requires narrow_second { term_width (term_at pool.now b) ≤ 16 }
+    requires narrow_first { expr_width (expr_of_id pool.now a) ≤ 16 }
+    requires narrow_second { expr_width (expr_of_id pool.now b) ≤ 16 }
     ensures known { IfSome result (AreBranchIds (length pool.now)) }
     ensures branch { option_map (ids_branch pool.now) result
-        ≡ select_branch edition counter reach (term_at pool.now test) (term_at pool.now a) (term_at pool.now b) }
+        ≡ select_branch edition counter reach (expr_of_id pool.now test) (expr_of_id pool.now a) (expr_of_id pool.now b) }
 {
     match branch_to(pool, edition, counter, reach, true, test, a, b) {
         Some(branch) => Some(branch),
@@ -159,10 +159,10 @@ pub(crate) fn branch_at(
     value: ExprId,
 ) -> Option<BranchIds>
     requires within { value < length pool.now }
-    requires narrow { term_width (term_at pool.now value) ≤ 16 }
+    requires narrow { expr_width (expr_of_id pool.now value) ≤ 16 }
     ensures known { IfSome result (AreBranchIds (length pool.now)) }
     ensures branch { option_map (ids_branch pool.now) result
-        ≡ term_branch checked.now.netlist.edition (counter_at checked.now.netlist) reach (term_at pool.now value) }
+        ≡ expr_branch checked.now.netlist.edition (counter_at checked.now.netlist) reach (expr_of_id pool.now value) }
 {
     let edition = checked.netlist().edition;
     let counter = Counter::of(checked);

@@ -8,8 +8,8 @@ ghost use Rattle.form_set.specs.Listing.{IsJump, IsPlain};
 ghost use Rattle.form_set.specs.Inner.PatternIds.{ArePatternIds, ids_pattern};
 ghost use Rattle.transfer_set.specs.Ready.{IsReady};
 ghost use Rattle.form_set.specs.Words.{AreClobbers};
-ghost use Rattle.transfer_set.specs.Entries.{IsAddrKnown, ids_move};
-ghost use Rattle.transfer_set.specs.TextMarks.{IsMoveOf};
+ghost use Rattle.transfer_set.specs.Entries.{IsAddrKnown, ids_transfer};
+ghost use Rattle.transfer_set.specs.TextMarks.{IsTransferOf};
 
 use crate::branches::{BranchIds, branch_at};
 use crate::linear::{move_linear, one};
@@ -37,7 +37,7 @@ pub(crate) enum Class {
 fn is_apt(checked: &Checked, pool: &Pool, ids: PatternIds) -> bool
     requires addr { IsAddrKnown (length pool.now) ids.addr }
     requires value { ids.value < length pool.now }
-    requires terms { IsMoveOf checked.now.netlist (ids_move pool.now ids.addr ids.value) }
+    requires terms { IsTransferOf checked.now.netlist (ids_transfer pool.now ids.addr ids.value) }
     ensures { IsTrue result ↔ IsApt checked.now.netlist (ids_pattern pool.now ids) }
 {
     let filed = is_file(checked, ids.storage);

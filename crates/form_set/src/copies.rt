@@ -1,10 +1,10 @@
 //! Expressions of a pool as values of their own.
 
 ghost use Rattle.std.specs.Prelude.{◌≡◌, ◌-◌, ◌^◌, ◌<◌, ◌≤◌, length, IfOk, option_map};
-ghost use Rattle.form_set.specs.Inner.Copies.{ids_sides, copied_sides};
+ghost use Rattle.form_set.specs.Inner.Copies.{ids_sides, model_of_sides};
 ghost use Rattle.form_set.specs.Swaps.{SidesWithin, IsAddrWithin, levels, swap_count as swap_count_of, swapped};
-ghost use Rattle.net_model.specs.Terms.{term_of};
-ghost use Rattle.sym_expr.specs.Pools.{term_at};
+ghost use Rattle.net_model.specs.Exprs.{model_of_expr};
+ghost use Rattle.sym_expr.specs.Pools.{expr_of_id};
 ghost use Rattle.transfer_set.specs.Entries.{IsAddrKnown};
 
 use crate::swaps::{Sides, swap_count, swap_sides};
@@ -16,8 +16,8 @@ use sym_expr::{ExprId, Pool};
 // The expression of an id.
 pub(crate) fn expr_at(alloc: Global, pool: &Pool, expr: ExprId) -> Result<Expr, NoMemory>
     requires { expr < length pool.now }
-    ensures copy { IfOk result (λ copy. term_of copy ≡ term_at pool.now expr) }
-    ensures levels { IfOk result (λ copy. levels (term_of copy) ≤ 2 ^ 64 - 1) }
+    ensures copy { IfOk result (λ copy. model_of_expr copy ≡ expr_of_id pool.now expr) }
+    ensures levels { IfOk result (λ copy. levels (model_of_expr copy) ≤ 2 ^ 64 - 1) }
 {
     // the pool's length bounds the levels of its expressions
     let _len = pool.len();
@@ -27,8 +27,8 @@ pub(crate) fn expr_at(alloc: Global, pool: &Pool, expr: ExprId) -> Result<Expr, 
 // The address of a transfer, where it has one.
 fn addr_at(alloc: Global, pool: &Pool, addr: Option<ExprId>) -> Result<Option<Expr>, NoMemory>
     requires { IsAddrKnown (length pool.now) addr }
-    ensures copy { IfOk result (λ copy. option_map term_of copy ≡ option_map (term_at pool.now) addr) }
-    ensures levels { IfOk result (λ copy. IsAddrWithin (2 ^ 64 - 1) (option_map term_of copy)) }
+    ensures copy { IfOk result (λ copy. option_map model_of_expr copy ≡ option_map (expr_of_id pool.now) addr) }
+    ensures levels { IfOk result (λ copy. IsAddrWithin (2 ^ 64 - 1) (option_map model_of_expr copy)) }
 {
     match addr {
         Some(addr) => {
@@ -48,8 +48,8 @@ pub(crate) fn sides_at(
 ) -> Result<Sides, NoMemory>
     requires addr { IsAddrKnown (length pool.now) addr }
     requires value { value < length pool.now }
-    ensures sides { IfOk result (λ sides. copied_sides sides ≡ ids_sides pool.now addr value) }
-    ensures levels { IfOk result (λ sides. SidesWithin (2 ^ 64 - 1) (copied_sides sides)) }
+    ensures sides { IfOk result (λ sides. model_of_sides sides ≡ ids_sides pool.now addr value) }
+    ensures levels { IfOk result (λ sides. SidesWithin (2 ^ 64 - 1) (model_of_sides sides)) }
 {
     let addr = addr_at(alloc, pool, addr)?;
     let value = expr_at(alloc, pool, value)?;
@@ -83,7 +83,7 @@ pub(crate) fn swapped_at(
 ) -> Result<Sides, NoMemory>
     requires addr { IsAddrKnown (length pool.now) addr }
     requires value { value < length pool.now }
-    ensures { IfOk result (λ sides. copied_sides sides ≡ swapped choice (ids_sides pool.now addr value)) }
+    ensures { IfOk result (λ sides. model_of_sides sides ≡ swapped choice (ids_sides pool.now addr value)) }
 {
     let mut sides = sides_at(alloc, pool, addr, value)?;
     swap_sides(&mut sides, choice);

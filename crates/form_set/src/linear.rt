@@ -1,12 +1,12 @@
 //! Whether a register or an instruction bit occurs twice in an expression.
 
 ghost use Rattle.std.specs.Prelude.{◌≡◌, ◌↔◌, ◌^◌, ◌<◌, IsTrue, is_some, length};
-ghost use Rattle.form_set.specs.Inner.Linear.{are_apart as are_apart_of, is_linear as is_linear_of, meet_in as meet_in_of, move_linear as move_linear_of};
+ghost use Rattle.form_set.specs.Inner.Linear.{are_apart as are_apart_of, is_linear as is_linear_of, meet_in as meet_in_of, transfer_linear as move_linear_of};
 ghost use Rattle.form_set.specs.Tied.{counted, tied_place};
 ghost use Rattle.net_model.specs.Occurs.{IsLinear, registers as registers_in};
-ghost use Rattle.sym_expr.specs.Pools.{term_at};
-ghost use Rattle.transfer_set.specs.Entries.{IsAddrKnown, ids_move};
-ghost use Rattle.transfer_set.specs.TextMarks.{IsMoveOf, IsTermOf};
+ghost use Rattle.sym_expr.specs.Pools.{expr_of_id};
+ghost use Rattle.transfer_set.specs.Entries.{IsAddrKnown, ids_transfer};
+ghost use Rattle.transfer_set.specs.TextMarks.{IsTransferOf, IsExprOf};
 
 use net_model::Checked;
 use sym_expr::{ExprId, Node, Pool};
@@ -23,8 +23,8 @@ pub(crate) fn one(id: u32) -> u16
 // The registers that occur in an expression, one bit for each.
 fn registers(checked: &Checked, pool: &Pool, expr: ExprId) -> u16
     requires within { expr < length pool.now }
-    requires terms { IsTermOf checked.now.netlist (term_at pool.now expr) }
-    ensures { result ≡ registers_in (term_at pool.now expr) }
+    requires terms { IsExprOf checked.now.netlist (expr_of_id pool.now expr) }
+    ensures { result ≡ registers_in (expr_of_id pool.now expr) }
 {
     // a checked netlist has few storages
     let _netlist = checked.netlist();
@@ -57,9 +57,9 @@ fn meet_in(set: u64, a: u64, b: u64) -> bool
 fn are_apart(checked: &Checked, pool: &Pool, free: u16, a: ExprId, b: ExprId) -> bool
     requires first { a < length pool.now }
     requires second { b < length pool.now }
-    requires first_terms { IsTermOf checked.now.netlist (term_at pool.now a) }
-    requires second_terms { IsTermOf checked.now.netlist (term_at pool.now b) }
-    ensures { result ≡ are_apart_of free (term_at pool.now a) (term_at pool.now b) }
+    requires first_terms { IsExprOf checked.now.netlist (expr_of_id pool.now a) }
+    requires second_terms { IsExprOf checked.now.netlist (expr_of_id pool.now b) }
+    ensures { result ≡ are_apart_of free (expr_of_id pool.now a) (expr_of_id pool.now b) }
 {
     let here = u64::from(registers(checked, pool, a));
     let there = u64::from(registers(checked, pool, b));
@@ -69,8 +69,8 @@ fn are_apart(checked: &Checked, pool: &Pool, free: u16, a: ExprId, b: ExprId) ->
 // Whether no register but the free ones and no instruction bit occurs twice in an expression.
 fn is_linear(checked: &Checked, pool: &Pool, free: u16, expr: ExprId) -> bool
     requires within { expr < length pool.now }
-    requires terms { IsTermOf checked.now.netlist (term_at pool.now expr) }
-    ensures { result ≡ is_linear_of free (term_at pool.now expr) }
+    requires terms { IsExprOf checked.now.netlist (expr_of_id pool.now expr) }
+    ensures { result ≡ is_linear_of free (expr_of_id pool.now expr) }
 {
     match pool.node(expr) {
         Node::Word(..) | Node::Reg(..) | Node::Const { .. } => true,
@@ -97,7 +97,7 @@ fn is_linear(checked: &Checked, pool: &Pool, free: u16, expr: ExprId) -> bool
 fn reads_at(pool: &Pool, addr: ExprId, expr: ExprId) -> bool
     requires addr { addr < length pool.now }
     requires expr { expr < length pool.now }
-    ensures { result ≡ is_some (tied_place (term_at pool.now addr) (term_at pool.now expr)) }
+    ensures { result ≡ is_some (tied_place (expr_of_id pool.now addr) (expr_of_id pool.now expr)) }
 {
     // of what is in a pool, expressions are equal exactly where their ids are
     let _len = pool.len();
@@ -130,8 +130,8 @@ fn are_linear(
 ) -> bool
     requires addr { IsAddrKnown (length pool.now) addr }
     requires value { value < length pool.now }
-    requires terms { IsMoveOf checked.now.netlist (ids_move pool.now addr value) }
-    ensures { result ≡ move_linear_of free (counted filed (ids_move pool.now addr value)) }
+    requires terms { IsTransferOf checked.now.netlist (ids_transfer pool.now addr value) }
+    ensures { result ≡ move_linear_of free (counted filed (ids_transfer pool.now addr value)) }
 {
     match addr {
         None => is_linear(checked, pool, free, value),
@@ -158,8 +158,8 @@ pub(crate) fn move_linear(
 ) -> bool
     requires addr { IsAddrKnown (length pool.now) addr }
     requires value { value < length pool.now }
-    requires terms { IsMoveOf checked.now.netlist (ids_move pool.now addr value) }
-    ensures { IsTrue result ↔ IsLinear free (counted filed (ids_move pool.now addr value)) }
+    requires terms { IsTransferOf checked.now.netlist (ids_transfer pool.now addr value) }
+    ensures { IsTrue result ↔ IsLinear free (counted filed (ids_transfer pool.now addr value)) }
 {
     let linear = are_linear(checked, pool, free, filed, addr, value);
     linear

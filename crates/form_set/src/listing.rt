@@ -2,9 +2,9 @@
 
 ghost use Rattle.std.specs.Prelude.{◌≡◌, ◌<◌, length, max, slice_get, Some, IfOk, OnOk};
 ghost use Rattle.bit_bdd.specs.Diagrams.{Extends};
-ghost use Rattle.form_model.specs.Rules.{rules_of};
+ghost use Rattle.form_model.specs.Forms.{models_of_forms};
 ghost use Rattle.form_set.specs.Inner.Adding.{HasAdded, IsGreatestReach, IsReachOf};
-ghost use Rattle.form_set.specs.Listing.{AreForms, AreRules};
+ghost use Rattle.form_set.specs.Listing.{AreForms, AreFormModels};
 ghost use Rattle.form_set.specs.Inner.PatternIds.{ArePatternIds, ids_pattern};
 ghost use Rattle.transfer_set.specs.Ready.{IsReady};
 ghost use Rattle.net_model.specs.declared.hardware.Space.TheVariants.{File as InFile};
@@ -90,7 +90,7 @@ fn add_pattern(
     requires ids { ArePatternIds checked.now.netlist book.old pool.now ids }
     ensures grows { Extends book.old book.new }
     ensures added { OnOk result (HasAdded checked.now.netlist reach number
-        (ids_pattern pool.now ids) (rules_of list.old.items) (rules_of list.new.items)) }
+        (ids_pattern pool.now ids) (models_of_forms list.old.items) (models_of_forms list.new.items)) }
 {
     let class = classify(alloc, checked, pool, patterns, book, ids, reach)?;
     add_class(alloc, checked, pool, book, list, reach, number, ids, class)?;
@@ -112,7 +112,7 @@ fn add_number(
     ensures grows { Extends book.old book.new }
     ensures added { OnOk result ((pattern : ThePattern) →
         slice_get (row_patterns pool.now patterns.now.rows) number ≡ Some pattern →
-        HasAdded checked.now.netlist reach number pattern (rules_of list.old.items) (rules_of list.new.items)) }
+        HasAdded checked.now.netlist reach number pattern (models_of_forms list.old.items) (models_of_forms list.new.items)) }
 {
     match known_ids(checked, pool, patterns, book, number) {
         None => Ok(()),
@@ -137,7 +137,7 @@ fn list_of(
     requires ready { IsReady checked.now.netlist book.old pool.now patterns.now }
     ensures grows { Extends book.old book.new }
     ensures list { IfOk result (λ list.
-        AreRules checked.now.netlist reach 0 (row_patterns pool.now patterns.now.rows) (rules_of list.items)) }
+        AreFormModels checked.now.netlist reach 0 (row_patterns pool.now patterns.now.rows) (models_of_forms list.items)) }
 {
     let mut list = Vec::new(alloc);
     for number in 0..patterns.len() {
@@ -176,7 +176,7 @@ pub fn forms(
     ensures grows { Extends book.old book.new }
     ensures ready { IsReady checked.now.netlist book.new pool.now patterns.now }
     ensures forms { IfOk result (λ forms. AreForms checked.now.netlist
-        (row_patterns pool.now patterns.now.rows) (rules_of forms.list.items) forms.reach) }
+        (row_patterns pool.now patterns.now.rows) (models_of_forms forms.list.items) forms.reach) }
     ensures file { IfOk result (λ forms. forms.file ≡ size_in InFile checked.now.netlist.storages) }
 {
     // the rules of the netlist say which registers its expressions name

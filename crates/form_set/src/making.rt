@@ -1,16 +1,16 @@
 //! Forms, made of patterns.
 
 ghost use Rattle.std.specs.Prelude.{◌≡◌, ◌<◌, ◌≤◌, ◌++◌, ◌==◌, true, None, length, IfOk, OnOk};
-ghost use Rattle.form_model.specs.Rules.{branch_target_of, kind_of, rule_of, rules_of};
+ghost use Rattle.form_model.specs.Forms.{model_of_target, model_of_goal, model_of_form, models_of_forms};
 ghost use Rattle.form_model.specs.Shapes.{is_shape as is_shape_of};
 ghost use Rattle.form_set.specs.Inner.Adding.{HasAdded, IsClass};
 ghost use Rattle.form_set.specs.Inner.Copies.{AreBranchIds, id_target, ids_branch};
-ghost use Rattle.form_set.specs.Listing.{branch_rule, branch_rules, goal_at as goal_at_of, jump_rule, plain_rule, plain_rules};
+ghost use Rattle.form_set.specs.Listing.{branch_form_model, branch_form_models, goal_at as goal_at_of, jump_form_model, plain_form_model, plain_form_models};
 ghost use Rattle.form_set.specs.Inner.PatternIds.{IsNarrow, ArePatternIds, ids_pattern};
-ghost use Rattle.net_model.specs.Terms.{term_width};
-ghost use Rattle.sym_expr.specs.Pools.{term_at};
-ghost use Rattle.transfer_set.specs.Entries.{IsAddrKnown, ids_move};
-ghost use Rattle.net_model.specs.Fields.{move_fields};
+ghost use Rattle.net_model.specs.Exprs.{expr_width};
+ghost use Rattle.sym_expr.specs.Pools.{expr_of_id};
+ghost use Rattle.transfer_set.specs.Entries.{IsAddrKnown, ids_transfer};
+ghost use Rattle.net_model.specs.Fields.{transfer_fields};
 
 use crate::branches::{BranchIds, TargetId};
 use crate::classes::Class;
@@ -28,7 +28,7 @@ use sym_expr::Pool;
 
 // What a transfer of a storage goes to.
 fn goal_at(checked: &Checked, storage: u32) -> Goal
-    ensures { kind_of result ≡ goal_at_of checked.now.netlist storage }
+    ensures { model_of_goal result ≡ goal_at_of checked.now.netlist storage }
 {
     if storage == checked.memory() {
         Goal::Memory
@@ -51,9 +51,9 @@ fn plain_form(
 ) -> Result<Form, NoMemory>
     requires addr { IsAddrKnown (length pool.now) ids.addr }
     requires value { ids.value < length pool.now }
-    requires fields { ids.fields ≡ move_fields (ids_move pool.now ids.addr ids.value) }
-    ensures { IfOk result (λ form. rule_of form
-        ≡ plain_rule checked.now.netlist number (ids_pattern pool.now ids) clobbers choice) }
+    requires fields { ids.fields ≡ transfer_fields (ids_transfer pool.now ids.addr ids.value) }
+    ensures { IfOk result (λ form. model_of_form form
+        ≡ plain_form_model checked.now.netlist number (ids_pattern pool.now ids) clobbers choice) }
 {
     let sides = swapped_at(alloc, pool, ids.addr, ids.value, choice)?;
     let tied = tied_of(is_file(checked, ids.storage), &sides)?;
@@ -80,9 +80,9 @@ fn add_plain(
 ) -> Result<(), NoMemory>
     requires addr { IsAddrKnown (length pool.now) ids.addr }
     requires value { ids.value < length pool.now }
-    requires fields { ids.fields ≡ move_fields (ids_move pool.now ids.addr ids.value) }
-    ensures { OnOk result (rules_of list.new.items ≡ rules_of list.old.items
-        ++ plain_rules checked.now.netlist number (ids_pattern pool.now ids) clobbers) }
+    requires fields { ids.fields ≡ transfer_fields (ids_transfer pool.now ids.addr ids.value) }
+    ensures { OnOk result (models_of_forms list.new.items ≡ models_of_forms list.old.items
+        ++ plain_form_models checked.now.netlist number (ids_pattern pool.now ids) clobbers) }
 {
     let count = count_at(alloc, pool, ids.addr, ids.value)?;
     let choices: u16 = 1 << count;
@@ -102,10 +102,10 @@ fn jump_form(
     ids: PatternIds,
 ) -> Result<Form, NoMemory>
     requires value { ids.value < length pool.now }
-    requires narrow { term_width (term_at pool.now ids.value) ≤ 16 }
-    requires shape { is_shape_of (term_at pool.now ids.value) ≡ true }
+    requires narrow { expr_width (expr_of_id pool.now ids.value) ≤ 16 }
+    requires shape { is_shape_of (expr_of_id pool.now ids.value) ≡ true }
     ensures { IfOk result (λ form.
-        rule_of form ≡ jump_rule checked.now.netlist number (term_at pool.now ids.value) ids.fields) }
+        model_of_form form ≡ jump_form_model checked.now.netlist number (expr_of_id pool.now ids.value) ids.fields) }
 {
     let value = expr_at(alloc, pool, ids.value)?;
     Ok(Form {
@@ -124,7 +124,7 @@ fn jump_form(
 // Where a branch goes.
 fn target_of(alloc: Global, pool: &Pool, target: TargetId) -> Result<Target, NoMemory>
     requires { target.expr < length pool.now }
-    ensures { IfOk result (λ made. branch_target_of made ≡ id_target pool.now target) }
+    ensures { IfOk result (λ made. model_of_target made ≡ id_target pool.now target) }
 {
     let expr = expr_at(alloc, pool, target.expr)?;
     if target.relative {
@@ -145,9 +145,9 @@ fn branch_form(
     choice: u16,
 ) -> Result<Form, NoMemory>
     requires parts { AreBranchIds (length pool.now) parts }
-    requires fields { ids.fields ≡ move_fields (ids_move pool.now ids.addr ids.value) }
-    ensures { IfOk result (λ form. rule_of form
-        ≡ branch_rule checked.now.netlist number (ids_pattern pool.now ids) (ids_branch pool.now parts) choice) }
+    requires fields { ids.fields ≡ transfer_fields (ids_transfer pool.now ids.addr ids.value) }
+    ensures { IfOk result (λ form. model_of_form form
+        ≡ branch_form_model checked.now.netlist number (ids_pattern pool.now ids) (ids_branch pool.now parts) choice) }
 {
     let target = target_of(alloc, pool, parts.target)?;
     let sides = swapped_at(alloc, pool, None, parts.test, choice)?;
@@ -176,9 +176,9 @@ fn add_branches(
     parts: BranchIds,
 ) -> Result<(), NoMemory>
     requires parts { AreBranchIds (length pool.now) parts }
-    requires fields { ids.fields ≡ move_fields (ids_move pool.now ids.addr ids.value) }
-    ensures { OnOk result (rules_of list.new.items ≡ rules_of list.old.items
-        ++ branch_rules checked.now.netlist number (ids_pattern pool.now ids) (ids_branch pool.now parts)) }
+    requires fields { ids.fields ≡ transfer_fields (ids_transfer pool.now ids.addr ids.value) }
+    ensures { OnOk result (models_of_forms list.new.items ≡ models_of_forms list.old.items
+        ++ branch_form_models checked.now.netlist number (ids_pattern pool.now ids) (ids_branch pool.now parts)) }
 {
     let count = count_at(alloc, pool, None, parts.test)?;
     let choices: u16 = 1 << count;
@@ -204,7 +204,7 @@ pub(crate) fn add_class(
     requires ids { ArePatternIds checked.now.netlist _book.now pool.now ids }
     requires class { IsClass checked.now.netlist pool.now _reach (ids_pattern pool.now ids) class }
     ensures { OnOk result (HasAdded checked.now.netlist _reach number (ids_pattern pool.now ids)
-        (rules_of list.old.items) (rules_of list.new.items)) }
+        (models_of_forms list.old.items) (models_of_forms list.new.items)) }
 {
     match class {
         Class::Plain(clobbers) => {

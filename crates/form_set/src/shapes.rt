@@ -4,10 +4,10 @@ ghost use Rattle.std.specs.Prelude.{◌≡◌, ◌^◌, ◌%◌, ◌==◌, ◌<�
 ghost use Rattle.rec_bits.specs.Operators.{sext_of};
 ghost use Rattle.form_model.specs.Shapes.{is_field as is_field_of, is_plain as is_plain_of, is_shape as is_shape_of, is_shape_in as is_shape_of_edition, moved_reach, plain_reach, plain_setting, reach_of, shows, shows_below, sum_of, sum_setting, summands as summands_of};
 ghost use Rattle.form_set.specs.Inner.Copies.{IsSumOf, ids_sum};
-ghost use Rattle.form_set.specs.Static.{has_shapes as has_shapes_in, is_static_term as is_settled_of, move_shaped as move_shaped_of, shows_cells as shows_cells_of, reads_shown as reads_shown_of, move_shown as move_shown_of};
-ghost use Rattle.net_model.specs.Terms.{term_width};
-ghost use Rattle.transfer_set.specs.Entries.{IsAddrKnown, ids_move};
-ghost use Rattle.sym_expr.specs.Pools.{term_at};
+ghost use Rattle.form_set.specs.Static.{has_shapes as has_shapes_in, is_static_expr as is_settled_of, transfer_shaped as move_shaped_of, shows_cells as shows_cells_of, reads_shown as reads_shown_of, transfer_shown as move_shown_of};
+ghost use Rattle.net_model.specs.Exprs.{expr_width};
+ghost use Rattle.transfer_set.specs.Entries.{IsAddrKnown, ids_transfer};
+ghost use Rattle.sym_expr.specs.Pools.{expr_of_id};
 
 use rec_bits::{Op2, apply2, sext, slice};
 use sym_expr::{ExprId, Node, Pool};
@@ -17,7 +17,7 @@ use sym_expr::{ExprId, Node, Pool};
 // Whether an expression is the instruction word or a slice of it.
 fn is_field(pool: &Pool, expr: ExprId) -> bool
     requires { expr < length pool.now }
-    ensures { result ≡ is_field_of (term_at pool.now expr) }
+    ensures { result ≡ is_field_of (expr_of_id pool.now expr) }
 {
     match pool.node(expr) {
         Node::Word(_) => true,
@@ -32,7 +32,7 @@ fn is_field(pool: &Pool, expr: ExprId) -> bool
 // Whether an expression is one of these, one of these extended, or a constant.
 fn is_plain(pool: &Pool, expr: ExprId) -> bool
     requires { expr < length pool.now }
-    ensures { result ≡ is_plain_of (term_at pool.now expr) }
+    ensures { result ≡ is_plain_of (expr_of_id pool.now expr) }
 {
     match pool.node(expr) {
         Node::Const { .. } => true,
@@ -58,9 +58,9 @@ struct SumIds {
 fn summands(pool: &Pool, a: ExprId, b: ExprId) -> Option<SumIds>
     requires first { a < length pool.now }
     requires second { b < length pool.now }
-    requires width { term_width (term_at pool.now b) ≡ term_width (term_at pool.now a) }
+    requires width { expr_width (expr_of_id pool.now b) ≡ expr_width (expr_of_id pool.now a) }
     ensures known { IfSome result (IsSumOf pool.now) }
-    ensures sum { option_map (ids_sum pool.now) result ≡ summands_of (term_at pool.now a) (term_at pool.now b) }
+    ensures sum { option_map (ids_sum pool.now) result ≡ summands_of (expr_of_id pool.now a) (expr_of_id pool.now b) }
 {
     match (pool.node(a), pool.node(b)) {
         (Node::Const { width, value }, _) => Some(SumIds {
@@ -81,9 +81,9 @@ fn summands(pool: &Pool, a: ExprId, b: ExprId) -> Option<SumIds>
 fn sum_at(pool: &Pool, op: Op2, a: ExprId, b: ExprId) -> Option<SumIds>
     requires first { a < length pool.now }
     requires second { b < length pool.now }
-    requires width { term_width (term_at pool.now b) ≡ term_width (term_at pool.now a) }
+    requires width { expr_width (expr_of_id pool.now b) ≡ expr_width (expr_of_id pool.now a) }
     ensures known { IfSome result (IsSumOf pool.now) }
-    ensures sum { option_map (ids_sum pool.now) result ≡ sum_of op (term_at pool.now a) (term_at pool.now b) }
+    ensures sum { option_map (ids_sum pool.now) result ≡ sum_of op (expr_of_id pool.now a) (expr_of_id pool.now b) }
 {
     match op {
         Op2::Add => summands(pool, a, b),
@@ -94,7 +94,7 @@ fn sum_at(pool: &Pool, op: Op2, a: ExprId, b: ExprId) -> Option<SumIds>
 // Whether an expression is a field shape.
 fn is_shape(pool: &Pool, expr: ExprId) -> bool
     requires { expr < length pool.now }
-    ensures { result ≡ is_shape_of (term_at pool.now expr) }
+    ensures { result ≡ is_shape_of (expr_of_id pool.now expr) }
 {
     match pool.node(expr) {
         Node::Bin(op, a, b) => match sum_at(pool, op, a, b) {
@@ -108,7 +108,7 @@ fn is_shape(pool: &Pool, expr: ExprId) -> bool
 // Whether an expression is a field shape in texts of an edition.
 pub(crate) fn is_shape_in(pool: &Pool, edition: u8, expr: ExprId) -> bool
     requires { expr < length pool.now }
-    ensures { result ≡ is_shape_of_edition edition (term_at pool.now expr) }
+    ensures { result ≡ is_shape_of_edition edition (expr_of_id pool.now expr) }
 {
     if edition < 2 {
         is_plain(pool, expr)
@@ -120,7 +120,7 @@ pub(crate) fn is_shape_in(pool: &Pool, edition: u8, expr: ExprId) -> bool
 // Whether an expression is one over the instruction word and constants.
 fn is_static(pool: &Pool, expr: ExprId) -> bool
     requires { expr < length pool.now }
-    ensures { result ≡ is_settled_of (term_at pool.now expr) }
+    ensures { result ≡ is_settled_of (expr_of_id pool.now expr) }
 {
     match pool.node(expr) {
         Node::Word(_) | Node::Const { .. } => true,
@@ -139,7 +139,7 @@ fn is_static(pool: &Pool, expr: ExprId) -> bool
 // of an edition.
 pub(crate) fn has_shapes(pool: &Pool, edition: u8, expr: ExprId) -> bool
     requires { expr < length pool.now }
-    ensures { result ≡ has_shapes_in edition (term_at pool.now expr) }
+    ensures { result ≡ has_shapes_in edition (expr_of_id pool.now expr) }
 {
     if is_static(pool, expr) {
         return is_shape_in(pool, edition, expr);
@@ -166,7 +166,7 @@ pub(crate) fn has_shapes(pool: &Pool, edition: u8, expr: ExprId) -> bool
 pub(crate) fn move_shaped(pool: &Pool, edition: u8, addr: Option<ExprId>, value: ExprId) -> bool
     requires addr { IsAddrKnown (length pool.now) addr }
     requires value { value < length pool.now }
-    ensures { result ≡ move_shaped_of edition (ids_move pool.now addr value) }
+    ensures { result ≡ move_shaped_of edition (ids_transfer pool.now addr value) }
 {
     match addr {
         None => has_shapes(pool, edition, value),
@@ -197,8 +197,8 @@ fn is_extension(value: u64, from: u8, to: u8) -> bool
 // Whether some word gives a field shape that is no sum this value.
 fn plain_shows(pool: &Pool, expr: ExprId, value: u64) -> bool
     requires within { expr < length pool.now }
-    requires plain { is_plain_of (term_at pool.now expr) ≡ true }
-    ensures { result ≡ is_some (plain_setting (term_at pool.now expr) value) }
+    requires plain { is_plain_of (expr_of_id pool.now expr) ≡ true }
+    ensures { result ≡ is_some (plain_setting (expr_of_id pool.now expr) value) }
 {
     // the operators of a pool's expressions get what they ask for
     let _len = pool.len();
@@ -213,7 +213,7 @@ fn plain_shows(pool: &Pool, expr: ExprId, value: u64) -> bool
 // Whether some word gives a sum this value: what the constant is added to then has the rest.
 fn sum_shows(pool: &Pool, sum: SumIds, value: u64) -> bool
     requires within { sum.to < length pool.now }
-    requires plain { is_plain_of (term_at pool.now sum.to) ≡ true }
+    requires plain { is_plain_of (expr_of_id pool.now sum.to) ≡ true }
     requires low { 1 ≤ sum.width }
     requires high { sum.width ≤ 64 }
     requires added { sum.added < 2 ^ sum.width }
@@ -226,8 +226,8 @@ fn sum_shows(pool: &Pool, sum: SumIds, value: u64) -> bool
 // Whether some word gives a field shape this value.
 pub(crate) fn shape_shows(pool: &Pool, expr: ExprId, value: u64) -> bool
     requires within { expr < length pool.now }
-    requires shape { is_shape_of (term_at pool.now expr) ≡ true }
-    ensures { result ≡ shows (term_at pool.now expr) value }
+    requires shape { is_shape_of (expr_of_id pool.now expr) ≡ true }
+    ensures { result ≡ shows (expr_of_id pool.now expr) value }
 {
     // the operators of a pool's expressions get what they ask for
     let _len = pool.len();
@@ -243,8 +243,8 @@ pub(crate) fn shape_shows(pool: &Pool, expr: ExprId, value: u64) -> bool
 // The least number that a field shape of few bits doesn't show, which is no sum.
 fn plain_least(pool: &Pool, expr: ExprId) -> u64
     requires within { expr < length pool.now }
-    requires narrow { term_width (term_at pool.now expr) ≤ 16 }
-    ensures { result ≡ plain_reach (term_at pool.now expr) }
+    requires narrow { expr_width (expr_of_id pool.now expr) ≤ 16 }
+    ensures { result ≡ plain_reach (expr_of_id pool.now expr) }
 {
     let width = pool.width(expr);
     match pool.node(expr) {
@@ -259,9 +259,9 @@ fn plain_least(pool: &Pool, expr: ExprId) -> u64
 // begins at 0.
 fn moved_least(pool: &Pool, sum: SumIds) -> u64
     requires within { sum.to < length pool.now }
-    requires narrow { term_width (term_at pool.now sum.to) ≤ 16 }
-    requires added { sum.added < 2 ^ term_width (term_at pool.now sum.to) }
-    ensures { result ≡ moved_reach sum.added (term_at pool.now sum.to) }
+    requires narrow { expr_width (expr_of_id pool.now sum.to) ≤ 16 }
+    requires added { sum.added < 2 ^ expr_width (expr_of_id pool.now sum.to) }
+    ensures { result ≡ moved_reach sum.added (expr_of_id pool.now sum.to) }
 {
     let past: u64 = 1 << pool.width(sum.to);
     match pool.node(sum.to) {
@@ -295,9 +295,9 @@ fn moved_least(pool: &Pool, sum: SumIds) -> u64
 // The least number that a field shape of few bits doesn't show.
 pub(crate) fn shape_reach(pool: &Pool, expr: ExprId) -> u64
     requires within { expr < length pool.now }
-    requires narrow { term_width (term_at pool.now expr) ≤ 16 }
-    requires shape { is_shape_of (term_at pool.now expr) ≡ true }
-    ensures { result ≡ reach_of (term_at pool.now expr) }
+    requires narrow { expr_width (expr_of_id pool.now expr) ≤ 16 }
+    requires shape { is_shape_of (expr_of_id pool.now expr) ≡ true }
+    ensures { result ≡ reach_of (expr_of_id pool.now expr) }
 {
     // the operators of a pool's expressions get what they ask for
     let _len = pool.len();
@@ -315,8 +315,8 @@ pub(crate) fn shape_reach(pool: &Pool, expr: ExprId) -> u64
 // Whether a field shape shows each number below this one.
 fn shows_each(pool: &Pool, expr: ExprId, count: u32) -> bool
     requires within { expr < length pool.now }
-    requires shape { is_shape_of (term_at pool.now expr) ≡ true }
-    ensures { result ≡ shows_below (term_at pool.now expr) count }
+    requires shape { is_shape_of (expr_of_id pool.now expr) ≡ true }
+    ensures { result ≡ shows_below (expr_of_id pool.now expr) count }
 {
     for value in 0..count {
         if !shape_shows(pool, expr, u64::from(value)) {
@@ -329,7 +329,7 @@ fn shows_each(pool: &Pool, expr: ExprId, count: u32) -> bool
 // Whether an address is a field shape that shows each of so many cells.
 fn shows_cells(pool: &Pool, size: u32, addr: ExprId) -> bool
     requires { addr < length pool.now }
-    ensures { result ≡ shows_cells_of size (term_at pool.now addr) }
+    ensures { result ≡ shows_cells_of size (expr_of_id pool.now addr) }
 {
     is_shape(pool, addr) && shows_each(pool, addr, size)
 }
@@ -337,7 +337,7 @@ fn shows_cells(pool: &Pool, size: u32, addr: ExprId) -> bool
 // Whether the address of each read of the file in an expression is one.
 pub(crate) fn reads_shown(pool: &Pool, size: u32, expr: ExprId) -> bool
     requires { expr < length pool.now }
-    ensures { result ≡ reads_shown_of size (term_at pool.now expr) }
+    ensures { result ≡ reads_shown_of size (expr_of_id pool.now expr) }
 {
     match pool.node(expr) {
         Node::Word(_) | Node::Const { .. } | Node::Reg(..) => true,
@@ -367,7 +367,7 @@ pub(crate) fn move_shown(
 ) -> bool
     requires addr { IsAddrKnown (length pool.now) addr }
     requires value { value < length pool.now }
-    ensures { result ≡ move_shown_of filed size (ids_move pool.now addr value) }
+    ensures { result ≡ move_shown_of filed size (ids_transfer pool.now addr value) }
 {
     match addr {
         None => reads_shown(pool, size, value),

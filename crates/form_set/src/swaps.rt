@@ -1,11 +1,11 @@
 //! The operators of an expression that can be swapped, by their numbers.
 
 ghost use Rattle.std.specs.Prelude.{◌≡◌, ◌+◌, ◌-◌, ◌^◌, ◌<◌, ◌≤◌, true, min, option_map};
-ghost use Rattle.form_set.specs.Inner.Copies.{copied_sides};
+ghost use Rattle.form_set.specs.Inner.Copies.{model_of_sides};
 ghost use Rattle.form_set.specs.Swaps.{SidesWithin, IsAddrWithin, addr_paths, can_swap as can_swap_of, levels as levels_of, operator_paths, picks, swap_at, swap_count as swap_count_of, swapped, swaps_here as swaps_here_of};
 ghost use Rattle.form_set.specs.Inner.LevelSwaps.{addr_swaps as addr_swaps_of, left_behind, left_levels, left_of as left_of_term, swap_level as swap_level_of, swap_levels as swap_levels_of, swaps_of as swaps_of_term};
 ghost use Rattle.form_model.specs.Shapes.{is_field as is_field_of, is_plain as is_plain_of, is_plain_sum, sum_with, summands};
-ghost use Rattle.net_model.specs.Terms.{term_of, term_width};
+ghost use Rattle.net_model.specs.Exprs.{model_of_expr, expr_width};
 
 use net_model::Expr;
 use rec_bits::Op2;
@@ -22,7 +22,7 @@ fn can_swap(op: Op2) -> bool
 
 // Whether an expression is the instruction word or a slice of it.
 fn is_field(expr: &Expr) -> bool
-    ensures { result ≡ is_field_of (term_of expr.now) }
+    ensures { result ≡ is_field_of (model_of_expr expr.now) }
 {
     match expr {
         Expr::Word(_) => true,
@@ -36,7 +36,7 @@ fn is_field(expr: &Expr) -> bool
 
 // Whether an expression is one of these, one of these extended, or a constant.
 fn is_plain(expr: &Expr) -> bool
-    ensures { result ≡ is_plain_of (term_of expr.now) }
+    ensures { result ≡ is_plain_of (model_of_expr expr.now) }
 {
     match expr {
         Expr::Const { .. } => true,
@@ -47,8 +47,8 @@ fn is_plain(expr: &Expr) -> bool
 
 // The width of such an expression.
 fn plain_width(expr: &Expr) -> u16
-    requires { is_plain_of (term_of expr.now) ≡ true }
-    ensures { result ≡ term_width (term_of expr.now) }
+    requires { is_plain_of (model_of_expr expr.now) ≡ true }
+    ensures { result ≡ expr_width (model_of_expr expr.now) }
 {
     match expr {
         Expr::Word(width) | Expr::Zext(_, width) | Expr::Sext(_, width) => u16::from(*width),
@@ -61,7 +61,7 @@ fn plain_width(expr: &Expr) -> u16
 // Whether the sum of a constant and an expression is a field shape: the constant has at most 64 bits
 // and is of its width, and so is the expression.
 fn is_sum_with(width: u8, value: u64, to: &Expr) -> bool
-    ensures { result ≡ is_plain_sum (sum_with width value (term_of to.now)) }
+    ensures { result ≡ is_plain_sum (sum_with width value (model_of_expr to.now)) }
 {
     width <= 64
         && u128::from(value) < 1u128 << width
@@ -71,7 +71,7 @@ fn is_sum_with(width: u8, value: u64, to: &Expr) -> bool
 
 // Whether the sum of two expressions is a field shape: one is a constant.
 fn is_shape_sum(a: &Expr, b: &Expr) -> bool
-    ensures { result ≡ is_plain_sum (summands (term_of a.now) (term_of b.now)) }
+    ensures { result ≡ is_plain_sum (summands (model_of_expr a.now) (model_of_expr b.now)) }
 {
     match (a, b) {
         (Expr::Const { width, value }, _) => is_sum_with(*width, *value, b),
@@ -83,7 +83,7 @@ fn is_shape_sum(a: &Expr, b: &Expr) -> bool
 // Whether an operator has one value in either order of these operands, and isn't that of a field
 // shape.
 fn swaps_here(op: Op2, a: &Expr, b: &Expr) -> bool
-    ensures { result ≡ swaps_here_of op (term_of a.now) (term_of b.now) }
+    ensures { result ≡ swaps_here_of op (model_of_expr a.now) (model_of_expr b.now) }
 {
     match op {
         Op2::Add => !is_shape_sum(a, b),
@@ -93,7 +93,7 @@ fn swaps_here(op: Op2, a: &Expr, b: &Expr) -> bool
 
 // What is left of a choice behind the operators of a level, whose bits are its lowest.
 fn left_of(expr: &Expr, level: u64, choice: u16) -> u16
-    ensures { result ≡ left_of_term level choice (term_of expr.now) }
+    ensures { result ≡ left_of_term level choice (model_of_expr expr.now) }
 {
     match expr {
         Expr::Word(_) | Expr::Reg(..) | Expr::Const { .. } => choice,
@@ -141,7 +141,7 @@ fn left_of(expr: &Expr, level: u64, choice: u16) -> u16
 
 // How many operators of an expression can be swapped, 8 standing for more.
 fn swaps_of(expr: &Expr) -> u8
-    ensures { result ≡ min 8 (swaps_of_term (term_of expr.now)) }
+    ensures { result ≡ min 8 (swaps_of_term (model_of_expr expr.now)) }
 {
     match expr {
         Expr::Word(_) | Expr::Reg(..) | Expr::Const { .. } => 0,
@@ -163,8 +163,8 @@ fn swaps_of(expr: &Expr) -> u8
 // Swaps the operator at the root, where it can be swapped and the choice's lowest bit is set, and
 // gives what is left of the choice.
 fn swap_root(expr: &mut Expr, choice: u16) -> u16
-    ensures left { result ≡ left_of_term 0 choice (term_of expr.old) }
-    ensures swapped { term_of expr.new ≡ swap_level_of 0 choice (term_of expr.old) }
+    ensures left { result ≡ left_of_term 0 choice (model_of_expr expr.old) }
+    ensures swapped { model_of_expr expr.new ≡ swap_level_of 0 choice (model_of_expr expr.old) }
 {
     let Expr::Bin(op, a, b) = expr else {
         return choice;
@@ -181,8 +181,8 @@ fn swap_root(expr: &mut Expr, choice: u16) -> u16
 // Swaps the chosen operators of a level, whose bits are the lowest of the choice, and gives what is
 // left of it.
 fn swap_level(expr: &mut Expr, level: u64, choice: u16) -> u16
-    ensures left { result ≡ left_of_term level choice (term_of expr.old) }
-    ensures swapped { term_of expr.new ≡ swap_level_of level choice (term_of expr.old) }
+    ensures left { result ≡ left_of_term level choice (model_of_expr expr.old) }
+    ensures swapped { model_of_expr expr.new ≡ swap_level_of level choice (model_of_expr expr.old) }
 {
     if level == 0 {
         return swap_root(expr, choice);
@@ -213,8 +213,8 @@ fn swap_level(expr: &mut Expr, level: u64, choice: u16) -> u16
 
 // How many levels an expression has.
 fn levels(expr: &Expr) -> u64
-    requires { levels_of (term_of expr.now) < 2 ^ 64 }
-    ensures { result ≡ levels_of (term_of expr.now) }
+    requires { levels_of (model_of_expr expr.now) < 2 ^ 64 }
+    ensures { result ≡ levels_of (model_of_expr expr.now) }
 {
     match expr {
         Expr::Word(_) | Expr::Reg(..) | Expr::Const { .. } => 1,
@@ -233,8 +233,8 @@ fn levels(expr: &Expr) -> u64
 // choice. A swap moves the operators below it, so they go first.
 fn swap_levels(expr: &mut Expr, levels: u64, level: u64, choice: u16) -> u16
     requires { level + levels < 2 ^ 64 }
-    ensures left { result ≡ left_levels levels level choice (term_of expr.old) }
-    ensures swapped { term_of expr.new ≡ swap_levels_of levels level choice (term_of expr.old) }
+    ensures left { result ≡ left_levels levels level choice (model_of_expr expr.old) }
+    ensures swapped { model_of_expr expr.new ≡ swap_levels_of levels level choice (model_of_expr expr.old) }
 {
     if levels == 0 {
         return choice;
@@ -247,9 +247,9 @@ fn swap_levels(expr: &mut Expr, levels: u64, level: u64, choice: u16) -> u16
 
 // Swaps the chosen operators of an expression, and gives what is left of the choice behind them.
 fn swap_expr(expr: &mut Expr, choice: u16) -> u16
-    requires { levels_of (term_of expr.old) < 2 ^ 64 }
-    ensures left { result ≡ left_behind choice (operator_paths (term_of expr.old)) }
-    ensures swapped { term_of expr.new ≡ swap_at (picks choice (operator_paths (term_of expr.old))) (term_of expr.old) }
+    requires { levels_of (model_of_expr expr.old) < 2 ^ 64 }
+    ensures left { result ≡ left_behind choice (operator_paths (model_of_expr expr.old)) }
+    ensures swapped { model_of_expr expr.new ≡ swap_at (picks choice (operator_paths (model_of_expr expr.old))) (model_of_expr expr.old) }
 {
     let levels = levels(expr);
     swap_levels(expr, levels, 0, choice)
@@ -264,7 +264,7 @@ pub(crate) struct Sides {
 
 // How many operators of an address can be swapped, 8 standing for more.
 fn addr_swaps(addr: &Option<Expr>) -> u8
-    ensures { result ≡ min 8 (addr_swaps_of (option_map term_of addr.now)) }
+    ensures { result ≡ min 8 (addr_swaps_of (option_map model_of_expr addr.now)) }
 {
     match addr {
         Some(addr) => swaps_of(addr),
@@ -274,10 +274,10 @@ fn addr_swaps(addr: &Option<Expr>) -> u8
 
 // Swaps the chosen operators of an address, and gives what is left of the choice behind them.
 fn swap_addr(addr: &mut Option<Expr>, choice: u16) -> u16
-    requires { IsAddrWithin (2 ^ 64 - 1) (option_map term_of addr.old) }
-    ensures left { result ≡ left_behind choice (addr_paths (option_map term_of addr.old)) }
-    ensures swapped { option_map term_of addr.new
-        ≡ option_map (swap_at (picks choice (addr_paths (option_map term_of addr.old)))) (option_map term_of addr.old) }
+    requires { IsAddrWithin (2 ^ 64 - 1) (option_map model_of_expr addr.old) }
+    ensures left { result ≡ left_behind choice (addr_paths (option_map model_of_expr addr.old)) }
+    ensures swapped { option_map model_of_expr addr.new
+        ≡ option_map (swap_at (picks choice (addr_paths (option_map model_of_expr addr.old)))) (option_map model_of_expr addr.old) }
 {
     match addr {
         Some(addr) => swap_expr(addr, choice),
@@ -287,7 +287,7 @@ fn swap_addr(addr: &mut Option<Expr>, choice: u16) -> u16
 
 // How many operators are swapped.
 pub(crate) fn swap_count(sides: &Sides) -> u8
-    ensures count { result ≡ swap_count_of (copied_sides sides.now) }
+    ensures count { result ≡ swap_count_of (model_of_sides sides.now) }
     ensures few { result ≤ 8 }
 {
     (addr_swaps(&sides.addr) + swaps_of(&sides.value)).min(8)
@@ -295,8 +295,8 @@ pub(crate) fn swap_count(sides: &Sides) -> u8
 
 // Swaps the chosen operators, those of the address before those of the value.
 pub(crate) fn swap_sides(sides: &mut Sides, choice: u16)
-    requires { SidesWithin (2 ^ 64 - 1) (copied_sides sides.old) }
-    ensures { copied_sides sides.new ≡ swapped choice (copied_sides sides.old) }
+    requires { SidesWithin (2 ^ 64 - 1) (model_of_sides sides.old) }
+    ensures { model_of_sides sides.new ≡ swapped choice (model_of_sides sides.old) }
 {
     // no more than eight operators are swapped
     let chosen = choice % 256;

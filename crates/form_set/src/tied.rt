@@ -1,10 +1,10 @@
 //! The tied read of a form, by its place among the operands.
 
 ghost use Rattle.std.specs.Prelude.{◌≡◌, ◌+◌, IfOk, option_map};
-ghost use Rattle.form_set.specs.Inner.Copies.{copied_sides};
+ghost use Rattle.form_set.specs.Inner.Copies.{model_of_sides};
 ghost use Rattle.form_set.specs.Targets.{first_of};
-ghost use Rattle.form_set.specs.Tied.{operand_count, same_term as same_term_of, tied_of as tied_of_sides, tied_place};
-ghost use Rattle.net_model.specs.Terms.{term_of};
+ghost use Rattle.form_set.specs.Tied.{operand_count, same_expr as same_term_of, tied_of as tied_of_sides, tied_place};
+ghost use Rattle.net_model.specs.Exprs.{model_of_expr};
 
 use crate::swaps::Sides;
 use net_model::Expr;
@@ -12,7 +12,7 @@ use rec_bits::NoMemory;
 
 // Whether two expressions are one.
 fn same_term(left: &Expr, right: &Expr) -> bool
-    ensures { result ≡ same_term_of (term_of left.now) (term_of right.now) }
+    ensures { result ≡ same_term_of (model_of_expr left.now) (model_of_expr right.now) }
 {
     match (left, right) {
         (Expr::Word(w), Expr::Word(x)) => w == x,
@@ -89,8 +89,8 @@ fn joined(first: Operands, second: Operands) -> Result<Operands, NoMemory>
 
 // The operands of an expression, where the register file is read at an address.
 fn read_operands(addr: &Expr, expr: &Expr) -> Result<Operands, NoMemory>
-    ensures count { IfOk result (λ found. found.count ≡ operand_count (term_of expr.now)) }
-    ensures tied { IfOk result (λ found. found.tied ≡ tied_place (term_of addr.now) (term_of expr.now)) }
+    ensures count { IfOk result (λ found. found.count ≡ operand_count (model_of_expr expr.now)) }
+    ensures tied { IfOk result (λ found. found.tied ≡ tied_place (model_of_expr addr.now) (model_of_expr expr.now)) }
 {
     match expr {
         Expr::Word(_) | Expr::Const { .. } => Ok(Operands {
@@ -128,7 +128,7 @@ fn read_operands(addr: &Expr, expr: &Expr) -> Result<Operands, NoMemory>
 // The place of a form's tied read among its operands, from the left; `filed` tells whether the form
 // writes the register file.
 pub(crate) fn tied_of(filed: bool, sides: &Sides) -> Result<Option<u32>, NoMemory>
-    ensures { IfOk result (λ tied. tied ≡ tied_of_sides filed (copied_sides sides.now)) }
+    ensures { IfOk result (λ tied. tied ≡ tied_of_sides filed (model_of_sides sides.now)) }
 {
     if !filed {
         return Ok(None);

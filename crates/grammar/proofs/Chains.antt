@@ -1,7 +1,7 @@
 -- Chains of operands, grouped to the left, with a limit on their tokens.
 use Rattle.std.proofs.Common.{◌≡◌, ℕ, ◌+◌, ◌-◌, ◌≤◌, List, [], ◌∷◌, ◌++◌, length, Bool, true, false, Option, Some, ◌⊎◌, inl, inr, refl, sym, ap, subst, ◌∙◌, append_assoc, arith}
 use Rattle.std.proofs.lemmas.List.{length-append, append-nil}
-use Rattle.grammar.specs.declared.stop.Stop.{Stop}
+use Rattle.grammar.specs.declared.stop.ParseStop.{ParseStop}
 use Rattle.grammar.specs.Reading.{Within, Tail, done, step, Chain, head, Stops, Agrees, Reads, Fails, FailsAs, Leads}
 use Rattle.grammar.proofs.Steps.{bind_first}
 use Rattle.grammar.proofs.Passing.{Apart}
@@ -122,7 +122,7 @@ module _ {T V O : Type 0} {X : List T → V → Type 0} {op : T → Option O} {m
       (record { reads = λ v s r. tail_reads room a t o is_op ts m b p v s r long; fails = λ left r. tail_fails_later room a t o is_op ts m b p left r long }))
 
   -- an operator, and no operand
-  pub tail_fails : {room : ℕ} {a : V} {t : T} {o : O} {all ts : List T} {stop : Stop} → all ≡ t ∷ ts → op t ≡ Some o → 1 ≤ room → FailsAs (Within (room - 1) X) more_x ts stop → FailsAs (Within room (Tail X op join a)) more all stop
+  pub tail_fails : {room : ℕ} {a : V} {t : T} {o : O} {all ts : List T} {stop : ParseStop} → all ≡ t ∷ ts → op t ≡ Some o → 1 ≤ room → FailsAs (Within (room - 1) X) more_x ts stop → FailsAs (Within room (Tail X op join a)) more all stop
   tail_fails {room = room} {a = a} {t = t} {o = o} {all = all} {ts = ts} parts is_op long f = record { fails = λ left h. subst (λ y. Fails (Within room (Tail X op join a)) more y left) (sym parts) (inside left (f.fails left h)) }
     where
       inside : (left : ℕ) → Fails (Within (room - 1) X) more_x ts left → Fails (Within room (Tail X op join a)) more (t ∷ ts) left
@@ -157,7 +157,7 @@ module _ {T V O : Type 0} {X : List T → V → Type 0} {op : T → Option O} {m
   pub chain_leads : {room : ℕ} {ts m : List T} {a : V} → Reads (Within room X) more_x ts a m → Leads (λ v. v) (Within (room - (length ts - length m)) (Tail X op join a)) more m (Within room (Chain X op join)) more ts
   chain_leads {room = room} {ts = ts} {m = m} {a = a} p = limited chain_apart room 0 no_length (subst (λ n. Reads (Within n X) more_x ts a m) (omega arith) p)
 
-  pub chain_fails : {room : ℕ} {ts : List T} {stop : Stop} → FailsAs (Within room X) more_x ts stop → FailsAs (Within room (Chain X op join)) more ts stop
+  pub chain_fails : {room : ℕ} {ts : List T} {stop : ParseStop} → FailsAs (Within room X) more_x ts stop → FailsAs (Within room (Chain X op join)) more ts stop
   chain_fails {room = room} {ts = ts} {stop = stop} f = limited_fails chain_apart room 0 no_length (omega arith) (λ a. ([], a, done, none_long)) (subst (λ n. FailsAs (Within n X) more_x ts stop) (omega arith) f)
     where
       none_long : 0 ≤ 0

@@ -1,7 +1,7 @@
 -- Texts with a limit on their tokens.
 use Rattle.std.proofs.Common.{◌≡◌, ℕ, ◌-◌, ◌≤◌, List, length, Bool, refl, ap, subst, ◌∙◌, arith}
 use Rattle.std.proofs.lemmas.List.{length-append}
-use Rattle.grammar.specs.declared.stop.Stop.{Stop}
+use Rattle.grammar.specs.declared.stop.ParseStop.{ParseStop}
 use Rattle.grammar.specs.Reading.{Bind, Made, Within, Reads, FailsAs, Leads}
 use Rattle.grammar.proofs.Steps.{reads_as, fails_as, bind_reads, bind_fails_first, bind_fails_second}
 use Rattle.grammar.proofs.Passing.{Apart}
@@ -77,7 +77,7 @@ module _ {T V W : Type 0} {A : List T → V → Type 0} {B : V → List T → W 
   })
 
   -- the first was not read, and a second would fit behind it
-  pub limited_fails : {ts : List T} {stop : Stop} → least ≤ room → ((a : V) → (y : List T) × (w : W) × B a y w × (length y ≤ least)) → FailsAs (Within (room - least) A) more_a ts stop → FailsAs (Within room (Bind A (λ _ a. B a))) more_b ts stop
+  pub limited_fails : {ts : List T} {stop : ParseStop} → least ≤ room → ((a : V) → (y : List T) × (w : W) × B a y w × (length y ≤ least)) → FailsAs (Within (room - least) A) more_a ts stop → FailsAs (Within room (Bind A (λ _ a. B a))) more_b ts stop
   limited_fails {ts = ts} fits goes_on f = record {
     fails = λ left h. fails_as (to A B room least short) (λ x w c e st q. from A B room least short x w q) (λ c st. st)
         (bind_fails_first (First A B room least short) (Second A B room least short) more_a more_b (λ x a y w c f q st. apart.stops a y w c q.text st) ts left

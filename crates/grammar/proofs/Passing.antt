@@ -1,7 +1,7 @@
 -- The steps of a parser: what it owes at each of its exits follows from what the steps before gave.
 use Rattle.std.proofs.Common.{◌≡◌, ℕ, List, [], ◌∷◌, ◌++◌, length, Bool, true, false, Option, Some, None, Result, Ok, Err, refl, sym, ap, subst, ◌∙◌}
-use Rattle.grammar.specs.declared.stop.Stop.{Stop}
-use Rattle.grammar.specs.declared.stop.Stop.TheVariants.{At}
+use Rattle.grammar.specs.declared.stop.ParseStop.{ParseStop}
+use Rattle.grammar.specs.declared.stop.ParseStop.TheVariants.{At}
 use Rattle.grammar.specs.Reading.{Return, Token, Bind, Maybe, without, with_one, Many, none, head, Stops, never, Agrees, Reads, Fails, FailsAs, Gives, Leads}
 use Rattle.grammar.proofs.Steps.{never_stops, return_reads, token_fails, bind_reads, bind_fails_first, bind_fails_second, Agrees-head}
 
@@ -10,12 +10,12 @@ use Rattle.grammar.proofs.Steps.{never_stops, return_reads, token_fails, bind_re
 pub stops_at : {T V : Type 0} {R : List T → V → Type 0} {more : T → Bool} {ts : List T} {n : ℕ} → Fails R more ts n → FailsAs R more ts (At n)
 stops_at {R = R} {more = more} {ts = ts} f = record { fails = λ left h. (let e : _ ≡ left = cc in subst (λ k. Fails R more ts k) e f) }
 
-pub fails_too : {T V W : Type 0} {make : V → W} {R : List T → V → Type 0} {m : T → Bool} {ts : List T} {S : List T → W → Type 0} {n : T → Bool} {us : List T} {stop : Stop}
+pub fails_too : {T V W : Type 0} {make : V → W} {R : List T → V → Type 0} {m : T → Bool} {ts : List T} {S : List T → W → Type 0} {n : T → Bool} {us : List T} {stop : ParseStop}
     → Leads make R m ts S n us → FailsAs R m ts stop → FailsAs S n us stop
 fails_too l f = record { fails = λ left h. l.fails left (f.fails left h) }
 
 pub gives_too : {T V X : Type 0} (see : X → V × List T) {R : List T → V → Type 0} {m : T → Bool} {ts : List T} {S : List T → V → Type 0} {n : T → Bool} {us : List T}
-    → Leads (λ v. v) R m ts S n us → (r : Result X Stop) → Gives see R m ts r → Gives see S n us r
+    → Leads (λ v. v) R m ts S n us → (r : Result X ParseStop) → Gives see R m ts r → Gives see S n us r
 gives_too see l (Ok x) g = l.reads _ _ g
 gives_too see l (Err e) g = fails_too l g
 
@@ -74,11 +74,11 @@ module _ {T V W : Type 0} {A : List T → V → Type 0} {B : V → List T → W 
   pub beyond_reads : {ts m s : List T} {a : V} {w : W} → Reads A more_a ts a m → Reads (B a) more_b m w s → Reads (Bind A (λ _ a. B a)) more_b ts w s
   beyond_reads {ts = ts} {m = m} {s = s} {a = a} {w = w} p r = bind_reads A (λ _ a. B a) more_a more_b (λ x a y w c p q st. apart.stops a y w c q st) ts m s a w p r
 
-  pub beyond_fails : {ts m : List T} {a : V} {stop : Stop} → Reads A more_a ts a m → FailsAs (B a) more_b m stop → FailsAs (Bind A (λ _ a. B a)) more_b ts stop
+  pub beyond_fails : {ts m : List T} {a : V} {stop : ParseStop} → Reads A more_a ts a m → FailsAs (B a) more_b m stop → FailsAs (Bind A (λ _ a. B a)) more_b ts stop
   beyond_fails {ts = ts} {m = m} {a = a} p f = record { fails = λ left h. bind_fails_second A (λ _ a. B a) more_a more_b (λ x a y w c p q st. apart.stops a y w c q st) ts m a left p (f.fails left h) }
 
   -- the first was not read
-  pub short_of : {ts : List T} {stop : Stop} → ((a : V) → There (B a)) → FailsAs A more_a ts stop → FailsAs (Bind A (λ _ a. B a)) more_b ts stop
+  pub short_of : {ts : List T} {stop : ParseStop} → ((a : V) → There (B a)) → FailsAs A more_a ts stop → FailsAs (Bind A (λ _ a. B a)) more_b ts stop
   short_of {ts = ts} there f = record { fails = λ left h. bind_fails_first A (λ _ a. B a) more_a more_b (λ x a y w c p q st. apart.stops a y w c q st) ts left (λ x a p. (let t = there a in (t.text, t.value, t.is))) (f.fails left h) }
 
 -- the same behind what cannot go on
@@ -86,10 +86,10 @@ module _ {T V W : Type 0} {A : List T → V → Type 0} {B : V → List T → W 
   pub on : {ts m s : List T} {a : V} {w : W} → Reads A never ts a m → Reads (B a) more_b m w s → Reads (Bind A (λ _ a. B a)) more_b ts w s
   on p r = beyond_reads never_apart p r
 
-  pub past : {ts m : List T} {a : V} {stop : Stop} → Reads A never ts a m → FailsAs (B a) more_b m stop → FailsAs (Bind A (λ _ a. B a)) more_b ts stop
+  pub past : {ts m : List T} {a : V} {stop : ParseStop} → Reads A never ts a m → FailsAs (B a) more_b m stop → FailsAs (Bind A (λ _ a. B a)) more_b ts stop
   past p f = beyond_fails never_apart p f
 
-  pub stuck : {ts : List T} {stop : Stop} → ((a : V) → There (B a)) → FailsAs A never ts stop → FailsAs (Bind A (λ _ a. B a)) more_b ts stop
+  pub stuck : {ts : List T} {stop : ParseStop} → ((a : V) → There (B a)) → FailsAs A never ts stop → FailsAs (Bind A (λ _ a. B a)) more_b ts stop
   stuck there f = short_of never_apart there f
 
 -- ---- by the first token
@@ -211,7 +211,7 @@ returned_reads r = beyond_reads return_apart r return_reads
 pub maybe_reads : {T V : Type 0} {X : List T → V → Type 0} {more_x more : T → Bool} {ts rest s : List T} {t : T} {v : V} → ts ≡ t ∷ rest → more t ≡ true → ((c : List T) → Stops more c → Stops more_x c) → Reads X more_x ts v s → Reads (Maybe X) more ts (Some v) s
 maybe_reads {s = s} {v = v} at opens narrow r = (maybe_leads at opens narrow).reads v s r
 
-pub maybe_fails : {T V : Type 0} {X : List T → V → Type 0} {more_x more : T → Bool} {ts rest : List T} {t : T} {stop : Stop} → ts ≡ t ∷ rest → more t ≡ true → ((c : List T) → Stops more c → Stops more_x c) → FailsAs X more_x ts stop → FailsAs (Maybe X) more ts stop
+pub maybe_fails : {T V : Type 0} {X : List T → V → Type 0} {more_x more : T → Bool} {ts rest : List T} {t : T} {stop : ParseStop} → ts ≡ t ∷ rest → more t ≡ true → ((c : List T) → Stops more c → Stops more_x c) → FailsAs X more_x ts stop → FailsAs (Maybe X) more ts stop
 maybe_fails at opens narrow f = fails_too (maybe_leads at opens narrow) f
 
 pub reads_too : {T V W : Type 0} {make : V → W} {R : List T → V → Type 0} {m : T → Bool} {ts rest : List T} {S : List T → W → Type 0} {n : T → Bool} {us : List T} {v : V} → Leads make R m ts S n us → Reads R m ts v rest → Reads S n us (make v) rest

@@ -1,7 +1,7 @@
 -- Repetitions.
 use Rattle.std.proofs.Common.{◌≡◌, ℕ, List, [], ◌∷◌, ◌++◌, Bool, true, false, Some, ◌⊎◌, inl, inr, map, refl, sym, ap, subst, ◌∙◌, append_assoc}
 use Rattle.std.proofs.lemmas.List.{append-nil, map-append}
-use Rattle.grammar.specs.declared.stop.Stop.{Stop}
+use Rattle.grammar.specs.declared.stop.ParseStop.{ParseStop}
 use Rattle.grammar.specs.Reading.{Return, Bind, Made, Many, none, some, ListOf, head, Stops, Agrees, Reads, Fails, FailsAs, Leads}
 use Rattle.grammar.proofs.Steps.{bind_first, Agrees-head}
 use Rattle.grammar.proofs.Passing.{Apart, Starts, start_head, starts_stops, then_leads, leads_made, fails_too}
@@ -92,7 +92,7 @@ module _ {T V W : Type 0} {begins : T → Type 0} {X : List T → V → Type 0} 
         empty x c u q s m e1 e2 e3 st agrees =
             clash t is c (ap (λ y. head (y ++ c)) (sym e3) ∙ Agrees-head (x ++ c) (u ++ q) s agrees ∙ ap head (append_assoc u q s) ∙ ap (λ y. head (u ++ y)) (sym e2) ∙ ap head (sym e1) ∙ at) st
 
-    pub many_fails : {stop : Stop} → FailsAs X more_x ts stop → FailsAs All more ts stop
+    pub many_fails : {stop : ParseStop} → FailsAs X more_x ts stop → FailsAs All more ts stop
     many_fails f = record { fails = λ left h. inside left (f.fails left h) }
       where
         inside : (left : ℕ) → Fails X more_x ts left → Fails All more ts left
@@ -119,7 +119,7 @@ module _ {T V W Y : Type 0} {begins : T → Type 0} {X : List T → V → Type 0
   list_ends not_here = subst (λ y. Reads S more_s us (make y) ts) (append-nil (map see out)) (so_far.reads [] ts (many_ends k [] (λ v vs. v ∷ vs) not_here))
 
   module _ {t : T} (at : head ts ≡ Some t) (is : begins t) where
-    pub list_fails : {stop : Stop} → FailsAs X more_x ts stop → FailsAs S more_s us stop
+    pub list_fails : {stop : ParseStop} → FailsAs X more_x ts stop → FailsAs S more_s us stop
     list_fails f = fails_too so_far (many_fails k [] (λ v vs. v ∷ vs) at is f)
 
     pub list_goes_on : {m : List T} (b : Y) → Reads X more_x ts (see b) m → Leads (λ vs. make (map see (out ++ b ∷ []) ++ vs)) (ListOf X) more m S more_s us

@@ -1,6 +1,6 @@
 -- Single tokens, and what tells by a first token.
 use Rattle.std.proofs.Common.{◌≡◌, ◌↔◌, IsTrue, ℕ, Bool, true, false, List, [], ◌∷◌, ◌++◌, length, Some, refl, sym, ap, subst, ◌∙◌}
-use Rattle.grammar.specs.declared.stop.Stop.TheVariants.{At}
+use Rattle.grammar.specs.declared.stop.ParseStop.TheVariants.{At}
 use Rattle.grammar.specs.declared.words.Ident.{Ident}
 use Rattle.grammar.specs.declared.words.Lexed.{Lexed}
 use Rattle.grammar.specs.declared.words.Word.{Word}

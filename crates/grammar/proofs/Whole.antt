@@ -1,8 +1,8 @@
 -- Whole texts.
 use Rattle.std.proofs.Common.{◌≡◌, List, [], ◌∷◌, ◌++◌, length, Bool, Some, refl, sym, ap, subst, ◌∙◌, append_assoc, arith}
 use Rattle.std.proofs.lemmas.List.{append-nil, length-append}
-use Rattle.grammar.specs.declared.stop.Stop.{Stop}
-use Rattle.grammar.specs.declared.stop.Stop.TheVariants.{At, Memory}
+use Rattle.grammar.specs.declared.stop.ParseStop.{ParseStop}
+use Rattle.grammar.specs.declared.stop.ParseStop.TheVariants.{At, Memory}
 use Rattle.grammar.specs.Reading.{head, Agrees, Reads, FailsAs, IsFaultLeft, IsStop}
 
 whole_agrees : {T : Type 0} (ts used rest : List T) → ts ≡ used ++ rest → Agrees (ts ++ []) used rest
@@ -12,7 +12,7 @@ next_agrees : {T : Type 0} (front rest : List T) (t : T) → head rest ≡ Some 
 next_agrees front rest t h more = record { tail = t ∷ more; parts = append-nil ((front ++ t ∷ []) ++ more) ∙ append_assoc front (t ∷ []) more; same = sym h }
 
 module _ {T V : Type 0} (R : List T → V → Type 0) (more : T → Bool) (ts : List T) where
-  pub fault_of_fails : (stop : Stop) → FailsAs R more ts stop → IsStop R ts stop
+  pub fault_of_fails : (stop : ParseStop) → FailsAs R more ts stop → IsStop R ts stop
   fault_of_fails (At left) g = let f = g.fails left refl in record {
     rest = f.rest;
     fault = record {
@@ -54,6 +54,6 @@ module _ {T V : Type 0} (R : List T → V → Type 0) (more : T → Bool) (ts : 
       let e = r.only ts w [] text tt (whole_agrees ts r.used rest r.parts) in
       (e.1, omega (arith, ap length e.0, ap length r.parts, length-append r.used rest))
 
-  pub no_text : (stop : Stop) → FailsAs R more ts stop → (w : V) → R ts w → stop ≡ Memory
+  pub no_text : (stop : ParseStop) → FailsAs R more ts stop → (w : V) → R ts w → stop ≡ Memory
   no_text (At left) g w text = let f = g.fails left refl in absurd (f.none ts w [] text tt (whole_agrees ts f.used f.rest f.parts))
   no_text Memory g w text = refl

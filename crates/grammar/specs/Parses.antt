@@ -1,4 +1,5 @@
--- What parsing a text answers where it is none.
+-- What parsing a text answers where it is none. The offset of a fault is that of its token, or the
+-- length of the text where all tokens begin some text.
 use Rattle.std.specs.Prelude.{◌≡◌, ℕ, List, [], ◌∷◌, length}
 use Rattle.rec_bits.specs.declared.fault.ParseFault.{ParseFault}
 use Rattle.rec_bits.specs.declared.fault.ParseFault.TheVariants.{Text, Memory}

@@ -1,7 +1,10 @@
--- Grammars as relations between texts and values, and what a parser owes of them.
+-- Grammars as relations between texts and values, and what a parser owes of them. Relations of a
+-- list of tokens to a value, put together from a few: one token, one part after another, a choice
+-- by the first token, a part that may be missing, a list. A *fault* is a place such that the
+-- tokens before it begin some text and with the one at it they don't.
 use Rattle.std.specs.Prelude.{◌≡◌, ℕ, ◌≤◌, List, [], ◌∷◌, ◌++◌, length, Bool, false, Option, Some, None, Result, Ok, Err}
-use Rattle.grammar.specs.declared.stop.Stop.{Stop}
-use Rattle.grammar.specs.declared.stop.Stop.TheVariants.{At, Memory}
+use Rattle.grammar.specs.declared.stop.ParseStop.{ParseStop}
+use Rattle.grammar.specs.declared.stop.ParseStop.TheVariants.{At, Memory}
 
 -- ---- grammars
 
@@ -109,12 +112,12 @@ pub record Fails {T V : Type 0} (R : List T → V → Type 0) (more : T → Bool
   pub none : (x : List T) (w : V) (c : List T) → R x w → Stops more c → Agrees (x ++ c) used rest → ⊥
 
 -- the same of a parser's answer, which says nothing where memory ran out
-pub record FailsAs {T V : Type 0} (R : List T → V → Type 0) (more : T → Bool) (ts : List T) (stop : Stop) : Type 0 where
+pub record FailsAs {T V : Type 0} (R : List T → V → Type 0) (more : T → Bool) (ts : List T) (stop : ParseStop) : Type 0 where
   pub fails : (left : ℕ) → stop ≡ At left → Fails R more ts left
 
 -- what a parser returned, seen by see as a value and what is left, is what is to be read in ts
 abbrev pub Gives : {T V X : Type 0} → (X → V × List T) → (List T → V → Type 0) → (T → Bool) →
-    List T → Result X Stop → Type 0
+    List T → Result X ParseStop → Type 0
 Gives see R more ts (Ok x) = Reads R more ts (see x).0 (see x).1
 Gives see R more ts (Err stop) = FailsAs R more ts stop
 
@@ -149,6 +152,6 @@ pub record IsFaultLeft {T V : Type 0} (R : List T → V → Type 0) (ts : List T
   pub left_is : length rest ≡ left
 
 -- why a whole text was not read; nothing is said where memory ran out
-abbrev pub IsStop : {T V : Type 0} → (List T → V → Type 0) → List T → Stop → Type 0
+abbrev pub IsStop : {T V : Type 0} → (List T → V → Type 0) → List T → ParseStop → Type 0
 IsStop R ts (At left) = IsFaultLeft R ts left
 IsStop R ts Memory = Unit {0}

@@ -1,4 +1,7 @@
--- The grammars of single tokens.
+-- The grammars of single tokens. A token is a word and the offset of its first byte; a word is a
+-- name, a number, one of the language's symbols or keys, or none of these. The grammars of a
+-- symbol, a name and a number, and what stands behind or before a symbol or tells by its first
+-- word.
 use Rattle.std.specs.Prelude.{◌≡◌, ℕ, Bool, true, List, ◌∷◌}
 use Rattle.grammar.specs.declared.words.Ident.{Ident}
 use Rattle.grammar.specs.declared.words.Lexed.{Lexed}

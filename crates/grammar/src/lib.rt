@@ -37,5 +37,5 @@ pub use fault::offset;
 pub use step::{
     begins_with, expect, front, is_symbol, name, name_behind, number, number_behind, number_between,
 };
-pub use stop::Stop;
+pub use stop::ParseStop;
 pub use words::{Exact, Ident, Lexed, Word};

@@ -1,11 +1,11 @@
 //! Single tokens.
 
 ghost use Rattle.std.specs.Prelude.{◌≡◌, ◌↔◌, IsTrue, List, [], ◌∷◌, MatchOption, IfOk, IfErr};
-ghost use Rattle.grammar.specs.declared.stop.Stop.TheVariants.{Memory};
+ghost use Rattle.grammar.specs.declared.stop.ParseStop.TheVariants.{Memory};
 ghost use Rattle.grammar.specs.Reading.{Gives, never};
 ghost use Rattle.grammar.specs.Tokens.{Before, BeginsWith, Behind, IsName, IsNumber, Sign};
 
-use crate::{Exact, Ident, Lexed, Stop, Word};
+use crate::{Exact, Ident, Lexed, ParseStop, Word};
 use rec_bits::Items;
 use std::alloc::Global;
 
@@ -40,43 +40,43 @@ pub fn begins_with<S: Exact, K>(symbol: S, ts: &[Lexed<S, K>]) -> bool
 }
 
 /// What stands behind the symbol.
-pub fn expect<S: Exact, K>(symbol: S, ts: &[Lexed<S, K>]) -> Result<&[Lexed<S, K>], Stop>
+pub fn expect<S: Exact, K>(symbol: S, ts: &[Lexed<S, K>]) -> Result<&[Lexed<S, K>], ParseStop>
     ensures { Gives (λ rest. (tt, rest.now)) (Sign symbol) never ts.now result }
 {
     let Some((t, rest)) = front(ts) else {
-        return Err(Stop::At(0));
+        return Err(ParseStop::At(0));
     };
     if is_symbol(&t.word, symbol) {
         Ok(rest)
     } else {
-        Err(Stop::At(ts.len()))
+        Err(ParseStop::At(ts.len()))
     }
 }
 
 /// A name.
-pub fn name<S, K>(alloc: Global, ts: &[Lexed<S, K>]) -> Result<(Ident, &[Lexed<S, K>]), Stop>
+pub fn name<S, K>(alloc: Global, ts: &[Lexed<S, K>]) -> Result<(Ident, &[Lexed<S, K>]), ParseStop>
     ensures { Gives (λ x. (x.0, x.1.now)) IsName never ts.now result }
 {
     let Some((t, rest)) = front(ts) else {
-        return Err(Stop::At(0));
+        return Err(ParseStop::At(0));
     };
     let Word::Name(name) = &t.word else {
-        return Err(Stop::At(ts.len()));
+        return Err(ParseStop::At(ts.len()));
     };
     let name = Items::from_slice(alloc, name.as_slice())?;
     Ok((Ident { name, at: t.at }, rest))
 }
 
 /// A number.
-pub fn number<S, K>(ts: &[Lexed<S, K>]) -> Result<(u64, &[Lexed<S, K>]), Stop>
+pub fn number<S, K>(ts: &[Lexed<S, K>]) -> Result<(u64, &[Lexed<S, K>]), ParseStop>
     ensures { Gives (λ x. (x.0, x.1.now)) IsNumber never ts.now result }
 {
     let Some((t, rest)) = front(ts) else {
-        return Err(Stop::At(0));
+        return Err(ParseStop::At(0));
     };
     match t.word {
         Word::Number(n) => Ok((n, rest)),
-        _ => Err(Stop::At(ts.len())),
+        _ => Err(ParseStop::At(ts.len())),
     }
 }
 
@@ -85,7 +85,7 @@ pub fn name_behind<S: Exact, K>(
     alloc: Global,
     symbol: S,
     ts: &[Lexed<S, K>],
-) -> Result<(Ident, &[Lexed<S, K>]), Stop>
+) -> Result<(Ident, &[Lexed<S, K>]), ParseStop>
     ensures { Gives (λ x. (x.0, x.1.now)) (Behind symbol IsName) never ts.now result }
 {
     let rest = expect(symbol, ts)?;
@@ -96,7 +96,7 @@ pub fn name_behind<S: Exact, K>(
 pub fn number_behind<S: Exact, K>(
     symbol: S,
     ts: &[Lexed<S, K>],
-) -> Result<(u64, &[Lexed<S, K>]), Stop>
+) -> Result<(u64, &[Lexed<S, K>]), ParseStop>
     ensures { Gives (λ x. (x.0, x.1.now)) (Behind symbol IsNumber) never ts.now result }
 {
     let rest = expect(symbol, ts)?;
@@ -108,7 +108,7 @@ pub fn number_between<S: Exact, K>(
     first: S,
     last: S,
     ts: &[Lexed<S, K>],
-) -> Result<(u64, &[Lexed<S, K>]), Stop>
+) -> Result<(u64, &[Lexed<S, K>]), ParseStop>
     ensures { Gives (λ x. (x.0, x.1.now)) (Before (Behind first IsNumber) last) never ts.now result }
 {
     let (number, rest) = number_behind(first, ts)?;

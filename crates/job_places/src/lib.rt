@@ -1,8 +1,8 @@
 //! Where the jobs of a program stand in its text, and what they are there.
 //!
 //! Promise: `places_of` gives the place of each job of a program's statements, in the order of the
-//! jobs (`program_spots`). `law_of_places`: there are as many as jobs, whatever memory the jobs are
-//! made for (`program_works`), so that a job and its place have one number.
+//! jobs (`program_job_places`). `law_of_places`: there are as many as jobs, whatever memory the jobs are
+//! made for (`program_jobs`), so that a job and its place have one number.
 //!
 //! Files:
 //!

@@ -1,8 +1,8 @@
 //! The places of jobs.
 
 ghost use Rattle.std.specs.Prelude.{◌≡◌, ◌++◌, ◌∷◌, [], IfOk, OnOk, map};
-ghost use Rattle.src_model.specs.Written.{act_of, acts_of, test_of, choice, while, count, without, listing_of};
-ghost use Rattle.job_places.specs.Places.{duty_of, program_spots, spot, spot_of, spots, spots_in};
+ghost use Rattle.src_model.specs.Written.{model_of_stmt, stmts_of, model_of_src_test, choice, while, count, without, model_of_program};
+ghost use Rattle.job_places.specs.Places.{model_of_role, program_job_places, job_place, model_of_job_place, places_of_jobs, places_of_jobs_in};
 
 use rec_bits::{Name, NoMemory};
 use src_model::{Program, SrcTest, Stmt};
@@ -34,8 +34,8 @@ pub struct JobPlace<'a> {
 }
 
 fn add<'a>(places: &mut Vec<JobPlace<'a>>, at: u64, role: Role<'a>) -> Result<(), NoMemory>
-    ensures { OnOk result (map spot_of places.new.items
-        ≡ map spot_of places.old.items ++ spot at (duty_of role.entry) ∷ []) }
+    ensures { OnOk result (map model_of_job_place places.new.items
+        ≡ map model_of_job_place places.old.items ++ job_place at (model_of_role role.entry) ∷ []) }
 {
     places.push(JobPlace { at, role })?;
     Ok(())
@@ -44,8 +44,8 @@ fn add<'a>(places: &mut Vec<JobPlace<'a>>, at: u64, role: Role<'a>) -> Result<()
 // Adds the places of a statement's jobs.
 #[cycle(add)]
 fn add_statement<'a>(places: &mut Vec<JobPlace<'a>>, statement: &'a Stmt) -> Result<(), NoMemory>
-    ensures { OnOk result (map spot_of places.new.items
-        ≡ map spot_of places.old.items ++ spots (act_of statement.now)) }
+    ensures { OnOk result (map model_of_job_place places.new.items
+        ≡ map model_of_job_place places.old.items ++ places_of_jobs (model_of_stmt statement.now)) }
 {
     match statement {
         Stmt::Assign { place, .. } => add(places, place.at, Role::Assign(&place.name)),
@@ -74,8 +74,8 @@ fn add_if<'a>(
     test: &'a SrcTest,
     taken: &'a [Stmt],
 ) -> Result<(), NoMemory>
-    ensures { OnOk result (map spot_of places.new.items ≡ map spot_of places.old.items
-        ++ spots (choice (test_of test.now) (acts_of (map act_of taken.now)) without)) }
+    ensures { OnOk result (map model_of_job_place places.new.items ≡ map model_of_job_place places.old.items
+        ++ places_of_jobs (choice (model_of_src_test test.now) (stmts_of (map model_of_stmt taken.now)) without)) }
 {
     add(places, test.left.at, Role::If)?;
     add_block(places, taken)
@@ -87,8 +87,8 @@ fn add_while<'a>(
     test: &'a SrcTest,
     body: &'a [Stmt],
 ) -> Result<(), NoMemory>
-    ensures { OnOk result (map spot_of places.new.items ≡ map spot_of places.old.items
-        ++ spots (while (test_of test.now) (acts_of (map act_of body.now)))) }
+    ensures { OnOk result (map model_of_job_place places.new.items ≡ map model_of_job_place places.old.items
+        ++ places_of_jobs (while (model_of_src_test test.now) (stmts_of (map model_of_stmt body.now)))) }
 {
     add(places, test.left.at, Role::While)?;
     add_block(places, body)
@@ -102,8 +102,8 @@ fn add_for<'a>(
     at: u64,
     body: &'a [Stmt],
 ) -> Result<(), NoMemory>
-    ensures { OnOk result (map spot_of places.new.items
-        ≡ map spot_of places.old.items ++ spots (count counter.now at 0 0 (acts_of (map act_of body.now)))) }
+    ensures { OnOk result (map model_of_job_place places.new.items
+        ≡ map model_of_job_place places.old.items ++ places_of_jobs (count counter.now at 0 0 (stmts_of (map model_of_stmt body.now)))) }
 {
     add(places, at, Role::Start(counter))?;
     add(places, at, Role::Count(counter))?;
@@ -114,8 +114,8 @@ fn add_for<'a>(
 // Adds those of statements.
 #[cycle(add)]
 fn add_block<'a>(places: &mut Vec<JobPlace<'a>>, block: &'a [Stmt]) -> Result<(), NoMemory>
-    ensures { OnOk result (map spot_of places.new.items
-        ≡ map spot_of places.old.items ++ spots_in (acts_of (map act_of block.now))) }
+    ensures { OnOk result (map model_of_job_place places.new.items
+        ≡ map model_of_job_place places.old.items ++ places_of_jobs_in (stmts_of (map model_of_stmt block.now))) }
 {
     for statement in block {
         add_statement(places, statement)?;
@@ -125,7 +125,7 @@ fn add_block<'a>(places: &mut Vec<JobPlace<'a>>, block: &'a [Stmt]) -> Result<()
 
 /// The places of a program's jobs, in the order of the jobs. The only error is want of memory.
 pub fn places_of(alloc: Global, program: &Program) -> Result<Vec<JobPlace<'_>>, NoMemory>
-    ensures { IfOk result (λ places. map spot_of places.items ≡ program_spots (listing_of program.now)) }
+    ensures { IfOk result (λ places. map model_of_job_place places.items ≡ program_job_places (model_of_program program.now)) }
 {
     let mut places = Vec::new(alloc);
     add_block(&mut places, program.body.as_slice())?;

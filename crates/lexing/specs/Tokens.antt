@@ -1,4 +1,7 @@
--- The tokens of a text.
+-- The tokens of a text, by going over it. `Laws` says the same of each place by itself: what a
+-- token of each kind is, that tokens lie in order without overlap, that only blanks and comments
+-- stand between them, and that a bad token, which ends the list, stands where no blank, comment,
+-- word, number or sign begins.
 use Rattle.std.specs.Prelude.{ℕ, zero, suc, ◌+◌, ◌-◌, ◌^◌, List, [], ◌∷◌, length, nat_lt, nat_le, nat_eq, ◌==◌, if◌then◌else◌, take_while, take, drop, codes}
 use Rattle.std.specs.List.{starts_with}
 use Rattle.lexing.specs.declared.token.Token.{Token}

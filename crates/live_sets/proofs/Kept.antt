@@ -8,24 +8,24 @@ use Rattle.net_model.specs.declared.hardware.Netlist.{Netlist}
 use Rattle.net_model.specs.CheckedRules.{KeepsRules}
 use Rattle.net_model.specs.Patterns.{Pattern, IsPattern}
 use Rattle.net_model.proofs.KeptRules.{few_storages, sound_of}
-use Rattle.net_model.specs.Transfers.{move_at}
+use Rattle.net_model.specs.Transfers.{transfer_at}
 use Rattle.sym_expr.specs.declared.pool.Node.{Node}
 use Rattle.transfer_set.specs.Rows.{row_pattern, row_patterns}
 use Rattle.transfer_set.specs.Ready.{IsReady}
-use Rattle.transfer_set.specs.Tables.{Table, IsRow}
+use Rattle.transfer_set.specs.Tables.{PatternTable, IsRow}
 use Rattle.transfer_set.specs.declared.row.Row.{Row}
 use Rattle.form_model.specs.declared.forms.Step.{Step}
-use Rattle.form_model.specs.Effects.{Location, register, reads, move_reads}
+use Rattle.form_model.specs.Effects.{LocationModel, register, reads, transfer_reads}
 use Rattle.form_model.specs.Live.{group_reads, group_writes, live_before, regs_of}
 use Rattle.word_fit.specs.Steps.{step_operation}
 use Rattle.word_fit.proofs.StepRows.{row_operation, operation_is}
 use Rattle.live_sets.specs.Listed.{IsListed, HasRowIds}
 use Rattle.live_sets.proofs.Bits.{regs_of_past}
 use Rattle.net_model.proofs.Far.{reads_far}
-use Rattle.word_fit.proofs.Occurring.{move_reads_occurs}
+use Rattle.word_fit.proofs.Occurring.{transfer_reads_occurs}
 use Rattle.std.proofs.lemmas.List.Elements.{All-weaker}
 
-module _ (netlist : Netlist) (order : List ℕ) (keeps : KeepsRules netlist order) (pool : List Node) (table : Table) (listed : IsListed netlist pool table) where
+module _ (netlist : Netlist) (order : List ℕ) (keeps : KeepsRules netlist order) (pool : List Node) (table : PatternTable) (listed : IsListed netlist pool table) where
   pattern_at : (i : ℕ) (row : Row) → slice_get table.rows i ≡ Some row → IsPattern netlist (row_pattern pool row)
   pattern_at i row e =
       let at : slice_get (row_patterns pool table.rows) i ≡ Some (row_pattern pool row) = slice_get-map (row_pattern pool) table.rows i ∙ some (slice_get table.rows i) e in
@@ -39,8 +39,8 @@ module _ (netlist : Netlist) (order : List ℕ) (keeps : KeepsRules netlist orde
   row_far i setting r None e h = refl
   row_far i setting r (Some row) e h =
       let p : IsPattern netlist (row_pattern pool row) = pattern_at i row e in
-      subst (λ m. move_reads setting m (register r) ≡ false) p.given.gives
-      (move_reads_occurs (move_at netlist p.word row.storage) setting r
+      subst (λ m. transfer_reads setting m (register r) ≡ false) p.given.gives
+      (transfer_reads_occurs (transfer_at netlist p.word row.storage) setting r
       ∙ reads_far r netlist (omega (arith, few_storages netlist order keeps, h)) (sound_of netlist order keeps).typed p.word row.storage)
 
   -- a step reads no register from 16 on
@@ -52,7 +52,7 @@ module _ (netlist : Netlist) (order : List ℕ) (keeps : KeepsRules netlist orde
   group_far (x ∷ g) r h = or_from _ _ (step_far x r h) (group_far g r h)
 
   -- whether a step reads a location that is a register
-  pub touch_register : (reader : Step) (id read : ℕ) (result : Bool) (s : Location) → register id ≡ s → (id < 16 → result ≡ regs_of read id) → (16 ≤ id → result ≡ false)
+  pub touch_register : (reader : Step) (id read : ℕ) (result : Bool) (s : LocationModel) → register id ≡ s → (id < 16 → result ≡ regs_of read id) → (16 ≤ id → result ≡ false)
       → ((r : ℕ) → r < 16 → regs_of read r ≡ reads (step_operation pool table reader) (register r)) → result ≡ reads (step_operation pool table reader) s
   touch_register reader id read result s es within past ed =
       subst (λ z. result ≡ reads (step_operation pool table reader) z) es
@@ -79,7 +79,7 @@ module _ (netlist : Netlist) (order : List ℕ) (keeps : KeepsRules netlist orde
           ]
 
 -- the table of a book lists its patterns
-pub listed_of : (netlist : Netlist) (book : Diagrams) (pool : List Node) (table : Table) → IsReady netlist book pool table → IsListed netlist pool table
+pub listed_of : (netlist : Netlist) (book : Diagrams) (pool : List Node) (table : PatternTable) → IsReady netlist book pool table → IsListed netlist pool table
 listed_of netlist book pool table r = record {
   each = r.patterns.each;
   rows = All-weaker (IsRow netlist book pool) (HasRowIds pool) (λ row h. record { addr = h.addr; value = h.value }) table.rows r.patterns.rows;

@@ -7,7 +7,7 @@ use Rattle.sym_expr.specs.declared.pool.Node.{Node}
 use Rattle.transfer_set.specs.Entries.{IsAddrKnown}
 use Rattle.transfer_set.specs.Ready.{IsReady}
 use Rattle.transfer_set.specs.Rows.{row_patterns}
-use Rattle.transfer_set.specs.Tables.{Table}
+use Rattle.transfer_set.specs.Tables.{PatternTable}
 use Rattle.transfer_set.specs.declared.row.Row.{Row}
 
 -- the row's ids are the pool's
@@ -16,12 +16,12 @@ pub record HasRowIds (pool : List Node) (row : Row) : Type 0 where
   pub value : row.value < length pool
 
 -- each row is a pattern of the netlist, and its ids are the pool's
-pub record IsListed (netlist : Netlist) (pool : List Node) (table : Table) : Type 0 where
+pub record IsListed (netlist : Netlist) (pool : List Node) (table : PatternTable) : Type 0 where
   pub each : All (IsPattern netlist) (row_patterns pool table.rows)
   pub rows : All (HasRowIds pool) table.rows
 
 -- so it is for a table over any book
 abbrev pub TablesAreListed : Type 0
 TablesAreListed =
-    (netlist : Netlist) (book : Diagrams) (pool : List Node) (table : Table) →
+    (netlist : Netlist) (book : Diagrams) (pool : List Node) (table : PatternTable) →
     IsReady netlist book pool table → IsListed netlist pool table

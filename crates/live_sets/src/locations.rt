@@ -4,12 +4,12 @@ ghost use Rattle.std.specs.Prelude.{◌≡◌, ◌+◌, ◌%◌, ◌^◌, ◌<�
 ghost use Rattle.rec_bits.specs.Operators.{sext_of};
 ghost use Rattle.net_model.specs.Meaning.{mean};
 ghost use Rattle.net_model.specs.Symbolic.{no_state};
-ghost use Rattle.sym_expr.specs.Pools.{term_at};
+ghost use Rattle.sym_expr.specs.Pools.{expr_of_id};
 ghost use Rattle.rec_bits.specs.declared.operator.Op2.TheVariants.{Add};
-ghost use Rattle.net_model.specs.Terms.{bin, term_width};
+ghost use Rattle.net_model.specs.Exprs.{bin, expr_width};
 ghost use Rattle.form_model.specs.Shapes.{is_field, is_plain, is_shape};
 ghost use Rattle.form_model.specs.Effects.{may_see, location_at};
-ghost use Rattle.live_sets.specs.Reading.{read_location};
+ghost use Rattle.live_sets.specs.Reading.{model_of_location};
 
 use net_model::Space;
 use rec_bits::{Op2, slice};
@@ -44,8 +44,8 @@ fn wide_sext(value: u64, from: u8, to: u8) -> u128
 // The value of the instruction word or of a slice of it.
 fn field_value(pool: &Pool, id: ExprId, setting: u64) -> Option<u64>
     requires { id < length pool.now }
-    ensures { MatchOption result (is_field (term_at pool.now id) ≡ false)
-        (λ value. (is_field (term_at pool.now id) ≡ true) × (mean (term_at pool.now id) no_state setting ≡ value)) }
+    ensures { MatchOption result (is_field (expr_of_id pool.now id) ≡ false)
+        (λ value. (is_field (expr_of_id pool.now id) ≡ true) × (mean (expr_of_id pool.now id) no_state setting ≡ value)) }
 {
     match pool.node(id) {
         Node::Word(_) => Some(setting),
@@ -60,8 +60,8 @@ fn field_value(pool: &Pool, id: ExprId, setting: u64) -> Option<u64>
 // The value of a field shape that is no sum.
 fn plain_value(pool: &Pool, id: ExprId, setting: u64) -> Option<u128>
     requires { id < length pool.now }
-    ensures value { MatchOption result (is_plain (term_at pool.now id) ≡ false)
-        (λ value. (is_plain (term_at pool.now id) ≡ true) × (mean (term_at pool.now id) no_state setting ≡ value)) }
+    ensures value { MatchOption result (is_plain (expr_of_id pool.now id) ≡ false)
+        (λ value. (is_plain (expr_of_id pool.now id) ≡ true) × (mean (expr_of_id pool.now id) no_state setting ≡ value)) }
     ensures small { IfSome result (λ value. value < 2 ^ 66) }
 {
     match pool.node(id) {
@@ -85,9 +85,9 @@ fn plain_value(pool: &Pool, id: ExprId, setting: u64) -> Option<u128>
 fn sum_value(pool: &Pool, width: u8, added: u64, to: ExprId, setting: u64) -> Option<u128>
     requires within { to < length pool.now }
     requires high { width ≤ 64 }
-    ensures { MatchOption result (is_plain (term_at pool.now to) ≡ false)
-        (λ value. (is_plain (term_at pool.now to) ≡ true)
-        × ((added + mean (term_at pool.now to) no_state setting) % 2 ^ width ≡ value)) }
+    ensures { MatchOption result (is_plain (expr_of_id pool.now to) ≡ false)
+        (λ value. (is_plain (expr_of_id pool.now to) ≡ true)
+        × ((added + mean (expr_of_id pool.now to) no_state setting) % 2 ^ width ≡ value)) }
 {
     match plain_value(pool, to, setting) {
         Some(value) => Some((u128::from(added) + value) % (1u128 << width)),
@@ -99,10 +99,10 @@ fn sum_value(pool: &Pool, width: u8, added: u64, to: ExprId, setting: u64) -> Op
 fn added_value(pool: &Pool, a: ExprId, b: ExprId, setting: u64) -> Option<u128>
     requires first { a < length pool.now }
     requires second { b < length pool.now }
-    requires width { term_width (term_at pool.now b) ≡ term_width (term_at pool.now a) }
-    ensures { MatchOption result (is_shape (bin Add (term_at pool.now a) (term_at pool.now b)) ≡ false)
-        (λ value. (is_shape (bin Add (term_at pool.now a) (term_at pool.now b)) ≡ true)
-        × (mean (bin Add (term_at pool.now a) (term_at pool.now b)) no_state setting ≡ value)) }
+    requires width { expr_width (expr_of_id pool.now b) ≡ expr_width (expr_of_id pool.now a) }
+    ensures { MatchOption result (is_shape (bin Add (expr_of_id pool.now a) (expr_of_id pool.now b)) ≡ false)
+        (λ value. (is_shape (bin Add (expr_of_id pool.now a) (expr_of_id pool.now b)) ≡ true)
+        × (mean (bin Add (expr_of_id pool.now a) (expr_of_id pool.now b)) no_state setting ≡ value)) }
 {
     match (pool.node(a), pool.node(b)) {
         (Node::Const { width, value }, _) => sum_value(pool, width, value, b, setting),
@@ -114,8 +114,8 @@ fn added_value(pool: &Pool, a: ExprId, b: ExprId, setting: u64) -> Option<u128>
 // The value of a field shape.
 fn shape_value(pool: &Pool, id: ExprId, setting: u64) -> Option<u128>
     requires { id < length pool.now }
-    ensures { MatchOption result (is_shape (term_at pool.now id) ≡ false)
-        (λ value. (is_shape (term_at pool.now id) ≡ true) × (mean (term_at pool.now id) no_state setting ≡ value)) }
+    ensures { MatchOption result (is_shape (expr_of_id pool.now id) ≡ false)
+        (λ value. (is_shape (expr_of_id pool.now id) ≡ true) × (mean (expr_of_id pool.now id) no_state setting ≡ value)) }
 {
     match pool.node(id) {
         Node::Bin(Op2::Add, a, b) => added_value(pool, a, b, setting),
@@ -126,7 +126,7 @@ fn shape_value(pool: &Pool, id: ExprId, setting: u64) -> Option<u128>
 // The cell of a space at an address, where a setting settles it.
 pub(crate) fn cell_at(pool: &Pool, space: Space, addr: ExprId, setting: u64) -> Location
     requires { addr < length pool.now }
-    ensures { read_location result ≡ location_at space setting (term_at pool.now addr) }
+    ensures { model_of_location result ≡ location_at space setting (expr_of_id pool.now addr) }
 {
     match shape_value(pool, addr, setting) {
         Some(value) => Location::Cell(space, value),
@@ -136,7 +136,7 @@ pub(crate) fn cell_at(pool: &Pool, space: Space, addr: ExprId, setting: u64) -> 
 
 // Whether a read at the first location may see a write at the second.
 pub(crate) fn may_see(read: Location, written: Location) -> bool
-    ensures { result ≡ may_see (read_location read) (read_location written) }
+    ensures { result ≡ may_see (model_of_location read) (model_of_location written) }
 {
     match (read, written) {
         (_, Location::Register(_)) => false,

@@ -2,10 +2,10 @@
 
 ghost use Rattle.std.specs.Prelude.{◌≡◌, ℕ, ◌<◌, false, length, slice_index, IfOk};
 ghost use Rattle.std.specs.List.{slice_index_or};
-ghost use Rattle.sym_expr.specs.Pools.{term_at};
-ghost use Rattle.form_model.specs.Effects.{register, term_reads};
+ghost use Rattle.sym_expr.specs.Pools.{expr_of_id};
+ghost use Rattle.form_model.specs.Effects.{register, expr_reads};
 ghost use Rattle.form_model.specs.Live.{regs_of};
-ghost use Rattle.live_sets.specs.Reading.{AreReads, AreSeen, read_location};
+ghost use Rattle.live_sets.specs.Reading.{AreReads, AreSeen, model_of_location};
 
 use crate::locations::{Location, cell_at, may_see};
 use crate::regs::{none, one, union};
@@ -30,7 +30,7 @@ fn node_reads(pool: &Pool, sets: &[RegSet], id: ExprId) -> RegSet
     requires within { id < length pool.now }
     requires long { length sets.now ≡ id }
     requires reads { AreReads pool.now sets.now }
-    ensures { (setting r : ℕ) → r < 16 → regs_of result r ≡ term_reads setting (term_at pool.now id) (register r) }
+    ensures { (setting r : ℕ) → r < 16 → regs_of result r ≡ expr_reads setting (expr_of_id pool.now id) (register r) }
 {
     match pool.node(id) {
         Node::Word(_) | Node::Const { .. } => none(),
@@ -73,8 +73,8 @@ pub fn flag_at(flags: &[bool], id: ExprId) -> bool
 fn node_sees(pool: &Pool, setting: u64, location: Location, flags: &[bool], id: ExprId) -> bool
     requires within { id < length pool.now }
     requires long { length flags.now ≡ id }
-    requires seen { AreSeen pool.now setting (read_location location) flags.now }
-    ensures { result ≡ term_reads setting (term_at pool.now id) (read_location location) }
+    requires seen { AreSeen pool.now setting (model_of_location location) flags.now }
+    ensures { result ≡ expr_reads setting (expr_of_id pool.now id) (model_of_location location) }
 {
     match pool.node(id) {
         Node::Word(_) | Node::Const { .. } => false,
@@ -101,7 +101,7 @@ pub(crate) fn seen_table(
     location: Location,
 ) -> Result<Items<bool>, NoMemory>
     ensures long { IfOk result (λ flags. length flags ≡ length pool.now) }
-    ensures seen { IfOk result (λ flags. AreSeen pool.now setting (read_location location) flags) }
+    ensures seen { IfOk result (λ flags. AreSeen pool.now setting (model_of_location location) flags) }
 {
     let mut flags = Items::new(alloc);
     for id in 0..pool.len() {

@@ -2,11 +2,11 @@
 
 ghost use Rattle.std.specs.Prelude.{◌≡◌, ℕ, ◌<◌, All, List, length, IfOk};
 ghost use Rattle.sym_expr.specs.declared.pool.Node.{Node};
-ghost use Rattle.form_model.specs.Effects.{reads, register, same_destination, location_of, term_reads, writes};
+ghost use Rattle.form_model.specs.Effects.{reads, register, same_destination, location_of, expr_reads, writes};
 ghost use Rattle.form_model.specs.Live.{group_reads, group_writes, regs_of};
 ghost use Rattle.word_fit.specs.Steps.{step_operation};
 ghost use Rattle.live_sets.specs.Listed.{IsListed, HasRowIds};
-ghost use Rattle.live_sets.specs.Reading.{AreReads, read_location};
+ghost use Rattle.live_sets.specs.Reading.{AreReads, model_of_location};
 
 use crate::locations::{Location, cell_at, may_see};
 use crate::reads::{flag_at, seen_table, set_at};
@@ -75,7 +75,7 @@ pub(crate) fn writes_of(patterns: &Patterns, group: &[Step]) -> RegSet
 // first storage.
 fn location_of_step(patterns: &Patterns, pool: &Pool, step: Step) -> Location
     requires { All (HasRowIds pool.now) patterns.now.rows }
-    ensures { read_location result ≡ location_of (step_operation pool.now patterns.now step) }
+    ensures { model_of_location result ≡ location_of (step_operation pool.now patterns.now step) }
 {
     match patterns.storage_of(step.pattern) {
         None => Location::Register(0),
@@ -98,7 +98,7 @@ fn sees(
 ) -> Result<bool, NoMemory>
     requires { All (HasRowIds pool.now) patterns.now.rows }
     ensures { IfOk result (λ seen.
-        seen ≡ reads (step_operation pool.now patterns.now reader) (read_location location)) }
+        seen ≡ reads (step_operation pool.now patterns.now reader) (model_of_location location)) }
 {
     let flags = seen_table(alloc, pool, reader.setting, location)?;
     match patterns.expr_of(reader.pattern) {

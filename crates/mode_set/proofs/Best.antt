@@ -1,21 +1,21 @@
 -- The best plan among those of the first modes, one mode after the other.
 use Rattle.std.proofs.Common.{ℕ, zero, suc, [], ◌∷◌, length, slice_get, ◌≡◌, ◌≤◌, ◌<◌, ◌+◌, ◌⊎◌, inl, inr, nat_le, if◌then◌else◌, Bool, true, false, List, Option, Some, None, refl, sym, ◌∙◌, ap, arith, subst}
 use Rattle.std.proofs.lemmas.Bool.{leb-true, leb-false, cases_lt}
-use Rattle.net_model.specs.Terms.{Term}
-use Rattle.form_model.specs.Covers.{Choice, ChoiceBefore, Covers, IsChosen, Stock, job_cost, parts_cost}
-use Rattle.form_model.specs.Plans.{Plan as Covering, cost, use_form}
-use Rattle.form_model.specs.Rules.{Destination, into, filed, cell, stored, temporary, tested}
+use Rattle.net_model.specs.Exprs.{ExprModel}
+use Rattle.form_model.specs.Covers.{JobCoverModel, ChoiceBefore, Covers, IsChosen, StockModel, job_cost, parts_cost}
+use Rattle.form_model.specs.CoverModels.{CoverModel as Covering, cost, use_form}
+use Rattle.form_model.specs.Forms.{DestinationModel, into, filed, cell, stored, temporary, tested}
 use Rattle.mode_set.specs.declared.plans.Priced.{Priced}
 use Rattle.mode_set.specs.Costs.{CoversIn, HasNoPlan, IsPlanned, MayRunIn, mode_cost}
 use Rattle.mode_set.specs.Inner.Best.{IsBestBelow, IsPlanIn, IsPriceBy, better_of}
-use Rattle.mode_set.specs.Plans.{planned_of}
+use Rattle.mode_set.specs.Plans.{model_of_plan}
 
 -- ---- a chosen cover costs no more than another
 
 own_one : (plan : Covering) → cost plan ≡ 1 + parts_cost plan
 own_one (use_form k ps cs) = omega arith
 
-less_cost : (destination : Destination) (p q : Covering) → cost p ≤ cost q → job_cost destination p ≤ job_cost destination q
+less_cost : (destination : DestinationModel) (p q : Covering) → cost p ≤ cost q → job_cost destination p ≤ job_cost destination q
 less_cost tested p q le = let a = own_one p in let b = own_one q in omega (arith, a, b, le)
 less_cost (into id) p q le = le
 less_cost filed p q le = le
@@ -23,37 +23,37 @@ less_cost (cell address) p q le = le
 less_cost (stored address) p q le = le
 less_cost temporary p q le = le
 
-chosen_least : (stock : Stock) (destination : Destination) (trees : List Term) (a b : Choice) → IsChosen stock destination trees a → Covers stock destination trees b → job_cost destination a.plan ≤ job_cost destination b.plan
+chosen_least : (stock : StockModel) (destination : DestinationModel) (trees : List ExprModel) (a b : JobCoverModel) → IsChosen stock destination trees a → Covers stock destination trees b → job_cost destination a.plan ≤ job_cost destination b.plan
 chosen_least stock destination trees a b h k = less_cost destination a.plan b.plan (by (h.first b k))
   where
     by : (cost a.plan < cost b.plan) ⊎ ((cost a.plan ≡ cost b.plan) × ((a ≡ b) ⊎ ChoiceBefore a b)) → cost a.plan ≤ cost b.plan
     by (inl l) = omega (arith, l)
     by (inr e) = let s = e.0 in omega (arith, s)
 
-module _ (stock : ℕ → Stock) (Usable : ℕ → Type 0) (destination : Destination) (trees : List Term) where
-  abbrev Least : ℕ → ℕ → ℕ → Choice → Type 0
+module _ (stock : ℕ → StockModel) (Usable : ℕ → Type 0) (destination : DestinationModel) (trees : List ExprModel) where
+  abbrev Least : ℕ → ℕ → ℕ → JobCoverModel → Type 0
   Least c mode v other = (c < mode_cost v destination other.plan) ⊎ ((c ≡ mode_cost v destination other.plan) × (mode ≤ v))
 
   -- the plan of a mode is the least there
-  own_least : (v : ℕ) (p : Priced) → IsPlanIn stock Usable destination trees v (Some p) → (other : Choice) → CoversIn stock Usable destination trees v other → p.cost ≤ mode_cost v destination other.plan
+  own_least : (v : ℕ) (p : Priced) → IsPlanIn stock Usable destination trees v (Some p) → (other : JobCoverModel) → CoversIn stock Usable destination trees v other → p.cost ≤ mode_cost v destination other.plan
   own_least v p h other c =
       let e : p.plan.mode ≡ v = h.0 in
-      let k : IsChosen (stock v) destination trees (planned_of p.plan).choice = subst (λ m. IsChosen (stock m) destination trees (planned_of p.plan).choice) e h.1.chosen in
-      let own : p.cost ≡ mode_cost v destination (planned_of p.plan).choice.plan = h.1.cost ∙ ap (λ m. mode_cost m destination (planned_of p.plan).choice.plan) e in
-      let le = chosen_least (stock v) destination trees (planned_of p.plan).choice other k c.covers in
+      let k : IsChosen (stock v) destination trees (model_of_plan p.plan).choice = subst (λ m. IsChosen (stock m) destination trees (model_of_plan p.plan).choice) e h.1.chosen in
+      let own : p.cost ≡ mode_cost v destination (model_of_plan p.plan).choice.plan = h.1.cost ∙ ap (λ m. mode_cost m destination (model_of_plan p.plan).choice.plan) e in
+      let le = chosen_least (stock v) destination trees (model_of_plan p.plan).choice other k c.covers in
       omega (arith, own, le)
 
   -- the plan that the forms of one mode give
-  pub plan_of_mode : (v : ℕ) (forms : Stock) → stock v ≡ forms → Usable v → MayRunIn destination v → (o : Option Priced) → IsPriceBy forms destination trees v o → IsPlanIn stock Usable destination trees v o
-  plan_of_mode v forms told can may None h = λ choice c. h.none choice (subst (λ (s : Stock). Covers s destination trees choice) told c.covers)
+  pub plan_of_mode : (v : ℕ) (forms : StockModel) → stock v ≡ forms → Usable v → MayRunIn destination v → (o : Option Priced) → IsPriceBy forms destination trees v o → IsPlanIn stock Usable destination trees v o
+  plan_of_mode v forms told can may None h = λ choice c. h.none choice (subst (λ (s : StockModel). Covers s destination trees choice) told c.covers)
   plan_of_mode v forms told can may (Some p) h = (
     h.mode,
     record {
       can = subst Usable (sym h.mode) can;
       may = subst (MayRunIn destination) (sym h.mode) may;
-      chosen = subst (λ m. IsChosen (stock m) destination trees (planned_of p.plan).choice) (sym h.mode) (subst (λ (s : Stock). IsChosen s destination trees (planned_of p.plan).choice) (sym told) h.chosen);
+      chosen = subst (λ m. IsChosen (stock m) destination trees (model_of_plan p.plan).choice) (sym h.mode) (subst (λ (s : StockModel). IsChosen s destination trees (model_of_plan p.plan).choice) (sym told) h.chosen);
       own = h.own;
-      cost = h.cost ∙ ap (λ m. mode_cost m destination (planned_of p.plan).choice.plan) (sym h.mode);
+      cost = h.cost ∙ ap (λ m. mode_cost m destination (model_of_plan p.plan).choice.plan) (sym h.mode);
     },
   )
 
@@ -67,7 +67,7 @@ module _ (stock : ℕ → Stock) (Usable : ℕ → Type 0) (destination : Destin
   pub best_more : (n : ℕ) (best next : Option Priced) → IsBestBelow stock Usable destination trees n best → IsPlanIn stock Usable destination trees n next → IsBestBelow stock Usable destination trees (n + 1) (better_of best next)
   best_more n None None h k = λ v choice lt c. by v choice c (split v n lt)
     where
-      by : (v : ℕ) (choice : Choice) → CoversIn stock Usable destination trees v choice → (v < n) ⊎ (v ≡ n) → ⊥
+      by : (v : ℕ) (choice : JobCoverModel) → CoversIn stock Usable destination trees v choice → (v < n) ⊎ (v ≡ n) → ⊥
       by v choice c (inl l) = h v choice l c
       by v choice c (inr e) = k choice (subst (λ m. CoversIn stock Usable destination trees m choice) e c)
   best_more n (Some known) None h k = record {
@@ -76,7 +76,7 @@ module _ (stock : ℕ → Stock) (Usable : ℕ → Type 0) (destination : Destin
     least = λ v other lt c. by v other c (split v n lt);
   }
     where
-      by : (v : ℕ) (other : Choice) → CoversIn stock Usable destination trees v other → (v < n) ⊎ (v ≡ n) → Least known.cost known.plan.mode v other
+      by : (v : ℕ) (other : JobCoverModel) → CoversIn stock Usable destination trees v other → (v < n) ⊎ (v ≡ n) → Least known.cost known.plan.mode v other
       by v other c (inl l) = h.least v other l c
       by v other c (inr e) = absurd (k other (subst (λ m. CoversIn stock Usable destination trees m other) e c))
   best_more n None (Some later) h k = record {
@@ -85,7 +85,7 @@ module _ (stock : ℕ → Stock) (Usable : ℕ → Type 0) (destination : Destin
     least = λ v other lt c. by v other c (split v n lt);
   }
     where
-      by : (v : ℕ) (other : Choice) → CoversIn stock Usable destination trees v other → (v < n) ⊎ (v ≡ n) → Least later.cost later.plan.mode v other
+      by : (v : ℕ) (other : JobCoverModel) → CoversIn stock Usable destination trees v other → (v < n) ⊎ (v ≡ n) → Least later.cost later.plan.mode v other
       by v other c (inl l) = absurd (h v other l c)
       by v other c (inr e) =
           let own = own_least n later k other (subst (λ m. CoversIn stock Usable destination trees m other) e c) in
@@ -106,7 +106,7 @@ module _ (stock : ℕ → Stock) (Usable : ℕ → Type 0) (destination : Destin
         least = λ v other lt c. by v other c (split v n lt);
       }
         where
-          by : (v : ℕ) (other : Choice) → CoversIn stock Usable destination trees v other → (v < n) ⊎ (v ≡ n) → Least known.cost known.plan.mode v other
+          by : (v : ℕ) (other : JobCoverModel) → CoversIn stock Usable destination trees v other → (v < n) ⊎ (v ≡ n) → Least known.cost known.plan.mode v other
           by v other c (inl l) = h.least v other l c
           by v other c (inr f) =
               let own = own_least n later k other (subst (λ m. CoversIn stock Usable destination trees m other) f c) in
@@ -123,7 +123,7 @@ module _ (stock : ℕ → Stock) (Usable : ℕ → Type 0) (destination : Destin
         least = λ v other lt c. by v other c (split v n lt);
       }
         where
-          by : (v : ℕ) (other : Choice) → CoversIn stock Usable destination trees v other → (v < n) ⊎ (v ≡ n) → Least later.cost later.plan.mode v other
+          by : (v : ℕ) (other : JobCoverModel) → CoversIn stock Usable destination trees v other → (v < n) ⊎ (v ≡ n) → Least later.cost later.plan.mode v other
           by v other c (inl l) =
               let gt = leb-false known.cost later.cost e in
               inl (less gt (h.least v other l c))
@@ -141,7 +141,7 @@ module _ (stock : ℕ → Stock) (Usable : ℕ → Type 0) (destination : Destin
               ]
 
   -- over all modes that can be used
-  pub best_planned : (n : ℕ) (p : Priced) → ((v : ℕ) → Usable v → v < n) → IsBestBelow stock Usable destination trees n (Some p) → IsPlanned stock Usable destination trees (planned_of p.plan)
+  pub best_planned : (n : ℕ) (p : Priced) → ((v : ℕ) → Usable v → v < n) → IsBestBelow stock Usable destination trees n (Some p) → IsPlanned stock Usable destination trees (model_of_plan p.plan)
   best_planned n p within h = record {
     can = h.is.can;
     may = h.is.may;

@@ -10,29 +10,29 @@ use Rattle.net_model.specs.declared.hardware.Netlist.{Netlist}
 use Rattle.net_model.specs.Patterns.{Pattern}
 use Rattle.form_model.specs.declared.forms.Form.{Form}
 use Rattle.form_model.specs.Registers.{AreLow, IsLow}
-use Rattle.form_model.specs.Rules.{Kind, Rule, into_reg, into_memory, into_file, jumps, branches, rule_of, rules_of}
+use Rattle.form_model.specs.Forms.{GoalModel, FormModel, into_reg, into_memory, into_file, jumps, branches, model_of_form, models_of_forms}
 use Rattle.form_set.specs.Listing.{goal_reach, greatest_reach}
 use Rattle.form_set.specs.Promises.{is_control_goal}
 use Rattle.form_set.specs.Words.{CanTurn, TurnsAt}
-use Rattle.mode_set.specs.Keeping.{AreKeeping, FormKeeps, FormKeepsMode, KindKeeps}
+use Rattle.mode_set.specs.Keeping.{AreKeeping, FormKeeps, FormKeepsMode, GoalKeeps}
 
 module _ (netlist : Netlist) (patterns : List Pattern) (o : Option ℕ) where
   -- the forms that are kept of a front part and one more form
-  pub kept_more : (rules kept : List Rule) (rule : Rule) → AreKeeping netlist patterns o rules kept → FormKeepsMode netlist patterns o rule → AreKeeping netlist patterns o (rules ++ rule ∷ []) (kept ++ rule ∷ [])
-  kept_more [] kept rule h k = ([], refl, inl (k, ap (λ (list : List Rule). list ++ rule ∷ []) h))
+  pub kept_more : (rules kept : List FormModel) (rule : FormModel) → AreKeeping netlist patterns o rules kept → FormKeepsMode netlist patterns o rule → AreKeeping netlist patterns o (rules ++ rule ∷ []) (kept ++ rule ∷ [])
+  kept_more [] kept rule h k = ([], refl, inl (k, ap (λ (list : List FormModel). list ++ rule ∷ []) h))
   kept_more (r ∷ rules) kept rule h k = elim h.2 as (λ _. AreKeeping netlist patterns o (r ∷ (rules ++ rule ∷ [])) (kept ++ rule ∷ [])) [
-    | inl x ↦ (h.0 ++ rule ∷ [], kept_more rules h.0 rule h.1 k, inl (x.0, ap (λ (list : List Rule). list ++ rule ∷ []) x.1))
-    | inr x ↦ (h.0 ++ rule ∷ [], kept_more rules h.0 rule h.1 k, inr (x.0, ap (λ (list : List Rule). list ++ rule ∷ []) x.1))
+    | inl x ↦ (h.0 ++ rule ∷ [], kept_more rules h.0 rule h.1 k, inl (x.0, ap (λ (list : List FormModel). list ++ rule ∷ []) x.1))
+    | inr x ↦ (h.0 ++ rule ∷ [], kept_more rules h.0 rule h.1 k, inr (x.0, ap (λ (list : List FormModel). list ++ rule ∷ []) x.1))
   ]
 
-  pub left_more : (rules kept : List Rule) (rule : Rule) → AreKeeping netlist patterns o rules kept → (FormKeepsMode netlist patterns o rule → ⊥) → AreKeeping netlist patterns o (rules ++ rule ∷ []) kept
+  pub left_more : (rules kept : List FormModel) (rule : FormModel) → AreKeeping netlist patterns o rules kept → (FormKeepsMode netlist patterns o rule → ⊥) → AreKeeping netlist patterns o (rules ++ rule ∷ []) kept
   left_more [] kept rule h k = ([], refl, inr (k, h))
   left_more (r ∷ rules) kept rule h k = elim h.2 as (λ _. AreKeeping netlist patterns o (r ∷ (rules ++ rule ∷ [])) kept) [
     | inl x ↦ (h.0, left_more rules h.0 rule h.1 k, inl x)
     | inr x ↦ (h.0, left_more rules h.0 rule h.1 k, inr x)
   ]
 
-pub reach_more : (rules : List Rule) (rule : Rule) → greatest_reach (rules ++ rule ∷ []) ≡ max (greatest_reach rules) (goal_reach rule.goal)
+pub reach_more : (rules : List FormModel) (rule : FormModel) → greatest_reach (rules ++ rule ∷ []) ≡ max (greatest_reach rules) (goal_reach rule.goal)
 reach_more [] rule = omega arith
 reach_more (r ∷ rules) rule = let h = reach_more rules rule in omega (arith, h)
 
@@ -43,28 +43,28 @@ none_past [] k e = omega arith
 none_past (x ∷ xs) zero e = absurd (cc e)
 none_past (x ∷ xs) (suc k) e = let h = none_past xs k e in omega (arith, h)
 
-module _ (netlist : Netlist) (patterns : List Pattern) (mode : ℕ) (rule : Rule) where
+module _ (netlist : Netlist) (patterns : List Pattern) (mode : ℕ) (rule : FormModel) where
   -- a form that is no jump and no branch keeps the mode where its clobbers don't hold it
-  kind_clear : (pattern : Pattern) (k : Kind) → is_control_goal k ≡ false → bit_at rule.clobbers mode ≡ 0 → KindKeeps netlist pattern mode rule k
-  kind_clear pattern (into_reg id) e h = h
-  kind_clear pattern into_memory e h = h
-  kind_clear pattern into_file e h = h
-  kind_clear pattern (jumps reach) e h = absurd (cc e)
-  kind_clear pattern (branches when_one to) e h = absurd (cc e)
+  goal_clear : (pattern : Pattern) (k : GoalModel) → is_control_goal k ≡ false → bit_at rule.clobbers mode ≡ 0 → GoalKeeps netlist pattern mode rule k
+  goal_clear pattern (into_reg id) e h = h
+  goal_clear pattern into_memory e h = h
+  goal_clear pattern into_file e h = h
+  goal_clear pattern (jumps reach) e h = absurd (cc e)
+  goal_clear pattern (branches when_one to) e h = absurd (cc e)
 
-  clear_kind : (pattern : Pattern) (k : Kind) → is_control_goal k ≡ false → KindKeeps netlist pattern mode rule k → bit_at rule.clobbers mode ≡ 0
-  clear_kind pattern (into_reg id) e h = h
-  clear_kind pattern into_memory e h = h
-  clear_kind pattern into_file e h = h
-  clear_kind pattern (jumps reach) e h = absurd (cc e)
-  clear_kind pattern (branches when_one to) e h = absurd (cc e)
+  clear_goal : (pattern : Pattern) (k : GoalModel) → is_control_goal k ≡ false → GoalKeeps netlist pattern mode rule k → bit_at rule.clobbers mode ≡ 0
+  clear_goal pattern (into_reg id) e h = h
+  clear_goal pattern into_memory e h = h
+  clear_goal pattern into_file e h = h
+  clear_goal pattern (jumps reach) e h = absurd (cc e)
+  clear_goal pattern (branches when_one to) e h = absurd (cc e)
 
   pub stores_keep : is_control_goal rule.goal ≡ false → rule.pattern < length patterns → (bit_at rule.clobbers mode ≡ 0) ↔ FormKeeps netlist patterns mode rule
-  stores_keep e lt = (λ h. by (slice_get patterns rule.pattern) refl h, λ f. clear_kind f.pattern rule.goal e f.keeps)
+  stores_keep e lt = (λ h. by (slice_get patterns rule.pattern) refl h, λ f. clear_goal f.pattern rule.goal e f.keeps)
     where
       by : (q : Option Pattern) → slice_get patterns rule.pattern ≡ q → bit_at rule.clobbers mode ≡ 0 → FormKeeps netlist patterns mode rule
       by None at h = absurd (let le = none_past patterns rule.pattern at in omega (arith, lt, le))
-      by (Some pattern) at h = record { pattern = pattern; at = at; keeps = kind_clear pattern rule.goal e h }
+      by (Some pattern) at h = record { pattern = pattern; at = at; keeps = goal_clear pattern rule.goal e h }
 
   -- the same, as the code asks
   pub spared_keep : is_control_goal rule.goal ≡ false → rule.pattern < length patterns → IsTrue (bit_and (rule.clobbers / 2 ^ mode) 1 == 0) ↔ FormKeeps netlist patterns mode rule
@@ -75,40 +75,40 @@ module _ (netlist : Netlist) (patterns : List Pattern) (mode : ℕ) (rule : Rule
       )
 
   -- a jump or a branch keeps it where its pattern turns
-  kind_turns : (pattern : Pattern) (k : Kind) → is_control_goal k ≡ true → CanTurn netlist pattern mode → KindKeeps netlist pattern mode rule k
-  kind_turns pattern (into_reg id) e h = absurd (cc e)
-  kind_turns pattern into_memory e h = absurd (cc e)
-  kind_turns pattern into_file e h = absurd (cc e)
-  kind_turns pattern (jumps reach) e h = h
-  kind_turns pattern (branches when_one to) e h = h
+  goal_turns : (pattern : Pattern) (k : GoalModel) → is_control_goal k ≡ true → CanTurn netlist pattern mode → GoalKeeps netlist pattern mode rule k
+  goal_turns pattern (into_reg id) e h = absurd (cc e)
+  goal_turns pattern into_memory e h = absurd (cc e)
+  goal_turns pattern into_file e h = absurd (cc e)
+  goal_turns pattern (jumps reach) e h = h
+  goal_turns pattern (branches when_one to) e h = h
 
-  turns_kind : (pattern : Pattern) (k : Kind) → is_control_goal k ≡ true → KindKeeps netlist pattern mode rule k → CanTurn netlist pattern mode
-  turns_kind pattern (into_reg id) e h = absurd (cc e)
-  turns_kind pattern into_memory e h = absurd (cc e)
-  turns_kind pattern into_file e h = absurd (cc e)
-  turns_kind pattern (jumps reach) e h = h
-  turns_kind pattern (branches when_one to) e h = h
+  turns_goal : (pattern : Pattern) (k : GoalModel) → is_control_goal k ≡ true → GoalKeeps netlist pattern mode rule k → CanTurn netlist pattern mode
+  turns_goal pattern (into_reg id) e h = absurd (cc e)
+  turns_goal pattern into_memory e h = absurd (cc e)
+  turns_goal pattern into_file e h = absurd (cc e)
+  turns_goal pattern (jumps reach) e h = h
+  turns_goal pattern (branches when_one to) e h = h
 
   pub turns_keep : is_control_goal rule.goal ≡ true → TurnsAt netlist (slice_get patterns rule.pattern) mode ↔ FormKeeps netlist patterns mode rule
   turns_keep e = (
     λ h. by (slice_get patterns rule.pattern) refl h,
-    λ f. subst (λ q. TurnsAt netlist q mode) (sym f.at) (turns_kind f.pattern rule.goal e f.keeps),
+    λ f. subst (λ q. TurnsAt netlist q mode) (sym f.at) (turns_goal f.pattern rule.goal e f.keeps),
   )
     where
       by : (q : Option Pattern) → slice_get patterns rule.pattern ≡ q → TurnsAt netlist q mode → FormKeeps netlist patterns mode rule
       by None at h = absurd h
-      by (Some pattern) at h = record { pattern = pattern; at = at; keeps = kind_turns pattern rule.goal e h }
+      by (Some pattern) at h = record { pattern = pattern; at = at; keeps = goal_turns pattern rule.goal e h }
 
 -- ---- lists of forms
 
 -- what holds of a list and of one more form
-low_cases : (rules : List Rule) (rule : Rule) (k : ℕ) (other : Rule) → slice_get (rules ++ rule ∷ []) k ≡ Some other → (slice_get rules k ≡ Some other) ⊎ (rule ≡ other)
+low_cases : (rules : List FormModel) (rule : FormModel) (k : ℕ) (other : FormModel) → slice_get (rules ++ rule ∷ []) k ≡ Some other → (slice_get rules k ≡ Some other) ⊎ (rule ≡ other)
 low_cases [] rule zero other e = inr (cc)
 low_cases [] rule (suc k) other e = absurd (cc)
 low_cases (r ∷ rules) rule zero other e = inl e
 low_cases (r ∷ rules) rule (suc k) other e = low_cases rules rule k other e
 
-low_more : (rules : List Rule) (rule : Rule) → AreLow rules → IsLow rule → AreLow (rules ++ rule ∷ [])
+low_more : (rules : List FormModel) (rule : FormModel) → AreLow rules → IsLow rule → AreLow (rules ++ rule ∷ [])
 low_more rules rule low own = λ k other e. elim (low_cases rules rule k other e) as (λ _. IsLow other) [
   | inl there ↦ low k other there
   | inr same ↦ subst IsLow same own
@@ -121,41 +121,41 @@ pattern_at n (f ∷ forms) zero form all lt is = subst (λ (x : Form). x.pattern
 pattern_at n (f ∷ forms) (suc i) form all lt is = pattern_at n forms i form all.1 (omega (arith, lt)) is
 
 -- its rule
-pub listed : (forms : List Form) (i : ℕ) (form : Form) → i < length forms → form ≡ get_or forms i form → slice_get (rules_of forms) i ≡ Some (rule_of form)
-listed forms i form lt is = slice_get-map rule_of forms i ∙ ap (option_map rule_of) (slice_get_read forms (length forms) i form refl lt is)
+pub listed : (forms : List Form) (i : ℕ) (form : Form) → i < length forms → form ≡ get_or forms i form → slice_get (models_of_forms forms) i ≡ Some (model_of_form form)
+listed forms i form lt is = slice_get-map model_of_form forms i ∙ ap (option_map model_of_form) (slice_get_read forms (length forms) i form refl lt is)
 
 -- a form behind those before it
-pub next_rules : (forms : List Form) (i : ℕ) (form : Form) → i < length forms → form ≡ get_or forms i form → rules_of (take (i + 1) forms) ≡ rules_of (take i forms) ++ rule_of form ∷ []
-next_rules forms i form lt is =
-    ap rules_of (take_more forms i form lt)
-    ∙ map-append rule_of (take i forms) (get_or forms i form ∷ [])
-    ∙ ap (λ (f : Form). rules_of (take i forms) ++ rule_of f ∷ []) (sym is)
+pub next_forms : (forms : List Form) (i : ℕ) (form : Form) → i < length forms → form ≡ get_or forms i form → models_of_forms (take (i + 1) forms) ≡ models_of_forms (take i forms) ++ model_of_form form ∷ []
+next_forms forms i form lt is =
+    ap models_of_forms (take_more forms i form lt)
+    ∙ map-append model_of_form (take i forms) (get_or forms i form ∷ [])
+    ∙ ap (λ (f : Form). models_of_forms (take i forms) ++ model_of_form f ∷ []) (sym is)
 
 -- and its copy behind the copies
 module _ (netlist : Netlist) (patterns : List Pattern) (mode : ℕ) (forms : List Form) (i : ℕ) (form : Form) (lt : i < length forms) (is : form ≡ get_or forms i form) (list : List Form) where
-  pub left_next : AreKeeping netlist patterns (Some mode) (rules_of (take i forms)) (rules_of list) → (FormKeeps netlist patterns mode (rule_of form) → ⊥)
-      → AreKeeping netlist patterns (Some mode) (rules_of (take (i + 1) forms)) (rules_of list)
+  pub left_next : AreKeeping netlist patterns (Some mode) (models_of_forms (take i forms)) (models_of_forms list) → (FormKeeps netlist patterns mode (model_of_form form) → ⊥)
+      → AreKeeping netlist patterns (Some mode) (models_of_forms (take (i + 1) forms)) (models_of_forms list)
   left_next before loses =
-      subst (λ rules. AreKeeping netlist patterns (Some mode) rules (rules_of list)) (sym (next_rules forms i form lt is))
-      (left_more netlist patterns (Some mode) (rules_of (take i forms)) (rules_of list) (rule_of form) before loses)
+      subst (λ rules. AreKeeping netlist patterns (Some mode) rules (models_of_forms list)) (sym (next_forms forms i form lt is))
+      (left_more netlist patterns (Some mode) (models_of_forms (take i forms)) (models_of_forms list) (model_of_form form) before loses)
 
-  module _ (more : List Form) (copy : Form) (pushed : more ≡ list ++ copy ∷ []) (same : rule_of copy ≡ rule_of form) where
-    pushed_rules : rules_of more ≡ rules_of list ++ rule_of form ∷ []
-    pushed_rules =
-        ap rules_of pushed ∙ map-append rule_of list (copy ∷ []) ∙ ap (λ (r : Rule). rules_of list ++ r ∷ []) same
+  module _ (more : List Form) (copy : Form) (pushed : more ≡ list ++ copy ∷ []) (same : model_of_form copy ≡ model_of_form form) where
+    pushed_forms : models_of_forms more ≡ models_of_forms list ++ model_of_form form ∷ []
+    pushed_forms =
+        ap models_of_forms pushed ∙ map-append model_of_form list (copy ∷ []) ∙ ap (λ (r : FormModel). models_of_forms list ++ r ∷ []) same
 
-    pub kept_next : AreKeeping netlist patterns (Some mode) (rules_of (take i forms)) (rules_of list) → FormKeeps netlist patterns mode (rule_of form)
-        → AreKeeping netlist patterns (Some mode) (rules_of (take (i + 1) forms)) (rules_of more)
+    pub kept_next : AreKeeping netlist patterns (Some mode) (models_of_forms (take i forms)) (models_of_forms list) → FormKeeps netlist patterns mode (model_of_form form)
+        → AreKeeping netlist patterns (Some mode) (models_of_forms (take (i + 1) forms)) (models_of_forms more)
     kept_next before keeps =
-        subst (λ rules. AreKeeping netlist patterns (Some mode) rules (rules_of more)) (sym (next_rules forms i form lt is))
-        (subst (AreKeeping netlist patterns (Some mode) (rules_of (take i forms) ++ rule_of form ∷ [])) (sym pushed_rules)
-        (kept_more netlist patterns (Some mode) (rules_of (take i forms)) (rules_of list) (rule_of form) before keeps))
+        subst (λ rules. AreKeeping netlist patterns (Some mode) rules (models_of_forms more)) (sym (next_forms forms i form lt is))
+        (subst (AreKeeping netlist patterns (Some mode) (models_of_forms (take i forms) ++ model_of_form form ∷ [])) (sym pushed_forms)
+        (kept_more netlist patterns (Some mode) (models_of_forms (take i forms)) (models_of_forms list) (model_of_form form) before keeps))
 
-    pub low_next : AreLow (rules_of list) → IsLow (rule_of form) → AreLow (rules_of more)
-    low_next low own = subst AreLow (sym pushed_rules) (low_more (rules_of list) (rule_of form) low own)
+    pub low_next : AreLow (models_of_forms list) → IsLow (model_of_form form) → AreLow (models_of_forms more)
+    low_next low own = subst AreLow (sym pushed_forms) (low_more (models_of_forms list) (model_of_form form) low own)
 
-    pub reach_next : (reach now : ℕ) → reach ≡ greatest_reach (rules_of list) → now ≡ max reach (goal_reach (rule_of form).goal) → now ≡ greatest_reach (rules_of more)
+    pub reach_next : (reach now : ℕ) → reach ≡ greatest_reach (models_of_forms list) → now ≡ max reach (goal_reach (model_of_form form).goal) → now ≡ greatest_reach (models_of_forms more)
     reach_next reach now before told =
-        let whole : greatest_reach (rules_of more) ≡ max (greatest_reach (rules_of list)) (goal_reach (rule_of form).goal) =
-        ap greatest_reach pushed_rules ∙ reach_more (rules_of list) (rule_of form) in
-        told ∙ ap (λ n. max n (goal_reach (rule_of form).goal)) before ∙ sym whole
+        let whole : greatest_reach (models_of_forms more) ≡ max (greatest_reach (models_of_forms list)) (goal_reach (model_of_form form).goal) =
+        ap greatest_reach pushed_forms ∙ reach_more (models_of_forms list) (model_of_form form) in
+        told ∙ ap (λ n. max n (goal_reach (model_of_form form).goal)) before ∙ sym whole

@@ -13,31 +13,31 @@ use Rattle.net_model.specs.declared.hardware.Storage.{Storage}
 use Rattle.net_model.specs.declared.hardware.Storage.TheVariants.{Register, Memory, File}
 use Rattle.net_model.specs.CheckedRules.{count_in, files_of, HasFileIf, HasFiles, KeepsRules}
 use Rattle.net_model.specs.Editions.{is_banked}
-use Rattle.net_model.specs.Fields.{fields, move_fields}
+use Rattle.net_model.specs.Fields.{fields, transfer_fields}
 use Rattle.net_model.specs.Meaning.{mean}
 use Rattle.net_model.specs.Nets.{file_place, HasCells, IsRegister, memory_id, place_in, space_of, word_width}
 use Rattle.net_model.specs.Patterns.{IsPattern, IsWordOf, Pattern}
 use Rattle.net_model.specs.Symbolic.{no_state}
-use Rattle.net_model.specs.Terms.{Term, Move, keep, write, write_at}
-use Rattle.net_model.specs.Transfers.{memory_move, move_at, space_move, Steps, transfer_of}
+use Rattle.net_model.specs.Exprs.{ExprModel, TransferModel, keep, write, write_at}
+use Rattle.net_model.specs.Transfers.{memory_transfer, transfer_at, space_transfer, Steps, transfer_of}
 use Rattle.net_model.proofs.KeptRules.{sound_of}
 use Rattle.net_model.proofs.WordWidths.{clean_below}
 use Rattle.net_model.proofs.Storages.{memory_no_register, stores_cells}
-use Rattle.sym_expr.specs.Pools.{TermFits}
+use Rattle.sym_expr.specs.Pools.{ExprFits}
 use Rattle.sym_expr.specs.declared.pool.Node.{Node}
-use Rattle.transfer_set.specs.Inner.Widths.{MoveFits}
+use Rattle.transfer_set.specs.Inner.Widths.{TransferFits}
 use Rattle.transfer_set.specs.Rows.{row_patterns}
-use Rattle.transfer_set.specs.Tables.{Table}
-use Rattle.transfer_set.specs.TextMarks.{IsMoveOf, IsTermOf}
+use Rattle.transfer_set.specs.Tables.{PatternTable}
+use Rattle.transfer_set.specs.TextMarks.{IsTransferOf, IsExprOf}
 use Rattle.transfer_set.proofs.TermsFit.{move_fits}
-use Rattle.transfer_set.proofs.TermsOf.{move_terms}
+use Rattle.transfer_set.proofs.TermsOf.{move_exprs}
 use Rattle.form_model.specs.declared.forms.Form.{Form}
 use Rattle.form_model.specs.declared.forms.Step.{Step}
 use Rattle.form_model.specs.Effects.{is_store, Operation, operation_of, operation_or_none, same_space, space_in}
 use Rattle.form_model.specs.Live.{regs_of}
-use Rattle.form_model.specs.Rules.{Rule, into_file, into_memory, into_reg, jumps, branches, rule_of, rules_of}
+use Rattle.form_model.specs.Forms.{FormModel, into_file, into_memory, into_reg, jumps, branches, model_of_form, models_of_forms}
 use Rattle.form_model.specs.Shapes.{is_plain, is_shape, plain_setting, shape_setting, ShapeFits}
-use Rattle.form_set.specs.Listing.{AreRules, sides_of}
+use Rattle.form_set.specs.Listing.{AreFormModels, sides_of}
 use Rattle.form_set.specs.Promises.{IsForm, IsFormOf, KeepsBut, of_branch, of_jump, of_plain}
 use Rattle.form_set.specs.Static.{is_file_at}
 use Rattle.form_set.specs.Swaps.{Path, picks, swap_paths, swapped}
@@ -51,11 +51,11 @@ use Rattle.word_fit.specs.Steps.{step_operation}
 use Rattle.mode_set.specs.declared.puts.ModeWord.{ModeWord}
 use Rattle.mode_set.specs.Keeping.{CanPut, Puts}
 use Rattle.mode_set.specs.ModeWords.{FitsModeWord, IsLeastModeWord, IsStepWord, lesser_of}
-use Rattle.mode_set.proofs.KeptForms.{listed, next_rules}
+use Rattle.mode_set.proofs.KeptForms.{listed, next_forms}
 
 -- ---- which forms put a number
 
-module _ (mode v : ℕ) (rule : Rule) where
+module _ (mode v : ℕ) (rule : FormModel) where
   some_bits : (o : Option ℕ) → o ≡ None → is_some o ≡ true → ⊥
   some_bits None e h = cc
   some_bits (Some bits) e h = cc
@@ -71,11 +71,11 @@ module _ (mode v : ℕ) (rule : Rule) where
       )
 
 -- the mode that a list puts a number into is the one that is asked of
-pub can_put_at : (mode : ℕ) (rules : List Rule) (to : ℕ) (p : CanPut (Some mode) rules to) → Puts mode to p.rule
+pub can_put_at : (mode : ℕ) (rules : List FormModel) (to : ℕ) (p : CanPut (Some mode) rules to) → Puts mode to p.rule
 can_put_at mode rules to p = subst (λ m. Puts m to p.rule) (let same : p.mode ≡ mode = (let e = p.is in cc) in same) p.puts
 
 -- a form that puts a number has a setting for it
-setting_of_put : (mode v : ℕ) (rule : Rule) → Puts mode v rule → (bits : ℕ) × (plain_setting rule.value v ≡ Some bits)
+setting_of_put : (mode v : ℕ) (rule : FormModel) → Puts mode v rule → (bits : ℕ) × (plain_setting rule.value v ≡ Some bits)
 setting_of_put mode v rule puts = by (plain_setting rule.value v) refl (ap is_some (sym (plain_told rule.value puts.shape v)) ∙ puts.shown)
   where
     by : (o : Option ℕ) → plain_setting rule.value v ≡ o → is_some o ≡ true → (bits : ℕ) × (plain_setting rule.value v ≡ Some bits)
@@ -83,7 +83,7 @@ setting_of_put mode v rule puts = by (plain_setting rule.value v) refl (ap is_so
     by (Some bits) e h = (bits, e)
 
 -- what the code is told of a form's setting
-module _ (mode v : ℕ) (rule : Rule) where
+module _ (mode v : ℕ) (rule : FormModel) where
   abbrev pub IsPutSetting : Option ℕ → Type 0
   IsPutSetting o = MatchOption o (Puts mode v rule → ⊥) (λ bits. Puts mode v rule × (plain_setting rule.value v ≡ Some bits))
 
@@ -93,9 +93,9 @@ module _ (mode v : ℕ) (rule : Rule) where
 
 -- ---- lists of forms
 
-with_rules : (netlist : Netlist) (special : Option ℕ) (patterns : List Pattern) (v : ℕ) (rules others : List Rule) (number word : ℕ) → (f : FitsModeWord netlist special patterns rules v number word) → Contains others f.rule
+with_forms : (netlist : Netlist) (special : Option ℕ) (patterns : List Pattern) (v : ℕ) (rules others : List FormModel) (number word : ℕ) → (f : FitsModeWord netlist special patterns rules v number word) → Contains others f.rule
     → FitsModeWord netlist special patterns others v number word
-with_rules netlist special patterns v rules others number word f among = record {
+with_forms netlist special patterns v rules others number word f among = record {
   mode = f.mode;
   is = f.is;
   rule = f.rule;
@@ -109,7 +109,7 @@ with_rules netlist special patterns v rules others number word f among = record 
   memory = f.memory;
 }
 
-only : (a b : Rule) → Contains (a ∷ []) b → a ≡ b
+only : (a b : FormModel) → Contains (a ∷ []) b → a ≡ b
 only a b (zero, lt, is) = is
 only a b (suc k, lt, is) = absurd (omega arith)
 
@@ -133,25 +133,25 @@ contained xs k x e = (k, slice_get_within xs k x e, get_or_from_slice_get xs k x
 module _ (mode v : ℕ) (forms : List Form) where
   -- none of the first forms does
   abbrev pub NonePuts : ℕ → Type 0
-  NonePuts n = (k : ℕ) (rule : Rule) → k < n → slice_get (rules_of forms) k ≡ Some rule → Puts mode v rule → ⊥
+  NonePuts n = (k : ℕ) (rule : FormModel) → k < n → slice_get (models_of_forms forms) k ≡ Some rule → Puts mode v rule → ⊥
 
   pub none_puts_first : NonePuts 0
   none_puts_first k rule lt at = absurd (omega (arith, lt))
 
   module _ (i : ℕ) (form : Form) (lt : i < length forms) (is : form ≡ get_or forms i form) where
-    pub none_puts_more : NonePuts i → (Puts mode v (rule_of form) → ⊥) → NonePuts (i + 1)
+    pub none_puts_more : NonePuts i → (Puts mode v (model_of_form form) → ⊥) → NonePuts (i + 1)
     none_puts_more before other k rule less at = elim (cases_lt k i) as (λ _. Puts mode v rule → ⊥) [
       | inl l ↦ before k rule l at
       | inr g ↦ (let own : k ≡ i = omega (arith, less, g) in
-          let same : Some rule ≡ Some (rule_of form) = sym at ∙ ap (slice_get (rules_of forms)) own ∙ listed forms i form lt is in
-          λ puts. other (subst (Puts mode v) (same_Some rule (rule_of form) same) puts))
+          let same : Some rule ≡ Some (model_of_form form) = sym at ∙ ap (slice_get (models_of_forms forms)) own ∙ listed forms i form lt is in
+          λ puts. other (subst (Puts mode v) (same_Some rule (model_of_form form) same) puts))
     ]
 
-  pub can_put_none : (n : ℕ) → length forms ≤ n → NonePuts n → CanPut (Some mode) (rules_of forms) v → ⊥
+  pub can_put_none : (n : ℕ) → length forms ≤ n → NonePuts n → CanPut (Some mode) (models_of_forms forms) v → ⊥
   can_put_none n all none p =
-      let k = found_at (rules_of forms) p.rule p.among in
-      let within = slice_get_within (rules_of forms) k.0 p.rule k.1 in
-      none k.0 p.rule (omega (arith, within, length-map forms rule_of, all)) k.1 (can_put_at mode (rules_of forms) v p)
+      let k = found_at (models_of_forms forms) p.rule p.among in
+      let within = slice_get_within (models_of_forms forms) k.0 p.rule k.1 in
+      none k.0 p.rule (omega (arith, within, length-map forms model_of_form, all)) k.1 (can_put_at mode (models_of_forms forms) v p)
 
 -- ---- the storage of such a form
 
@@ -173,52 +173,52 @@ no_cells (Some (Memory cells)) r h = r
 no_cells (Some (File cells)) r h = r
 
 module _ (netlist : Netlist) (order : List ℕ) (keeps : KeepsRules netlist order) (patterns : List Pattern) (each : All (IsPattern netlist) patterns) (mode : ℕ) (register : IsRegister (slice_get netlist.storages mode)) where
-  abbrev into_mode : Term → Pattern
+  abbrev into_mode : ExprModel → Pattern
   into_mode value = record { storage = mode; move = write value }
 
   -- what a form puts has no operators, so it is its pattern's as it stands
-  put_move : (choice i : ℕ) (m : Move) → m ≢ keep → move_at netlist i mode ≡ m → (t : Term) → t ≡ (swapped choice (sides_of m)).value → is_plain t ≡ true → m ≡ write t
-  put_move choice i keep changes gives t is plain = absurd (changes refl)
-  put_move choice i (write e) changes gives t is plain =
+  put_transfer : (choice i : ℕ) (m : TransferModel) → m ≢ keep → transfer_at netlist i mode ≡ m → (t : ExprModel) → t ≡ (swapped choice (sides_of m)).value → is_plain t ≡ true → m ≡ write t
+  put_transfer choice i keep changes gives t is plain = absurd (changes refl)
+  put_transfer choice i (write e) changes gives t is plain =
       let chosen : Path → Bool = λ path. picks choice (swap_paths (record { addr = None; value = e })) (1 ∷ path) in
       let own : is_plain e ≡ true = sym (plain_stays chosen e) ∙ ap is_plain (sym is) ∙ plain in
       ap write (sym (is ∙ plain_same chosen e own))
-  put_move choice i (write_at a e) changes gives t is plain =
+  put_transfer choice i (write_at a e) changes gives t is plain =
       absurd (no_cells (slice_get netlist.storages mode) register (stores_cells netlist i mode a e (slice_get netlist.storages mode) gives))
 
-  module _ (reach : ℕ) (rules : List Rule) (list : AreRules netlist reach 0 patterns rules) (v : ℕ) where
-    pub record IsPut (rule : Rule) : Type 0 where
+  module _ (reach : ℕ) (rules : List FormModel) (list : AreFormModels netlist reach 0 patterns rules) (v : ℕ) where
+    pub record IsPut (rule : FormModel) : Type 0 where
       pub plain : is_plain rule.value ≡ true
       pub at : slice_get patterns rule.pattern ≡ Some (into_mode rule.value)
       pub clobbers : ℕ
       pub words : ForEachSetting (fields rule.value) (KeepsBut netlist (into_mode rule.value) clobbers)
-      pub terms : IsTermOf netlist rule.value
-      pub fits : TermFits rule.value
+      pub terms : IsExprOf netlist rule.value
+      pub fits : ExprFits rule.value
 
-    of_kind : (rule : Rule) → Puts mode v rule → (number : ℕ) (p : Pattern) → slice_get patterns number ≡ Some p → IsFormOf netlist reach number p rule → IsPut rule
-    of_kind rule puts number p at (of_jump h e) = absurd (let g : jumps _ ≡ into_reg mode = sym (ap (λ (r : Rule). r.goal) e) ∙ puts.goal in cc)
-    of_kind rule puts number p at (of_branch choice parts h e) = absurd (let g : branches _ _ ≡ into_reg mode = sym (ap (λ (r : Rule). r.goal) e) ∙ puts.goal in cc)
+    of_kind : (rule : FormModel) → Puts mode v rule → (number : ℕ) (p : Pattern) → slice_get patterns number ≡ Some p → IsFormOf netlist reach number p rule → IsPut rule
+    of_kind rule puts number p at (of_jump h e) = absurd (let g : jumps _ ≡ into_reg mode = sym (ap (λ (r : FormModel). r.goal) e) ∙ puts.goal in cc)
+    of_kind rule puts number p at (of_branch choice parts h e) = absurd (let g : branches _ _ ≡ into_reg mode = sym (ap (λ (r : FormModel). r.goal) e) ∙ puts.goal in cc)
     of_kind rule puts number p at (of_plain choice clobbers plain are e) =
         let pattern : IsPattern netlist p = all_at (IsPattern netlist) patterns number p each at in
-        let stored : p.storage ≡ mode = register_goal p.storage mode (p.storage == memory_id netlist.storages) (is_file_at netlist p.storage) (sym (ap (λ (r : Rule). r.goal) e) ∙ puts.goal) in
-        let gives : move_at netlist pattern.word mode ≡ p.move = ap (λ n. move_at netlist pattern.word n) (sym stored) ∙ pattern.given.gives in
-        let moved : p.move ≡ write rule.value = put_move choice pattern.word p.move pattern.changes gives rule.value (ap (λ (r : Rule). r.value) e) puts.shape in
+        let stored : p.storage ≡ mode = register_goal p.storage mode (p.storage == memory_id netlist.storages) (is_file_at netlist p.storage) (sym (ap (λ (r : FormModel). r.goal) e) ∙ puts.goal) in
+        let gives : transfer_at netlist pattern.word mode ≡ p.move = ap (λ n. transfer_at netlist pattern.word n) (sym stored) ∙ pattern.given.gives in
+        let moved : p.move ≡ write rule.value = put_transfer choice pattern.word p.move pattern.changes gives rule.value (ap (λ (r : FormModel). r.value) e) puts.shape in
         let same : p ≡ into_mode rule.value = (λ j. record { storage = stored j; move = moved j }) in
         record {
           plain = puts.shape;
-          at = ap (λ n. slice_get patterns n) (ap (λ (r : Rule). r.pattern) e) ∙ at ∙ ap (λ (q : Pattern). Some q) same;
+          at = ap (λ n. slice_get patterns n) (ap (λ (r : FormModel). r.pattern) e) ∙ at ∙ ap (λ (q : Pattern). Some q) same;
           clobbers = clobbers;
-          words = subst (λ (q : Pattern). ForEachSetting (move_fields q.move) (KeepsBut netlist q clobbers)) same (plain_words netlist p clobbers plain are);
-          terms = subst (IsMoveOf netlist) (pattern.given.gives ∙ moved) (move_terms netlist order keeps pattern.word p.storage);
-          fits = subst MoveFits (pattern.given.gives ∙ moved) (move_fits netlist (sound_of netlist order keeps) pattern.word p.storage);
+          words = subst (λ (q : Pattern). ForEachSetting (transfer_fields q.move) (KeepsBut netlist q clobbers)) same (plain_words netlist p clobbers plain are);
+          terms = subst (IsTransferOf netlist) (pattern.given.gives ∙ moved) (move_exprs netlist order keeps pattern.word p.storage);
+          fits = subst TransferFits (pattern.given.gives ∙ moved) (move_fits netlist (sound_of netlist order keeps) pattern.word p.storage);
         }
 
-    pub put_form : (k : ℕ) (rule : Rule) → slice_get rules k ≡ Some rule → Puts mode v rule → IsPut rule
+    pub put_form : (k : ℕ) (rule : FormModel) → slice_get rules k ≡ Some rule → Puts mode v rule → IsPut rule
     put_form k rule at puts =
         let f : IsForm netlist reach 0 patterns rule = form_at netlist reach 0 patterns rules list k rule at in
         of_kind rule puts f.place f.pattern f.at (subst (λ n. IsFormOf netlist reach n f.pattern rule) (let z : 0 + f.place ≡ f.place = omega arith in z) f.of)
 
-    module _ (rule : Rule) (puts : Puts mode v rule) (put : IsPut rule) (bits : ℕ) (told : plain_setting rule.value v ≡ Some bits) where
+    module _ (rule : FormModel) (puts : Puts mode v rule) (put : IsPut rule) (bits : ℕ) (told : plain_setting rule.value v ≡ Some bits) where
       shape : is_shape rule.value ≡ true
       shape = shape_from 1 rule.value put.plain
 
@@ -233,7 +233,7 @@ module _ (netlist : Netlist) (order : List ℕ) (keeps : KeepsRules netlist orde
 
       -- ---- it has a word
 
-      pub word_of_put : (others : List Rule) → Contains others rule → (word : ℕ) × FitsModeWord netlist (Some mode) patterns others v rule.pattern word
+      pub word_of_put : (others : List FormModel) → Contains others rule → (word : ℕ) × FitsModeWord netlist (Some mode) patterns others v rule.pattern word
       word_of_put others among =
           let w = put.words bits (shape_only (word_width netlist) rule.value shape fitted v bits set) in (
             w.0,
@@ -254,7 +254,7 @@ module _ (netlist : Netlist) (order : List ℕ) (keeps : KeepsRules netlist orde
 
       -- ---- its words are those that fit it as a group of its own
 
-      module _ (pool : List Node) (table : Table) (rows : row_patterns pool table.rows ≡ patterns) (told_file : table.file ≡ file_place netlist.storages) where
+      module _ (pool : List Node) (table : PatternTable) (rows : row_patterns pool table.rows ≡ patterns) (told_file : table.file ≡ file_place netlist.storages) where
         abbrev own_step : Step
         own_step = record { pattern = rule.pattern; setting = bits }
 
@@ -276,11 +276,11 @@ module _ (netlist : Netlist) (order : List ℕ) (keeps : KeepsRules netlist orde
               let files : HasFiles netlist = subst (λ (n : ℕ). HasFileIf (is_banked n) netlist) edition keeps.roles.file in
               no_array netlist.storages (files.0 ∙ ap files_of edition)
 
-          keeps_cells : (word : ℕ) (space : Space) → memory_move netlist word ≡ keep → space_move netlist space word ≡ keep
+          keeps_cells : (word : ℕ) (space : Space) → memory_transfer netlist word ≡ keep → space_transfer netlist space word ≡ keep
           keeps_cells word InMemory m = m
           keeps_cells word InFile m = ap (transfer_of netlist word (place_in InFile netlist.storages)) fileless
 
-          pub group_of_word : (word : ℕ) → IsWordOf netlist (into_mode rule.value) word → mean rule.value no_state word ≡ v → Steps netlist word → memory_move netlist word ≡ keep
+          pub group_of_word : (word : ℕ) → IsWordOf netlist (into_mode rule.value) word → mean rule.value no_state word ≡ v → Steps netlist word → memory_transfer netlist word ≡ keep
               → FitsGroup netlist (step_operation pool table) word (own_step ∷ []) (regs_of 0)
           group_of_word word given value steps memory = record {
             clean = given.clean;
@@ -298,7 +298,7 @@ module _ (netlist : Netlist) (order : List ℕ) (keeps : KeepsRules netlist orde
             registers = λ r reg live e. absurd (none_live r live);
           }
 
-          pub word_of_group : (others : List Rule) → Contains others rule → (word : ℕ) → FitsGroup netlist (step_operation pool table) word (own_step ∷ []) (regs_of 0)
+          pub word_of_group : (others : List FormModel) → Contains others rule → (word : ℕ) → FitsGroup netlist (step_operation pool table) word (own_step ∷ []) (regs_of 0)
               → FitsModeWord netlist (Some mode) patterns others v rule.pattern word
           word_of_group others among word f =
               let d = subst (Does netlist word) opened f.does.0 in
@@ -318,35 +318,35 @@ module _ (netlist : Netlist) (order : List ℕ) (keeps : KeepsRules netlist orde
 
           -- ---- the least word, one form after the other
 
-          abbrev Least : List Rule → Option ModeWord → Type 0
+          abbrev Least : List FormModel → Option ModeWord → Type 0
           Least list known = IsLeastModeWord netlist (Some mode) patterns list v known
 
           -- a word of one more form is one of those before, or fits the form as a group of its own
-          own_or : (front : List Rule) (number word : ℕ) → FitsModeWord netlist (Some mode) patterns (front ++ rule ∷ []) v number word
+          own_or : (front : List FormModel) (number word : ℕ) → FitsModeWord netlist (Some mode) patterns (front ++ rule ∷ []) v number word
               → FitsModeWord netlist (Some mode) patterns front v number word ⊎ FitsGroup netlist (step_operation pool table) word (own_step ∷ []) (regs_of 0)
           own_or front number word f = elim (Contains-append_cases front (rule ∷ []) f.rule f.among)
               as (λ _. FitsModeWord netlist (Some mode) patterns front v number word ⊎ FitsGroup netlist (step_operation pool table) word (own_step ∷ []) (regs_of 0)) [
-                | inl among ↦ inl (with_rules netlist (Some mode) patterns v (front ++ rule ∷ []) front number word f among)
-                | inr own ↦ inr (of_rule f.mode f.rule (let e = f.is in let same : mode ≡ f.mode = cc in same) (only rule f.rule own) f.given f.value f.steps f.memory)
+                | inl among ↦ inl (with_forms netlist (Some mode) patterns v (front ++ rule ∷ []) front number word f among)
+                | inr own ↦ inr (of_form f.mode f.rule (let e = f.is in let same : mode ≡ f.mode = cc in same) (only rule f.rule own) f.given f.value f.steps f.memory)
               ]
             where
-              of_rule : (id : ℕ) (other : Rule) → mode ≡ id → rule ≡ other → IsWordOf netlist (record { storage = id; move = write other.value }) word → mean other.value no_state word ≡ v → Steps netlist word → memory_move netlist word ≡ keep
+              of_form : (id : ℕ) (other : FormModel) → mode ≡ id → rule ≡ other → IsWordOf netlist (record { storage = id; move = write other.value }) word → mean other.value no_state word ≡ v → Steps netlist word → memory_transfer netlist word ≡ keep
                   → FitsGroup netlist (step_operation pool table) word (own_step ∷ []) (regs_of 0)
-              of_rule id other e same given value steps memory =
+              of_form id other e same given value steps memory =
                   group_of_word word
-                  (subst (λ (r : Rule). IsWordOf netlist (into_mode r.value) word) (sym same) (subst (λ m. IsWordOf netlist (record { storage = m; move = write other.value }) word) (sym e) given))
-                  (subst (λ (r : Rule). mean r.value no_state word ≡ v) (sym same) value) steps memory
+                  (subst (λ (r : FormModel). IsWordOf netlist (into_mode r.value) word) (sym same) (subst (λ m. IsWordOf netlist (record { storage = m; move = write other.value }) word) (sym e) given))
+                  (subst (λ (r : FormModel). mean r.value no_state word ≡ v) (sym same) value) steps memory
 
-          last : (front : List Rule) → Contains (front ++ rule ∷ []) rule
+          last : (front : List FormModel) → Contains (front ++ rule ∷ []) rule
           last front = Contains-append_right front (rule ∷ []) rule (contained (rule ∷ []) 0 rule refl)
 
-          before : (front : List Rule) (number word : ℕ) → FitsModeWord netlist (Some mode) patterns front v number word → FitsModeWord netlist (Some mode) patterns (front ++ rule ∷ []) v number word
-          before front number word f = with_rules netlist (Some mode) patterns v front (front ++ rule ∷ []) number word f (Contains-append_left front (rule ∷ []) f.rule f.among)
+          before : (front : List FormModel) (number word : ℕ) → FitsModeWord netlist (Some mode) patterns front v number word → FitsModeWord netlist (Some mode) patterns (front ++ rule ∷ []) v number word
+          before front number word f = with_forms netlist (Some mode) patterns v front (front ++ rule ∷ []) number word f (Contains-append_left front (rule ∷ []) f.rule f.among)
 
-          own_word : (front : List Rule) (w : ModeWord) → IsStepWord netlist pool table own_step (Some w) → FitsModeWord netlist (Some mode) patterns (front ++ rule ∷ []) v w.pattern w.word
+          own_word : (front : List FormModel) (w : ModeWord) → IsStepWord netlist pool table own_step (Some w) → FitsModeWord netlist (Some mode) patterns (front ++ rule ∷ []) v w.pattern w.word
           own_word front w h = subst (λ n. FitsModeWord netlist (Some mode) patterns (front ++ rule ∷ []) v n w.word) (sym h.0) (word_of_group (front ++ rule ∷ []) (last front) w.word h.1.is)
 
-          pub one_more : (front : List Rule) (known next : Option ModeWord) → Least front known → IsStepWord netlist pool table own_step next → Least (front ++ rule ∷ []) (lesser_of known next)
+          pub one_more : (front : List FormModel) (known next : Option ModeWord) → Least front known → IsStepWord netlist pool table own_step next → Least (front ++ rule ∷ []) (lesser_of known next)
           one_more front None None none missing = λ number word f. elim (own_or front number word f) [ inl g ↦ none number word g | inr g ↦ missing word g ]
           one_more front (Some least) None h missing = record {
             fits = before front least.pattern least.word h.fits;
@@ -376,19 +376,19 @@ module _ (netlist : Netlist) (order : List ℕ) (keeps : KeepsRules netlist orde
 
     -- ---- a form that puts another number, or none, has no such word
 
-    pub one_other : (front : List Rule) (rule : Rule) (known : Option ModeWord) → (Puts mode v rule → ⊥) → IsLeastModeWord netlist (Some mode) patterns front v known → IsLeastModeWord netlist (Some mode) patterns (front ++ rule ∷ []) v known
+    pub one_other : (front : List FormModel) (rule : FormModel) (known : Option ModeWord) → (Puts mode v rule → ⊥) → IsLeastModeWord netlist (Some mode) patterns front v known → IsLeastModeWord netlist (Some mode) patterns (front ++ rule ∷ []) v known
     one_other front rule known other h = by known h
       where
         own_puts : (number word : ℕ) → FitsModeWord netlist (Some mode) patterns (front ++ rule ∷ []) v number word → FitsModeWord netlist (Some mode) patterns front v number word
         own_puts number word f = elim (Contains-append_cases front (rule ∷ []) f.rule f.among) as (λ _. FitsModeWord netlist (Some mode) patterns front v number word) [
-          | inl among ↦ with_rules netlist (Some mode) patterns v (front ++ rule ∷ []) front number word f among
+          | inl among ↦ with_forms netlist (Some mode) patterns v (front ++ rule ∷ []) front number word f among
           | inr own ↦ absurd (other (subst (Puts mode v) (sym (only rule f.rule own)) (subst (λ m. Puts m v f.rule) (let e = f.is in let same : f.mode ≡ mode = cc in same) f.puts)))
         ]
 
         by : (o : Option ModeWord) → IsLeastModeWord netlist (Some mode) patterns front v o → IsLeastModeWord netlist (Some mode) patterns (front ++ rule ∷ []) v o
         by None none = λ number word f. none number word (own_puts number word f)
         by (Some w) k = record {
-          fits = with_rules netlist (Some mode) patterns v front (front ++ rule ∷ []) w.pattern w.word k.fits (Contains-append_left front (rule ∷ []) k.fits.rule k.fits.among);
+          fits = with_forms netlist (Some mode) patterns v front (front ++ rule ∷ []) w.pattern w.word k.fits (Contains-append_left front (rule ∷ []) k.fits.rule k.fits.among);
           least = λ number word f. k.least number word (own_puts number word f);
         }
 
@@ -405,22 +405,22 @@ module _ (netlist : Netlist) (order : List ℕ) (keeps : KeepsRules netlist orde
 
 -- ---- the forms of a list, one after the other
 
-module _ (netlist : Netlist) (order : List ℕ) (keeps : KeepsRules netlist order) (pool : List Node) (table : Table) (each : All (IsPattern netlist) (row_patterns pool table.rows)) (told_file : table.file ≡ file_place netlist.storages)
-    (mode : ℕ) (register : IsRegister (slice_get netlist.storages mode)) (edition : netlist.edition ≡ 1) (forms : List Form) (reach : ℕ) (list : AreRules netlist reach 0 (row_patterns pool table.rows) (rules_of forms)) (v : ℕ)
+module _ (netlist : Netlist) (order : List ℕ) (keeps : KeepsRules netlist order) (pool : List Node) (table : PatternTable) (each : All (IsPattern netlist) (row_patterns pool table.rows)) (told_file : table.file ≡ file_place netlist.storages)
+    (mode : ℕ) (register : IsRegister (slice_get netlist.storages mode)) (edition : netlist.edition ≡ 1) (forms : List Form) (reach : ℕ) (list : AreFormModels netlist reach 0 (row_patterns pool table.rows) (models_of_forms forms)) (v : ℕ)
     (i : ℕ) (form : Form) (lt : i < length forms) (is : form ≡ get_or forms i form) where
-  abbrev LeastOf : List Rule → Option ModeWord → Type 0
+  abbrev LeastOf : List FormModel → Option ModeWord → Type 0
   LeastOf rules known = IsLeastModeWord netlist (Some mode) (row_patterns pool table.rows) rules v known
 
-  pub word_more : (known next : Option ModeWord) (bits : ℕ) → Puts mode v (rule_of form) × (plain_setting (rule_of form).value v ≡ Some bits)
-      → LeastOf (rules_of (take i forms)) known → IsStepWord netlist pool table (record { pattern = form.pattern; setting = bits }) next
-      → LeastOf (rules_of (take (i + 1) forms)) (lesser_of known next)
+  pub word_more : (known next : Option ModeWord) (bits : ℕ) → Puts mode v (model_of_form form) × (plain_setting (model_of_form form).value v ≡ Some bits)
+      → LeastOf (models_of_forms (take i forms)) known → IsStepWord netlist pool table (record { pattern = form.pattern; setting = bits }) next
+      → LeastOf (models_of_forms (take (i + 1) forms)) (lesser_of known next)
   word_more known next bits puts before step =
-      let put = put_form netlist order keeps (row_patterns pool table.rows) each mode register reach (rules_of forms) list v i (rule_of form) (listed forms i form lt is) puts.0 in
-      subst (λ rules. LeastOf rules (lesser_of known next)) (sym (next_rules forms i form lt is))
-      (one_more netlist order keeps (row_patterns pool table.rows) each mode register reach (rules_of forms) list v (rule_of form) puts.0 put bits puts.1 pool table refl told_file edition
-      (rules_of (take i forms)) known next before step)
+      let put = put_form netlist order keeps (row_patterns pool table.rows) each mode register reach (models_of_forms forms) list v i (model_of_form form) (listed forms i form lt is) puts.0 in
+      subst (λ rules. LeastOf rules (lesser_of known next)) (sym (next_forms forms i form lt is))
+      (one_more netlist order keeps (row_patterns pool table.rows) each mode register reach (models_of_forms forms) list v (model_of_form form) puts.0 put bits puts.1 pool table refl told_file edition
+      (models_of_forms (take i forms)) known next before step)
 
-  pub word_other : (known : Option ModeWord) → (Puts mode v (rule_of form) → ⊥) → LeastOf (rules_of (take i forms)) known → LeastOf (rules_of (take (i + 1) forms)) known
+  pub word_other : (known : Option ModeWord) → (Puts mode v (model_of_form form) → ⊥) → LeastOf (models_of_forms (take i forms)) known → LeastOf (models_of_forms (take (i + 1) forms)) known
   word_other known other before =
-      subst (λ rules. LeastOf rules known) (sym (next_rules forms i form lt is))
-      (one_other netlist order keeps (row_patterns pool table.rows) each mode register reach (rules_of forms) list v (rules_of (take i forms)) (rule_of form) known other before)
+      subst (λ rules. LeastOf rules known) (sym (next_forms forms i form lt is))
+      (one_other netlist order keeps (row_patterns pool table.rows) each mode register reach (models_of_forms forms) list v (models_of_forms (take i forms)) (model_of_form form) known other before)

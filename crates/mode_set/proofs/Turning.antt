@@ -7,7 +7,7 @@ use Rattle.std.proofs.lemmas.Result.{IfOk-weaker}
 use Rattle.std.proofs.lemmas.Nat.Bits.{bit_at-pow_other, bit_at-pow_same}
 use Rattle.net_model.specs.declared.hardware.Netlist.{Netlist}
 use Rattle.net_model.specs.Nets.{IsRegister}
-use Rattle.net_model.specs.Transfers.{move_at}
+use Rattle.net_model.specs.Transfers.{transfer_at}
 use Rattle.form_model.specs.Effects.{Operation}
 use Rattle.form_model.specs.Live.{regs_of}
 use Rattle.word_fit.specs.Fits.{FitsTurning, IsLeastFit}
@@ -34,7 +34,7 @@ module _ (netlist : Netlist) (mode : ℕ) (is : IsRegister (slice_get netlist.st
   pub turning_of : (word : ℕ) → FitsTurn netlist (Some mode) word d → FitsTurning netlist word d (regs_of (2 ^ mode))
   turning_of word f = record {
     jump = f.fits;
-    registers = λ r reg e. ap (λ q. move_at netlist word q) (one_reg mode r e) ∙ f.mode.1;
+    registers = λ r reg e. ap (λ q. transfer_at netlist word q) (one_reg mode r e) ∙ f.mode.1;
   }
 
   -- so the least word of the one kind is that of the other

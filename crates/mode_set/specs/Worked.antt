@@ -4,46 +4,46 @@ use Rattle.std.specs.Prelude.{◌≡◌, ◌≤◌, refl, true, false, [], ◌�
 use Rattle.std.specs.Int.{bit_at}
 use Rattle.rec_bits.specs.declared.operator.Op2.TheVariants.{Add, Sub}
 use Rattle.net_model.specs.declared.hardware.Space.TheVariants.{Memory as InMemory}
-use Rattle.net_model.specs.Terms.{Term, const, read, bin, reg, slice, word}
-use Rattle.form_model.specs.Rules.{Rule, into_reg, into_memory, into, cell}
-use Rattle.form_model.specs.Matches.{Found, in_register, operand, taken}
-use Rattle.form_model.specs.Plans.{Plan, use_form, no_operands, operand_then, no_cuts}
-use Rattle.form_model.specs.Covers.{IsOrderly, Stock}
+use Rattle.net_model.specs.Exprs.{ExprModel, const, read, bin, reg, slice, word}
+use Rattle.form_model.specs.Forms.{FormModel, into_reg, into_memory, into, cell}
+use Rattle.form_model.specs.Matches.{MatchModel, in_register, operand, taken}
+use Rattle.form_model.specs.CoverModels.{CoverModel, use_form, no_operands, operand_then, no_cuts}
+use Rattle.form_model.specs.Covers.{IsOrderly, StockModel}
 use Rattle.mode_set.specs.Keeping.{Puts}
 use Rattle.mode_set.specs.Costs.{CoversIn, mode_cost}
 
-abbrev f : Term
+abbrev f : ExprModel
 f = slice (word 12) 7 0
 
-abbrev acc : Term
+abbrev acc : ExprModel
 acc = reg 1 16
 
 -- ---- the forms of S16 that the assignment needs, as the patterns of the mode are numbered
 
-abbrev load : Rule
+abbrev load : FormModel
 load = record { pattern = 3; goal = into_reg 1; addr = None; value = read InMemory f 16; fields = 255; clobbers = 3; tied = None }
 
-abbrev adding : Rule
+abbrev adding : FormModel
 adding = record { pattern = 3; goal = into_reg 1; addr = None; value = bin Add acc (read InMemory f 16); fields = 255; clobbers = 3; tied = None }
 
-abbrev subtracting : Rule
+abbrev subtracting : FormModel
 subtracting = record { pattern = 4; goal = into_reg 1; addr = None; value = bin Sub acc (read InMemory f 16); fields = 255; clobbers = 3; tied = None }
 
-abbrev store : Rule
+abbrev store : FormModel
 store = record { pattern = 7; goal = into_memory; addr = Some f; value = acc; fields = 255; clobbers = 9; tied = None }
 
 -- in mode 0 the sum comes before the load
-abbrev load_in_zero : Rule
+abbrev load_in_zero : FormModel
 load_in_zero = record { pattern = 4; goal = into_reg 1; addr = None; value = read InMemory f 16; fields = 255; clobbers = 3; tied = None }
 
-abbrev in_zero : Stock
+abbrev in_zero : StockModel
 in_zero = record { rules = adding ∷ load_in_zero ∷ store ∷ []; temps = 0; file = 0 }
 
-abbrev in_one : Stock
+abbrev in_one : StockModel
 in_one = record { rules = load ∷ subtracting ∷ store ∷ []; temps = 0; file = 0 }
 
 -- S := slice(I,0,0) puts 1 and 0 into the mode, and keeps nothing of it
-abbrev putting : Rule
+abbrev putting : FormModel
 putting = record { pattern = 6; goal = into_reg 2; addr = None; value = slice (word 12) 0 0; fields = 1; clobbers = 5; tied = None }
 
 puts_one : Puts 2 1 putting
@@ -60,27 +60,27 @@ keeps_mode = refl
 
 -- ---- x = a - b, where a, b and x are the cells 0, 1 and 2
 
-abbrev difference : Term
+abbrev difference : ExprModel
 difference = bin Sub (read InMemory (const 8 0) 16) (read InMemory (const 8 1) 16)
 
 -- load, subtract, store
-abbrev plan : Plan
+abbrev plan : CoverModel
 plan = use_form 2 (operand_then 0 (use_form 1 (operand_then 0 (use_form 0 no_operands no_cuts) no_operands) no_cuts) no_operands) no_cuts
 
-abbrev stored_found : Found
-stored_found = record { setting = 2; sites = operand (in_register 1) difference true ∷ [] }
+abbrev stored_match : MatchModel
+stored_match = record { setting = 2; sites = operand (in_register 1) difference true ∷ [] }
 
-abbrev computed_found : Found
-computed_found = record { setting = 1; sites = operand (in_register 1) (read InMemory (const 8 0) 16) false ∷ [] }
+abbrev computed_match : MatchModel
+computed_match = record { setting = 1; sites = operand (in_register 1) (read InMemory (const 8 0) 16) false ∷ [] }
 
-abbrev loaded_found : Found
-loaded_found = record { setting = 0; sites = [] }
+abbrev loaded_match : MatchModel
+loaded_match = record { setting = 0; sites = [] }
 
 covered : IsOrderly in_one (cell 2) difference true plan
 covered = (
   store,
   refl,
-  stored_found,
+  stored_match,
   refl,
   (
     record { home = in_register 1; tree = difference; whole = true },
@@ -88,12 +88,12 @@ covered = (
     (
       subtracting,
       refl,
-      computed_found,
+      computed_match,
       refl,
       (
         record { home = in_register 1; tree = read InMemory (const 8 0) 16; whole = false },
         refl,
-        (load, refl, loaded_found, refl, refl, refl),
+        (load, refl, loaded_match, refl, refl, refl),
         refl,
         refl,
       ),
@@ -109,7 +109,7 @@ covered = (
 cost_in_one : mode_cost 1 (cell 2) plan ≡ 5
 cost_in_one = refl
 
-abbrev stock_in : ℕ → Stock
+abbrev stock_in : ℕ → StockModel
 stock_in zero = in_zero
 stock_in (suc v) = in_one
 

@@ -1,8 +1,8 @@
 //! Copies of forms.
 
 ghost use Rattle.std.specs.Prelude.{◌≡◌, IfOk, option_map};
-ghost use Rattle.form_model.specs.Rules.{branch_target_of, kind_of, rule_of};
-ghost use Rattle.net_model.specs.Terms.{term_of};
+ghost use Rattle.form_model.specs.Forms.{model_of_target, model_of_goal, model_of_form};
+ghost use Rattle.net_model.specs.Exprs.{model_of_expr};
 
 use form_model::{Form, Goal, Target};
 use net_model::Expr;
@@ -12,7 +12,7 @@ use std::alloc::Global;
 // A copy of an expression.
 #[cycle(copying)]
 fn copy_expr(alloc: Global, expr: &Expr) -> Result<Expr, NoMemory>
-    ensures { IfOk result (λ copy. term_of copy ≡ term_of expr.now) }
+    ensures { IfOk result (λ copy. model_of_expr copy ≡ model_of_expr expr.now) }
 {
     Ok(match expr {
         Expr::Word(width) => Expr::Word(*width),
@@ -40,7 +40,7 @@ fn copy_expr(alloc: Global, expr: &Expr) -> Result<Expr, NoMemory>
 // A copy of an operand.
 #[cycle(copying)]
 fn copy_operand(alloc: Global, expr: &Expr) -> Result<Box<Expr>, NoMemory>
-    ensures { IfOk result (λ held. term_of held.value ≡ term_of expr.now) }
+    ensures { IfOk result (λ held. model_of_expr held.value ≡ model_of_expr expr.now) }
 {
     let copy = copy_expr(alloc, expr)?;
     let held = Box::new(alloc, copy)?;
@@ -49,7 +49,7 @@ fn copy_operand(alloc: Global, expr: &Expr) -> Result<Box<Expr>, NoMemory>
 
 // A copy of an address, if there is one.
 fn copy_addr(alloc: Global, addr: &Option<Expr>) -> Result<Option<Expr>, NoMemory>
-    ensures { IfOk result (λ copy. option_map term_of copy ≡ option_map term_of addr.now) }
+    ensures { IfOk result (λ copy. option_map model_of_expr copy ≡ option_map model_of_expr addr.now) }
 {
     match addr {
         Some(expr) => Ok(Some(copy_expr(alloc, expr)?)),
@@ -59,7 +59,7 @@ fn copy_addr(alloc: Global, addr: &Option<Expr>) -> Result<Option<Expr>, NoMemor
 
 // A copy of a branch's target.
 fn copy_target(alloc: Global, target: &Target) -> Result<Target, NoMemory>
-    ensures { IfOk result (λ copy. branch_target_of copy ≡ branch_target_of target.now) }
+    ensures { IfOk result (λ copy. model_of_target copy ≡ model_of_target target.now) }
 {
     match target {
         Target::Absolute(expr) => Ok(Target::Absolute(copy_expr(alloc, expr)?)),
@@ -69,7 +69,7 @@ fn copy_target(alloc: Global, target: &Target) -> Result<Target, NoMemory>
 
 // A copy of a goal.
 fn copy_goal(alloc: Global, goal: &Goal) -> Result<Goal, NoMemory>
-    ensures { IfOk result (λ copy. kind_of copy ≡ kind_of goal.now) }
+    ensures { IfOk result (λ copy. model_of_goal copy ≡ model_of_goal goal.now) }
 {
     Ok(match goal {
         Goal::Reg(id) => Goal::Reg(*id),
@@ -85,7 +85,7 @@ fn copy_goal(alloc: Global, goal: &Goal) -> Result<Goal, NoMemory>
 
 /// A copy of a form. The only error is want of memory.
 pub(crate) fn copy_form(alloc: Global, form: &Form) -> Result<Form, NoMemory>
-    ensures { IfOk result (λ copy. rule_of copy ≡ rule_of form.now) }
+    ensures { IfOk result (λ copy. model_of_form copy ≡ model_of_form form.now) }
 {
     let goal = copy_goal(alloc, &form.goal)?;
     let addr = copy_addr(alloc, &form.addr)?;

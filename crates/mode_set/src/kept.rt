@@ -4,7 +4,7 @@ ghost use Rattle.std.specs.Prelude.{◌≡◌, ◌↔◌, ◌<◌, IfOk, IsTrue,
 ghost use Rattle.std.specs.List.{AllByRecursion};
 ghost use Rattle.bit_bdd.specs.Diagrams.{Extends};
 ghost use Rattle.form_model.specs.declared.forms.Form.{Form as TheForm};
-ghost use Rattle.form_model.specs.Rules.{kind_of, rule_of, rules_of};
+ghost use Rattle.form_model.specs.Forms.{model_of_goal, model_of_form, models_of_forms};
 ghost use Rattle.form_set.specs.Listing.{goal_reach, greatest_reach};
 ghost use Rattle.mode_set.specs.Keeping.{AreKeeping, FormKeeps};
 ghost use Rattle.transfer_set.specs.Ready.{IsReady};
@@ -22,7 +22,7 @@ use transfer_set::Patterns;
 
 // How far a form jumps, and 0 where it is no jump.
 fn reach_of(form: &Form) -> u64
-    ensures { result ≡ goal_reach (kind_of form.now.goal) }
+    ensures { result ≡ goal_reach (model_of_goal form.now.goal) }
 {
     match form.goal {
         Goal::Jump { reach } => reach,
@@ -46,7 +46,7 @@ fn keeps(
     ensures grows { Extends book.old book.new }
     ensures ready { IsReady checked.now.netlist book.new pool.now patterns.now }
     ensures keeps { IfOk result (λ kept. IsTrue kept ↔ FormKeeps checked.now.netlist
-        (row_patterns pool.now patterns.now.rows) mode (rule_of form.now)) }
+        (row_patterns pool.now patterns.now.rows) mode (model_of_form form.now)) }
 {
     // a checked netlist has few storages
     let _netlist = checked.netlist();
@@ -81,9 +81,9 @@ pub fn keeping(
     ensures grows { Extends book.old book.new }
     ensures ready { IsReady checked.now.netlist book.new pool.now patterns.now }
     ensures kept { IfOk result (λ kept. AreKeeping checked.now.netlist
-        (row_patterns pool.now patterns.now.rows) (Some mode) (rules_of forms.now.list.items)
-        (rules_of kept.list.items)) }
-    ensures reach { IfOk result (λ kept. kept.reach ≡ greatest_reach (rules_of kept.list.items)) }
+        (row_patterns pool.now patterns.now.rows) (Some mode) (models_of_forms forms.now.list.items)
+        (models_of_forms kept.list.items)) }
+    ensures reach { IfOk result (λ kept. kept.reach ≡ greatest_reach (models_of_forms kept.list.items)) }
     ensures file { IfOk result (λ kept. kept.file ≡ forms.now.file) }
 {
     let mut list = Vec::new(alloc);

@@ -3,10 +3,10 @@
 ghost use Rattle.std.specs.Prelude.{◌≡◌, ◌+◌, ◌<◌, ◌↔◌, Err, IfOk, IsTrue, length};
 ghost use Rattle.cover.specs.Jobs.{trees_of};
 ghost use Rattle.form_model.specs.Covers.{job_cost, stock_with};
-ghost use Rattle.form_model.specs.Rules.{destination_of};
+ghost use Rattle.form_model.specs.Forms.{aim_destination};
 ghost use Rattle.mode_set.specs.Costs.{HasNoPlan, IsPlanned, MayRunIn, mode_words};
 ghost use Rattle.mode_set.specs.Inner.Best.{IsBestBelow, IsPlanIn, IsPriceBy, better_of};
-ghost use Rattle.mode_set.specs.Plans.{UsableAt, planned_of, stock_at};
+ghost use Rattle.mode_set.specs.Plans.{UsableAt, model_of_plan, stock_at};
 
 use cover::{CoverFault, JobCover, cover};
 use form_model::{Aim, Forms, Job};
@@ -29,7 +29,7 @@ pub(crate) struct Priced {
 
 // Whether a job may run in a mode; a test runs in mode 0.
 fn may_run(job: &Job, mode: usize) -> bool
-    ensures { IsTrue result ↔ MayRunIn (destination_of job.now.aim) mode }
+    ensures { IsTrue result ↔ MayRunIn (aim_destination job.now.aim) mode }
 {
     match job.aim {
         Aim::Test => mode == 0,
@@ -69,7 +69,7 @@ fn priced_in(
     mode: usize,
 ) -> Result<Option<Priced>, NoMemory>
     ensures { IfOk result (IsPriceBy (stock_with forms.now.list.items temps forms.now.file)
-        (destination_of job.now.aim) (trees_of job.now.trees.items) mode) }
+        (aim_destination job.now.aim) (trees_of job.now.trees.items) mode) }
 {
     match cover(alloc, forms, job, temps) {
         Ok(chosen) => {
@@ -96,7 +96,7 @@ fn plan_in(
 ) -> Result<Option<Priced>, NoMemory>
     requires { mode < length forms.now }
     ensures { IfOk result (IsPlanIn (stock_at forms.now temps) (UsableAt usable.now)
-        (destination_of job.now.aim) (trees_of job.now.trees.items) mode) }
+        (aim_destination job.now.aim) (trees_of job.now.trees.items) mode) }
 {
     if !is_usable(usable, mode) {
         return Ok(None);
@@ -131,7 +131,7 @@ fn best_of(
     temps: u32,
 ) -> Result<Option<Priced>, NoMemory>
     ensures { IfOk result (IsBestBelow (stock_at forms.now temps) (UsableAt usable.now)
-        (destination_of job.now.aim) (trees_of job.now.trees.items) (length forms.now)) }
+        (aim_destination job.now.aim) (trees_of job.now.trees.items) (length forms.now)) }
 {
     let mut best = None;
     for mode in 0..forms.len() {
@@ -155,11 +155,11 @@ pub fn plan_job(
 ) -> Result<Plan, CoverFault>
     requires { length usable.now ≡ length forms.now }
     ensures planned { IfOk result (λ plan. IsPlanned (stock_at forms.now temps) (UsableAt usable.now)
-        (destination_of job.now.aim) (trees_of job.now.trees.items) (planned_of plan)) }
+        (aim_destination job.now.aim) (trees_of job.now.trees.items) (model_of_plan plan)) }
     ensures cost { IfOk result (λ plan.
-        plan.cover.cost ≡ job_cost (destination_of job.now.aim) (planned_of plan).choice.plan) }
+        plan.cover.cost ≡ job_cost (aim_destination job.now.aim) (model_of_plan plan).choice.plan) }
     ensures none { result ≡ Err CoverFault.NoCover → HasNoPlan (stock_at forms.now temps)
-        (UsableAt usable.now) (destination_of job.now.aim) (trees_of job.now.trees.items) }
+        (UsableAt usable.now) (aim_destination job.now.aim) (trees_of job.now.trees.items) }
 {
     match best_of(alloc, forms, usable, job, temps) {
         Ok(Some(best)) => Ok(best.plan),

@@ -2,7 +2,7 @@
 
 ghost use Rattle.std.specs.Prelude.{◌≡◌, ◌↔◌, ℕ, IfOk, IsTrue, MatchOption, Some, slice_get};
 ghost use Rattle.bit_bdd.specs.Diagrams.{Extends};
-ghost use Rattle.form_model.specs.Rules.{rule_of, rules_of};
+ghost use Rattle.form_model.specs.Forms.{model_of_form, models_of_forms};
 ghost use Rattle.form_model.specs.Shapes.{plain_setting};
 ghost use Rattle.form_set.specs.Listing.{AreForms};
 ghost use Rattle.mode_set.specs.Keeping.{CanPut, Puts};
@@ -31,9 +31,9 @@ pub struct ModeWord {
 // The setting under which a form puts a number into the mode, if it does: it goes into the mode,
 // and its value is a field shape of the first edition, which has no sums.
 fn put_setting(form: &Form, mode: u32, value: u64) -> Result<Option<u64>, NoMemory>
-    ensures { IfOk result (λ setting. MatchOption setting (Puts mode value (rule_of form.now) → ⊥)
-        (λ bits. Puts mode value (rule_of form.now)
-        × (plain_setting (rule_of form.now).value value ≡ Some bits))) }
+    ensures { IfOk result (λ setting. MatchOption setting (Puts mode value (model_of_form form.now) → ⊥)
+        (λ bits. Puts mode value (model_of_form form.now)
+        × (plain_setting (model_of_form form.now).value value ≡ Some bits))) }
 {
     match form.goal {
         Goal::Reg(id) if id == mode => plain_setting_of(&form.value, value),
@@ -46,7 +46,7 @@ fn put_setting(form: &Form, mode: u32, value: u64) -> Result<Option<u64>, NoMemo
 /// Whether some form of a list puts a number into the mode. Want of memory stands for a field that
 /// lies above bit 63.
 pub fn can_put(forms: &[Form], mode: u32, value: u64) -> Result<bool, NoMemory>
-    ensures { IfOk result (λ can. IsTrue can ↔ CanPut (Some mode) (rules_of forms.now) value) }
+    ensures { IfOk result (λ can. IsTrue can ↔ CanPut (Some mode) (models_of_forms forms.now) value) }
 {
     for form in forms {
         let setting = put_setting(form, mode, value)?;
@@ -117,11 +117,11 @@ pub fn mode_word(
     requires mode { IsRegister (slice_get checked.now.netlist.storages mode) }
     requires edition { checked.now.netlist.edition ≡ 1 }
     requires forms { (reach : ℕ) × AreForms checked.now.netlist (row_patterns pool.now patterns.now.rows)
-        (rules_of forms.now.list.items) reach }
+        (models_of_forms forms.now.list.items) reach }
     ensures grows { Extends book.old book.new }
     ensures ready { IsReady checked.now.netlist book.new pool.now patterns.now }
     ensures word { IfOk result (IsLeastModeWord checked.now.netlist (Some mode)
-        (row_patterns pool.now patterns.now.rows) (rules_of forms.now.list.items) value) }
+        (row_patterns pool.now patterns.now.rows) (models_of_forms forms.now.list.items) value) }
 {
     // what holds of a checked netlist is said here
     let _netlist = checked.netlist();

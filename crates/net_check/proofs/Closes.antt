@@ -7,7 +7,7 @@ use Rattle.net_model.specs.Depends.{Among, Depends, direct, via}
 use Rattle.rec_bits.proofs.Lists.{all_weaker}
 use Rattle.net_model.proofs.Acyclic.{all_among}
 use Rattle.net_check.specs.Inner.Graphs.{named_in}
-use Rattle.net_check.specs.Inner.Components.{mark_at, MetAt, IsDone, Reaches, Uncut, SeenFrom, IsSearch, IsMerged, IsIndexed, IsComplete, IsCompleting, Rising, Later, work}
+use Rattle.net_check.specs.Inner.Components.{mark_at, MetAt, IsDone, IsPathTo, Uncut, SeenFrom, IsSearch, IsMerged, IsIndexed, IsComplete, IsCompleting, Rising, Later, work}
 use Rattle.net_check.specs.declared.cycle.Mark.{Mark}
 use Rattle.net_check.specs.declared.cycle.Mark.TheVariants.{New, Met, Done}
 use Rattle.net_check.specs.declared.cycle.Search.{Search}
@@ -272,8 +272,8 @@ module _ (graph : List (List ℕ)) (marks : List Mark) (met starts path : List �
     mutual_cycle : (m i p : ℕ) → MetAt marks m i → index ≤ i → p ≢ i → index ≤ p → p < length met → Depends (named_in graph) m m
     mutual_cycle m i p a g ne h l =
         let b = w.back m i a in
-        let there : Reaches graph m (slice_index met p) = subst (λ (x : ℕ). Reaches graph x (slice_index met p)) b.1 (w.joined i p b.0 l (λ s x. inl (omega (arith, high s x, h)))) in
-        let again : Reaches graph (slice_index met p) m = subst (Reaches graph (slice_index met p)) b.1 (w.joined p i l b.0 (λ s x. inl (omega (arith, high s x, g)))) in
+        let there : IsPathTo graph m (slice_index met p) = subst (λ (x : ℕ). IsPathTo graph x (slice_index met p)) b.1 (w.joined i p b.0 l (λ s x. inl (omega (arith, high s x, h)))) in
+        let again : IsPathTo graph (slice_index met p) m = subst (IsPathTo graph (slice_index met p)) b.1 (w.joined p i l b.0 (λ s x. inl (omega (arith, high s x, g)))) in
         elim there [
           | inl e ↦ absurd (ne (sym (one_index marks m i p a (subst (λ (x : ℕ). MetAt marks x p) (sym e) (w.at p l)))))
           | inr d ↦ elim again [

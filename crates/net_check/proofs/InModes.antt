@@ -9,15 +9,15 @@ use Rattle.net_model.specs.declared.fault.CheckFault.{CheckFault}
 use Rattle.net_model.specs.declared.fault.NetFault.{NetFault}
 use Rattle.net_model.specs.declared.fault.CheckFault.TheVariants.{Fault, Memory}
 use Rattle.net_model.specs.CheckedRules.{KeepsRules, Ordered}
-use Rattle.net_model.specs.ModeRules.{AcceptsModes, AreModesOf, base_at, bases_below, KeepsInOrder, KeepsModes, ModeFaultOf, Moded, modes_in, RefusesModes}
+use Rattle.net_model.specs.ModeRules.{AcceptsModes, AreModesOfNetlist, base_at, bases_below, KeepsInOrder, KeepsModes, ModeFaultOf, Moded, modes_in, RefusesModes}
 use Rattle.net_model.specs.NetFaults.{Accepts, IsFaultOrMemory, Refuses}
 use Rattle.net_model.proofs.FaultLaws.{kept_no_fault}
 use Rattle.net_model.proofs.ModeFaults.{alone_fault, base_in, kept_no_mode_fault, mode_fault_of, modes_alone, modes_keep, only_memory_in_modes, only_mode_fault, rules_in}
 
 -- of a netlist without a mode
-pub alone_accepted : (netlist : Netlist) (checked : Ordered) → netlist.special ≡ None → Accepts netlist checked → AreModesOf netlist (checked ∷ [])
+pub alone_accepted : (netlist : Netlist) (checked : Ordered) → netlist.special ≡ None → Accepts netlist checked → AreModesOfNetlist netlist (checked ∷ [])
 alone_accepted netlist checked none (same, rules) =
-    subst (λ (n : Netlist). AreModesOf n (checked ∷ [])) same
+    subst (λ (n : Netlist). AreModesOfNetlist n (checked ∷ [])) same
     (modes_alone checked (ap (λ (n : Netlist). n.special) same ∙ none) (subst (λ (n : Netlist). KeepsRules n checked.order) (sym same) rules))
 
 pub alone_refused : (netlist : Netlist) (cause : CheckFault) → netlist.special ≡ None → Refuses netlist cause → RefusesModes netlist cause

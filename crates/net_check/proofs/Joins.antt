@@ -6,7 +6,7 @@ use Rattle.std.proofs.lemmas.List.{length-set}
 use Rattle.net_model.specs.Depends.{Among, direct}
 use Rattle.rec_bits.proofs.Lists.{all_weaker}
 use Rattle.net_check.specs.Inner.Graphs.{named_in}
-use Rattle.net_check.specs.Inner.Components.{mark_at, MetAt, IsDone, Reaches, Uncut, SeenFrom, IsSearch, IsMerged, Later, work}
+use Rattle.net_check.specs.Inner.Components.{mark_at, MetAt, IsDone, IsPathTo, Uncut, SeenFrom, IsSearch, IsMerged, Later, work}
 use Rattle.net_check.specs.declared.cycle.Mark.{Mark}
 use Rattle.net_check.specs.declared.cycle.Mark.TheVariants.{New, Met, Done}
 use Rattle.net_check.proofs.Walks.{among_last, among_parts, take_more, take_short}
@@ -26,8 +26,8 @@ module _ (graph : List (List ℕ)) (marks : List Mark) (met starts path : List �
   top_at = w.back top index here
 
   -- all that is met reaches it
-  pub to_top : (p : ℕ) → p < length met → Reaches graph (slice_index met p) top
-  to_top p l = subst (Reaches graph (slice_index met p)) top_at.1 (w.joined p index l top_at.0 (λ s h. inl (top_high s h)))
+  pub to_top : (p : ℕ) → p < length met → IsPathTo graph (slice_index met p) top
+  to_top p l = subst (IsPathTo graph (slice_index met p)) top_at.1 (w.joined p index l top_at.0 (λ s h. inl (top_high s h)))
 
   -- it names a net that is met at a place: the components behind it are joined
   module _ (net at : ℕ) (names : Among net (named_in graph top)) (there : MetAt marks net at) (starts2 : List ℕ) (m : IsMerged at starts starts2) where
@@ -37,11 +37,11 @@ module _ (graph : List (List ℕ)) (marks : List Mark) (met starts path : List �
     still : (i j : ℕ) → Uncut starts i j → Uncut starts2 i j
     still i j u s h = u s (m.from s h)
 
-    round : (p q s : ℕ) → p < length met → q < length met → Uncut starts2 p q → Among s starts → q < s → s ≤ p → Reaches graph (slice_index met p) (slice_index met q)
+    round : (p q s : ℕ) → p < length met → q < length met → Uncut starts2 p q → Among s starts → q < s → s ≤ p → IsPathTo graph (slice_index met p) (slice_index met q)
     round p q s lp lq u h low high =
         inr (reach_depends graph _ top _ (to_top p lp)
         (depends_reach graph top net _ (direct names)
-        (subst (λ (x : ℕ). Reaches graph x (slice_index met q)) net_at.1 (w.joined at q net_at.0 lq free))))
+        (subst (λ (x : ℕ). IsPathTo graph x (slice_index met q)) net_at.1 (w.joined at q net_at.0 lq free))))
       where
         behind : at < s
         behind = elim (cases_lt at s) [
@@ -55,7 +55,7 @@ module _ (graph : List (List ℕ)) (marks : List Mark) (met starts path : List �
           | inr g ↦ elim (u x (m.kept x a g)) [ inl b ↦ inl b | inr b ↦ absurd (omega (arith, b, g, behind, high)) ]
         ]
 
-    new_joined : (p q : ℕ) → p < length met → q < length met → Uncut starts2 p q → Reaches graph (slice_index met p) (slice_index met q)
+    new_joined : (p q : ℕ) → p < length met → q < length met → Uncut starts2 p q → IsPathTo graph (slice_index met p) (slice_index met q)
     new_joined p q lp lq u = elim (cut_cases starts p q) [
       | inl free ↦ w.joined p q lp lq free
       | inr c ↦ round p q c.0 lp lq u c.1 c.2 c.3

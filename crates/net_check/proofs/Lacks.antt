@@ -12,21 +12,21 @@ use Rattle.net_model.specs.CheckedRules.{StorageKeeps, IsCounter, IsAddressed, H
 use Rattle.rec_bits.specs.Operators.{IsWidth}
 use Rattle.net_check.specs.Inner.Roles.{lone_from, IsShape, IsShapedBeside}
 use Rattle.net_check.specs.Inner.Roles.{shape_of as measures_of}
-use Rattle.net_check.specs.declared.role.Shape.{Shape}
+use Rattle.net_check.specs.declared.role.CellMeasures.{CellMeasures}
 
-some_met : (s t : Shape) (storages : List Storage) → lone_from (Some s) storages ≡ Some t → (memory_count storages ≡ 0) × (t ≡ s)
+some_met : (s t : CellMeasures) (storages : List Storage) → lone_from (Some s) storages ≡ Some t → (memory_count storages ≡ 0) × (t ≡ s)
 some_met s t [] e = (refl, cc e)
 some_met s t (Register name width input when ∷ storages) e = simp zero-add (some_met s t storages e)
 some_met s t (Memory cells ∷ storages) e = absurd (cc e)
 some_met s t (File cells ∷ storages) e = simp zero-add (some_met s t storages e)
 
-some_lost : (s : Shape) (storages : List Storage) → lone_from (Some s) storages ≡ None → 0 < memory_count storages
+some_lost : (s : CellMeasures) (storages : List Storage) → lone_from (Some s) storages ≡ None → 0 < memory_count storages
 some_lost s [] e = absurd (cc e)
 some_lost s (Register name width input when ∷ storages) e = simp zero-add (some_lost s storages e)
 some_lost s (Memory cells ∷ storages) e = omega arith
 some_lost s (File cells ∷ storages) e = simp zero-add (some_lost s storages e)
 
-pub shape_of : (shape : Shape) (storages : List Storage) → lone_from None storages ≡ Some shape → IsShape storages shape
+pub shape_of : (shape : CellMeasures) (storages : List Storage) → lone_from None storages ≡ Some shape → IsShape storages shape
 shape_of shape [] e = absurd (cc e)
 shape_of shape (Register name width input when ∷ storages) e =
     let k : IsShape storages shape = shape_of shape storages e in
@@ -38,9 +38,9 @@ shape_of shape (Memory cells ∷ storages) e =
     let k : (memory_count storages ≡ 0) × (shape ≡ measures_of cells) = some_met _ shape storages e in
     record {
       one = omega (arith, k.0);
-      width = sym (ap (λ (s : Shape). s.width) k.1);
-      size = sym (ap (λ (s : Shape). s.size) k.1);
-      addr_width = sym (ap (λ (s : Shape). s.addr_width) k.1);
+      width = sym (ap (λ (s : CellMeasures). s.width) k.1);
+      size = sym (ap (λ (s : CellMeasures). s.size) k.1);
+      addr_width = sym (ap (λ (s : CellMeasures). s.addr_width) k.1);
     }
 
 pub no_shape : (storages : List Storage) → lone_from None storages ≡ None → memory_count storages ≡ 1 → ⊥
@@ -77,13 +77,13 @@ addr_wide netlist (Memory cells ∷ storages) h e = h.0.1
 addr_wide netlist (File cells ∷ storages) h e = addr_wide netlist storages h.1 (simp zero-add at e)
 
 -- the addresses of a file have some bits
-pub file_wide : (netlist : Netlist) (storages : List Storage) (file : Shape) → AllByRecursion (StorageKeeps netlist) storages → Some file ≡ option_map measures_of (array_in InFile storages) → IsWidth file.addr_width
+pub file_wide : (netlist : Netlist) (storages : List Storage) (file : CellMeasures) → AllByRecursion (StorageKeeps netlist) storages → Some file ≡ option_map measures_of (array_in InFile storages) → IsWidth file.addr_width
 file_wide netlist [] file h e = absurd (cc e)
 file_wide netlist (Register name width input when ∷ storages) file h e = file_wide netlist storages file h.1 e
 file_wide netlist (Memory cells ∷ storages) file h e = file_wide netlist storages file h.1 e
 file_wide netlist (File cells ∷ storages) file h e =
     let s : measures_of cells ≡ file = cc e in
-    subst (λ (shape : Shape). IsWidth shape.addr_width) s h.0.1
+    subst (λ (shape : CellMeasures). IsWidth shape.addr_width) s h.0.1
 
 reached_as : (a b m n : ℕ) → a ≡ b → m ≡ n → IsAddressed a m → IsAddressed b n
 reached_as a b m n e f h = subst (λ k. IsAddressed k n) e (subst (λ k. IsAddressed a k) f h)
@@ -91,12 +91,12 @@ reached_as a b m n e f h = subst (λ k. IsAddressed k n) e (subst (λ k. IsAddre
 -- ---- the bank
 
 -- the measures of the first file
-file_is : (bank : Shape) (file : Option Cells) → Some bank ≡ option_map measures_of file
+file_is : (bank : CellMeasures) (file : Option Cells) → Some bank ≡ option_map measures_of file
     → (array_width file ≡ bank.width) × (array_size file ≡ bank.size) × (array_addr_width file ≡ bank.addr_width)
 file_is bank None e = absurd (cc e)
 file_is bank (Some cells) e =
     let s : measures_of cells ≡ bank = cc e in
-    (ap (λ (s : Shape). s.width) s, ap (λ (s : Shape). s.size) s, ap (λ (s : Shape). s.addr_width) s)
+    (ap (λ (s : CellMeasures). s.width) s, ap (λ (s : CellMeasures). s.size) s, ap (λ (s : CellMeasures). s.addr_width) s)
 
 no_size : (file : Option Cells) → None ≡ option_map measures_of file → array_size file ≡ 0
 no_size None e = refl
@@ -106,7 +106,7 @@ module _ (storages : List Storage) (special : Option ℕ) where
   pub no_bank_beside : None ≡ option_map measures_of (array_in InFile storages) → HasBankBeside storages special → ⊥
   no_bank_beside e h = omega (arith, h.size.0, no_size (array_in InFile storages) e)
 
-  module _ (memory : Shape) (met : IsShape storages memory) (bank : Shape) (file : Some bank ≡ option_map measures_of (array_in InFile storages)) where
+  module _ (memory : CellMeasures) (met : IsShape storages memory) (bank : CellMeasures) (file : Some bank ≡ option_map measures_of (array_in InFile storages)) where
     pub beside_of : IsTrue (is_some special) → count_in InFile storages ≡ 1 → IsShapedBeside bank memory → HasBankBeside storages special
     beside_of has one h =
         let f = file_is bank (array_in InFile storages) file in
@@ -132,11 +132,11 @@ module _ (storages : List Storage) (special : Option ℕ) where
         }
 
 -- the addresses of a memory have some bits
-pub memory_wide : (netlist : Netlist) (memory : Shape) → IsWellFormed netlist → IsShape netlist.storages memory → IsWidth memory.addr_width
+pub memory_wide : (netlist : Netlist) (memory : CellMeasures) → IsWellFormed netlist → IsShape netlist.storages memory → IsWidth memory.addr_width
 memory_wide netlist memory formed met = subst IsWidth met.addr_width (addr_wide netlist netlist.storages formed.storages met.one)
 
 -- what is found of a netlist with one code and one memory
-module _ (netlist : Netlist) (formed : IsWellFormed netlist) (code : Code) (one : length netlist.codes ≡ 1) (is : code ≡ get_or netlist.codes 0 code) (memory : Shape) (lone : lone_from None netlist.storages ≡ Some memory) where
+module _ (netlist : Netlist) (formed : IsWellFormed netlist) (code : Code) (one : length netlist.codes ≡ 1) (is : code ≡ get_or netlist.codes 0 code) (memory : CellMeasures) (lone : lone_from None netlist.storages ≡ Some memory) where
   pub shape : IsShape netlist.storages memory
   shape = shape_of memory netlist.storages lone
 

@@ -6,7 +6,7 @@ use Rattle.std.proofs.lemmas.List.{get_or-set_same, get_or-set_other}
 use Rattle.net_model.specs.Depends.{Among, Depends, direct, via}
 use Rattle.net_model.proofs.Acyclic.{all_among}
 use Rattle.net_check.specs.Inner.Graphs.{named_in}
-use Rattle.net_check.specs.Inner.Components.{mark_at, MetAt, IsDone, Reaches, Uncut, Rising, Climbs, left, work}
+use Rattle.net_check.specs.Inner.Components.{mark_at, MetAt, IsDone, IsPathTo, Uncut, Rising, Climbs, left, work}
 use Rattle.net_check.specs.declared.cycle.Mark.{Mark}
 use Rattle.net_check.specs.declared.cycle.Mark.TheVariants.{New, Done}
 
@@ -45,11 +45,11 @@ pub depends_on : (graph : List (List ℕ)) (a b c : ℕ) → Depends (named_in g
 depends_on graph a b c (direct h) d = via h d
 depends_on graph a b c (via {b = x} h e) d = via h (depends_on graph x b c e d)
 
-pub reach_depends : (graph : List (List ℕ)) (a b c : ℕ) → Reaches graph a b → Depends (named_in graph) b c → Depends (named_in graph) a c
+pub reach_depends : (graph : List (List ℕ)) (a b c : ℕ) → IsPathTo graph a b → Depends (named_in graph) b c → Depends (named_in graph) a c
 reach_depends graph a b c (inl e) d = subst (λ (x : ℕ). Depends (named_in graph) x c) (sym e) d
 reach_depends graph a b c (inr h) d = depends_on graph a b c h d
 
-pub depends_reach : (graph : List (List ℕ)) (a b c : ℕ) → Depends (named_in graph) a b → Reaches graph b c → Depends (named_in graph) a c
+pub depends_reach : (graph : List (List ℕ)) (a b c : ℕ) → Depends (named_in graph) a b → IsPathTo graph b c → Depends (named_in graph) a c
 depends_reach graph a b c d (inl e) = subst (Depends (named_in graph) a) e d
 depends_reach graph a b c d (inr h) = depends_on graph a b c d h
 

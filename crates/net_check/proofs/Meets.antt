@@ -6,14 +6,14 @@ use Rattle.std.proofs.lemmas.List.{length-set, length_push, get_or_push}
 use Rattle.net_model.specs.Depends.{Among}
 use Rattle.rec_bits.proofs.Lists.{all_weaker}
 use Rattle.net_check.specs.Inner.Graphs.{named_in}
-use Rattle.net_check.specs.Inner.Components.{mark_at, MetAt, IsDone, Reaches, Uncut, SeenFrom, Climbs, IsSearch, Later, work}
+use Rattle.net_check.specs.Inner.Components.{mark_at, MetAt, IsDone, IsPathTo, Uncut, SeenFrom, Climbs, IsSearch, Later, work}
 use Rattle.net_check.specs.declared.cycle.Mark.{Mark}
 use Rattle.net_check.specs.declared.cycle.Mark.TheVariants.{New, Met, Done}
 use Rattle.net_check.proofs.Walks.{among_old, among_last, among_parts}
 use Rattle.net_check.proofs.Steps.{index_old}
 use Rattle.net_check.proofs.Marks.{set_mark, rising_more, climbs_as, climbs_more, lowered}
 
-module _ (graph : List (List ℕ)) (marks : List Mark) (met starts path : List ℕ) (w : IsSearch graph marks met starts path) (net : ℕ) (inside : net < length graph) (fresh : mark_at marks net ≡ New) (all : (p : ℕ) → p < length met → Reaches graph (slice_index met p) net) where
+module _ (graph : List (List ℕ)) (marks : List Mark) (met starts path : List ℕ) (w : IsSearch graph marks met starts path) (net : ℕ) (inside : net < length graph) (fresh : mark_at marks net ≡ New) (all : (p : ℕ) → p < length met → IsPathTo graph (slice_index met p) net) where
   abbrev set : List Mark
   set = slice_set marks net (Met (length met) 0)
 
@@ -80,7 +80,7 @@ module _ (graph : List (List ℕ)) (marks : List Mark) (met starts path : List �
   fewer : (p q : ℕ) → Uncut (starts ++ length met ∷ []) p q → Uncut starts p q
   fewer p q u s h = u s (among_old s (length met) starts h)
 
-  new_joined : (p q : ℕ) → p < length (met ++ net ∷ []) → q < length (met ++ net ∷ []) → Uncut (starts ++ length met ∷ []) p q → Reaches graph (slice_index (met ++ net ∷ []) p) (slice_index (met ++ net ∷ []) q)
+  new_joined : (p q : ℕ) → p < length (met ++ net ∷ []) → q < length (met ++ net ∷ []) → Uncut (starts ++ length met ∷ []) p q → IsPathTo graph (slice_index (met ++ net ∷ []) p) (slice_index (met ++ net ∷ []) q)
   new_joined p q hp hq u = elim (cases_eq p (length met)) [
     | inl ep ↦ elim (cases_eq q (length met)) [
       | inl eq ↦ inl (rw (ep, eq) refl)

@@ -3,7 +3,7 @@ use Rattle.std.proofs.Common.{◌≡◌, ◌≢◌, false, ℕ, ◌<◌, List, [
 use Rattle.std.proofs.lemmas.List.{get_or-set_same}
 use Rattle.net_model.specs.Depends.{Among, Depends, direct, via}
 use Rattle.net_check.specs.Inner.Graphs.{named_in}
-use Rattle.net_check.specs.Inner.Components.{mark_at, on_cycle, IsDone, Reaches, IsSearch, IsMet, AreMarked}
+use Rattle.net_check.specs.Inner.Components.{mark_at, on_cycle, IsDone, IsPathTo, IsSearch, IsMet, AreMarked}
 use Rattle.net_check.specs.declared.cycle.Mark.{Mark}
 use Rattle.net_check.specs.declared.cycle.Mark.TheVariants.{New, Met, Done}
 use Rattle.net_check.specs.declared.cycle.Search.{Search}
@@ -18,7 +18,7 @@ module _ (graph : List (List ℕ)) (marks : List Mark) (met starts path : List �
   pub none_met : (i : ℕ) → i < length met → ⊥
   none_met i h = let b = w.based i h in let k : Among (slice_index met b.0) [] = subst (Among (slice_index met b.0)) none (w.begun b.0 b.1) in k
 
-  pub root_all : (net p : ℕ) → p < length met → Reaches graph (slice_index met p) net
+  pub root_all : (net p : ℕ) → p < length met → IsPathTo graph (slice_index met p) net
   root_all net p h = absurd (none_met p h)
 
   by_mark : (m : ℕ) (s : Mark) → mark_at marks m ≡ s → mark_at marks m ≢ New → IsDone marks m

@@ -3,7 +3,7 @@
 ghost use Rattle.std.specs.Prelude.{◌≡◌, IfOk, MatchOption, Some};
 ghost use Rattle.net_model.specs.CheckedRules.{HasRoles, HasStaticFileAddrs};
 ghost use Rattle.net_model.specs.Depends.{IsAcyclic};
-ghost use Rattle.rec_bits.specs.Faults.{least, sooner};
+ghost use Rattle.rec_bits.specs.Faults.{least, lesser_offset};
 ghost use Rattle.net_model.specs.Control.{enables, selectors};
 ghost use Rattle.net_model.specs.NetFaults.{FaultOf, failing, name_at};
 ghost use Rattle.net_model.specs.Nets.{width_at};
@@ -70,7 +70,7 @@ fn keeps(rule: Rule, netlist: &Netlist, flags: &Flags, net: u32) -> bool
 
 // The lesser of an offset and one that was found before.
 fn lesser(found: Option<u64>, at: u64) -> u64
-    ensures { Some result ≡ sooner found (Some at) }
+    ensures { Some result ≡ lesser_offset found (Some at) }
 {
     match found {
         Some(other) => other.min(at),
@@ -80,7 +80,7 @@ fn lesser(found: Option<u64>, at: u64) -> u64
 
 // The lesser of two offsets, where there are any.
 fn sooner_of(found: Option<u64>, other: Option<u64>) -> Option<u64>
-    ensures { result ≡ sooner found other }
+    ensures { result ≡ lesser_offset found other }
 {
     match other {
         Some(at) => Some(lesser(found, at)),

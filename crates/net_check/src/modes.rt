@@ -4,7 +4,7 @@ ghost use Rattle.std.specs.Prelude.{◌≡◌, IsTrue, MatchResult, None, false,
 ghost use Rattle.net_model.specs.Editions.{is_banked};
 ghost use Rattle.net_model.specs.declared.fault.NetFault.{NetFault};
 ghost use Rattle.net_model.specs.CheckedRules.{IsWellFormed};
-ghost use Rattle.net_model.specs.ModeRules.{AcceptsModes, AreModesOf, KeepsModes, ModeFaultOf, RefusesModes};
+ghost use Rattle.net_model.specs.ModeRules.{AcceptsModes, AreModesOfNetlist, KeepsModes, ModeFaultOf, RefusesModes};
 ghost use Rattle.net_model.specs.NetFaults.{IsFaultOrMemory};
 
 use crate::rules::check;
@@ -30,7 +30,7 @@ fn bases(alloc: Global, netlist: &Netlist) -> Result<Items<Checked>, CheckFault>
     requires formed { IsWellFormed netlist.now }
     requires plain { is_banked netlist.now.edition ≡ false }
     requires special { IsTrue (is_some netlist.now.special) }
-    ensures { MatchResult result (AreModesOf netlist.now) (RefusesModes netlist.now) }
+    ensures { MatchResult result (AreModesOfNetlist netlist.now) (RefusesModes netlist.now) }
 {
     let mut bases = Items::new(alloc);
     for value in 0..modes_in(netlist) {

@@ -27,16 +27,16 @@ const BANKED_ROOM: u8 = 2;
 
 // The measures of a memory or a file.
 #[derive(Clone, Copy)]
-pub(crate) struct Shape {
+pub(crate) struct CellMeasures {
     pub width: u8,
     pub size: u32,
     pub addr_width: u8,
 }
 
-fn shape_of(cells: &Cells) -> Shape
+fn shape_of(cells: &Cells) -> CellMeasures
     ensures { result ≡ shape_of cells.now }
 {
-    Shape {
+    CellMeasures {
         width: cells.width,
         size: cells.size,
         addr_width: cells.addr_width,
@@ -44,7 +44,7 @@ fn shape_of(cells: &Cells) -> Shape
 }
 
 // The register file or the bank, where there is one: the first.
-fn file_shape(storages: &[Storage]) -> Option<Shape>
+fn file_shape(storages: &[Storage]) -> Option<CellMeasures>
     ensures { result ≡ option_map shape_of (array_in InFile storages.now) }
 {
     for storage in storages {
@@ -82,7 +82,7 @@ fn has_mode(netlist: &Netlist) -> bool
 }
 
 // The memory, where there is just one.
-fn lone_memory(storages: &[Storage]) -> Option<Shape>
+fn lone_memory(storages: &[Storage]) -> Option<CellMeasures>
     ensures { result ≡ lone_from None storages.now }
 {
     let mut met = None;
@@ -124,7 +124,7 @@ fn is_reached(size: u32, bits: u8) -> bool
 }
 
 // Whether the program counter reaches all words and an address reaches all cells.
-fn are_reached(words: u32, bits: u8, memory: Shape) -> bool
+fn are_reached(words: u32, bits: u8, memory: CellMeasures) -> bool
     requires low { 1 ≤ bits }
     requires high { bits ≤ 64 }
     requires addr_low { 1 ≤ memory.addr_width }
@@ -167,21 +167,21 @@ fn is_full(size: u32, bits: u8) -> bool
 }
 
 // Whether the cells of both are as wide, and named by as many bits.
-fn are_alike(bank: Shape, memory: Shape) -> bool
+fn are_alike(bank: CellMeasures, memory: CellMeasures) -> bool
     ensures { IsTrue result ↔ AreAlike bank memory }
 {
     bank.width == memory.width && bank.addr_width == memory.addr_width
 }
 
 // Whether a cell has room for an address of both memories, and for a sign.
-fn has_room(memory: Shape) -> bool
+fn has_room(memory: CellMeasures) -> bool
     ensures { IsTrue result ↔ HasRoom memory }
 {
     memory.addr_width <= BANKED_ADDR_BITS && memory.addr_width + BANKED_ROOM <= memory.width
 }
 
 // Whether a bank of these measures may stand beside the memory.
-fn is_beside(bank: Shape, memory: Shape) -> bool
+fn is_beside(bank: CellMeasures, memory: CellMeasures) -> bool
     requires low { 1 ≤ memory.addr_width }
     requires high { memory.addr_width ≤ 64 }
     ensures { IsTrue result ↔ IsShapedBeside bank memory }
@@ -193,7 +193,7 @@ fn is_beside(bank: Shape, memory: Shape) -> bool
 }
 
 // Whether the only file is the bank, and stands so beside the memory.
-fn has_bank_beside(netlist: &Netlist, memory: Shape) -> bool
+fn has_bank_beside(netlist: &Netlist, memory: CellMeasures) -> bool
     requires formed { IsWellFormed netlist.now }
     requires memory { IsShape netlist.now.storages memory }
     ensures { IsTrue result ↔ HasBankBeside netlist.now.storages netlist.now.special }
@@ -209,7 +209,7 @@ fn has_bank_beside(netlist: &Netlist, memory: Shape) -> bool
 }
 
 // Whether the netlist has a bank, where its edition has one.
-fn has_bank(netlist: &Netlist, memory: Shape) -> bool
+fn has_bank(netlist: &Netlist, memory: CellMeasures) -> bool
     requires formed { IsWellFormed netlist.now }
     requires memory { IsShape netlist.now.storages memory }
     ensures { IsTrue result ↔ HasBank netlist.now }

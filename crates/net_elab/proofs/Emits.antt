@@ -7,13 +7,13 @@ use Rattle.net_model.specs.declared.hardware.Gate.{Gate}
 use Rattle.net_model.specs.declared.hardware.Gate.TheVariants as gate
 use Rattle.grammar.specs.declared.words.Ident.{Ident}
 use Rattle.net_model.specs.declared.units.NetExpr.{NetExpr, Case}
-use Rattle.net_model.specs.Written.{Phrase, phrase_of, row_of, rows_of, rest_of, other_of, read, case, Rows, Rest, no_rest, rest}
-use Rattle.net_model.specs.TextWidths.{wide, MemoryWidths, memory_widths, read_width}
-use Rattle.net_model.specs.Numbering.{count_rest, NetSite, scope_at, memory_at}
+use Rattle.net_model.specs.Written.{NetExprModel, model_of_net_expr, model_of_case_row, case_rows_of, case_rest_of, other_of, read, case, CaseRowsModel, CaseRestModel, no_rest, rest}
+use Rattle.net_model.specs.TextWidths.{wide, MemoryWidthsModel, memory_widths, read_width}
+use Rattle.net_model.specs.Numbering.{count_rest, SiteModel, scope_at, memory_at}
 use Rattle.net_model.specs.Elaborated.{width_or_none, net_of, plain_net, nets_of_rest, rest_out}
 use Rattle.net_elab.specs.Inner.Emissions.{Pushed, Emitted, EmittedRows, EmittedRest}
 use Rattle.net_elab.specs.Inner.Found.{IsCells, cell_width_of}
-use Rattle.net_elab.specs.declared.site.Spot.{Spot}
+use Rattle.net_elab.specs.declared.site.NetRef.{NetRef}
 use Rattle.net_elab.specs.declared.site.Readable.{Readable}
 use Rattle.net_elab.specs.declared.expression.Pairs.{Pairs}
 use Rattle.net_model.proofs.Cases.{Row, phrase_Case}
@@ -29,16 +29,16 @@ pick : (b : Bool) (x cell : ℕ) → x ≡ cell → IsSome (if b then Some x els
 pick true x cell e h = ap Some e
 pick false x cell e h = absurd (cc h)
 
-read_is : (m : Option MemoryWidths) (v : Option ℕ) (cell : ℕ) → option_map cell_width_of m ≡ Some cell → IsSome (read_width m v) → read_width m v ≡ Some cell
+read_is : (m : Option MemoryWidthsModel) (v : Option ℕ) (cell : ℕ) → option_map cell_width_of m ≡ Some cell → IsSome (read_width m v) → read_width m v ≡ Some cell
 read_is None v cell e h = absurd (cc e)
 read_is (Some m) None cell e h = absurd (cc h)
 read_is (Some m) (Some a) cell e h = pick (m.address == a) m.cell cell (let k : m.cell ≡ cell = cc in k) h
 
 -- an own net behind others
-own_net : (site : NetSite) (at : ℕ) (a : Phrase) (w : Option ℕ) (g : Gate) → wide (scope_at site) a ≡ w → plain_net at (width_or_none w) g ≡ net_of site at a g
+own_net : (site : SiteModel) (at : ℕ) (a : NetExprModel) (w : Option ℕ) (g : Gate) → wide (scope_at site) a ≡ w → plain_net at (width_or_none w) g ≡ net_of site at a g
 own_net site at a w g e = ap (λ (o : Option ℕ). plain_net at (width_or_none o) g) (sym e)
 
-pub read_end : (site : NetSite) (at : ℕ) (name : Ident) (a : Phrase) (cells : Readable) (old mid new : List Net) (m made : Spot)
+pub read_end : (site : SiteModel) (at : ℕ) (name : Ident) (a : NetExprModel) (cells : Readable) (old mid new : List Net) (m made : NetRef)
     → IsCells (option_map cell_width_of (memory_widths (scope_at site) name.name)) (memory_at site name.name) cells
     → IsSome (wide (scope_at site) (read name a)) → Emitted site at a old mid m
     → Pushed (Some cells.width) at (gate.Read cells.memory m.net) mid new made → Emitted site at (read name a) old new made
@@ -56,15 +56,15 @@ read_end site at name a cells old mid new m made f h k q =
 -- ---- cases
 
 pub case_seen : (e : NetExpr) (selector : Box NetExpr Global) (rows : Vec Row Global) (other : Option (Box NetExpr Global)) → e ≡ Case selector rows other
-    → (x : NetExpr) → x ≡ selector.value → (rs : List Row) → rs ≡ rows.items → phrase_of e ≡ case (phrase_of x) (rows_of (map row_of rs)) (rest_of (other_of other))
-case_seen e selector rows other is x ex rs er = ap phrase_of is ∙ phrase_Case selector rows other ∙ rw (ex, er) refl
+    → (x : NetExpr) → x ≡ selector.value → (rs : List Row) → rs ≡ rows.items → model_of_net_expr e ≡ case (model_of_net_expr x) (case_rows_of (map model_of_case_row rs)) (case_rest_of (other_of other))
+case_seen e selector rows other is x ex rs er = ap model_of_net_expr is ∙ phrase_Case selector rows other ∙ rw (ex, er) refl
 
 four_parts : (old a b c d : List Net) → old ++ a ++ b ++ c ++ d ≡ old ++ (a ++ b ++ c ++ d)
 four_parts old a b c d = simp append_assoc
 
-module _ (site : NetSite) (at : ℕ) (old : List Net) (selector : Phrase) (rows : Rows) (mid mid2 : List Net) (m : Spot) (p : Pairs)
+module _ (site : SiteModel) (at : ℕ) (old : List Net) (selector : NetExprModel) (rows : CaseRowsModel) (mid mid2 : List Net) (m : NetRef) (p : Pairs)
     (k : Emitted site at selector old mid m) (r : EmittedRows site at rows mid mid2 p) where
-  case_end : (other : Rest) (mid3 new : List Net) (out : Option ℕ) (w : Option ℕ) (made : Spot)
+  case_end : (other : CaseRestModel) (mid3 new : List Net) (out : Option ℕ) (w : Option ℕ) (made : NetRef)
       → mid3 ≡ mid2 ++ nets_of_rest site at (length mid2) other → length mid3 ≡ length mid2 + count_rest other → out ≡ rest_out site (length mid2) other
       → wide (scope_at site) (case selector rows other) ≡ w → Pushed w at (gate.Case m.net p.rows out) mid3 new made
       → Emitted site at (case selector rows other) old new made
@@ -77,20 +77,20 @@ module _ (site : NetSite) (at : ℕ) (old : List Net) (selector : Phrase) (rows 
     width_is = e ∙ q.width_is;
   }
 
-  pub case_none : (other : Rest) (mid3 new : List Net) (o : Option Spot) (made : Spot) → EmittedRest site at other mid2 mid3 o → o ≡ None
+  pub case_none : (other : CaseRestModel) (mid3 new : List Net) (o : Option NetRef) (made : NetRef) → EmittedRest site at other mid2 mid3 o → o ≡ None
       → IsSome (wide (scope_at site) (case selector rows other)) → Pushed (Some p.width) at (gate.Case m.net p.rows None) mid3 new made
       → Emitted site at (case selector rows other) old new made
   case_none no_rest mid3 new o made t e h q =
       case_end no_rest mid3 new None (Some p.width) made t.nets t.long refl (width_without (scope_at site) selector rows h ∙ ap Some (sym r.width_is)) q
   case_none (rest a) mid3 new o made t e h q =
-      absurd (let n : option_map (λ (spot : Spot). spot.net) o ≡ None = ap (option_map (λ (spot : Spot). spot.net)) e in let s = t.out in cc)
+      absurd (let n : option_map (λ (spot : NetRef). spot.net) o ≡ None = ap (option_map (λ (spot : NetRef). spot.net)) e in let s = t.out in cc)
 
-  pub case_some : (other : Rest) (mid3 new : List Net) (o : Option Spot) (x made : Spot) → EmittedRest site at other mid2 mid3 o → o ≡ Some x
+  pub case_some : (other : CaseRestModel) (mid3 new : List Net) (o : Option NetRef) (x made : NetRef) → EmittedRest site at other mid2 mid3 o → o ≡ Some x
       → IsSome (wide (scope_at site) (case selector rows other)) → Pushed (Some x.width) at (gate.Case m.net p.rows (Some x.net)) mid3 new made
       → Emitted site at (case selector rows other) old new made
   case_some no_rest mid3 new o x made t e h q =
-      absurd (let n : option_map (λ (spot : Spot). spot.net) o ≡ Some x.net = ap (option_map (λ (spot : Spot). spot.net)) e in let s = t.out in cc)
+      absurd (let n : option_map (λ (spot : NetRef). spot.net) o ≡ Some x.net = ap (option_map (λ (spot : NetRef). spot.net)) e in let s = t.out in cc)
   case_some (rest a) mid3 new o x made t e h q =
-      let n : option_map (λ (spot : Spot). spot.net) o ≡ Some x.net = ap (option_map (λ (spot : Spot). spot.net)) e in
-      let w : option_map (λ (spot : Spot). spot.width) o ≡ Some x.width = ap (option_map (λ (spot : Spot). spot.width)) e in
+      let n : option_map (λ (spot : NetRef). spot.net) o ≡ Some x.net = ap (option_map (λ (spot : NetRef). spot.net)) e in
+      let w : option_map (λ (spot : NetRef). spot.width) o ≡ Some x.width = ap (option_map (λ (spot : NetRef). spot.width)) e in
       case_end (rest a) mid3 new (Some x.net) (Some x.width) made t.nets t.long (sym n ∙ t.out) (width_with (scope_at site) selector rows a h ∙ sym t.width_is ∙ w) q

@@ -19,14 +19,14 @@ use Rattle.net_model.specs.Nets.{IsRegister, code_bits, storage_bits}
 use Rattle.rec_bits.specs.Operators.{IsWidth}
 use Rattle.net_model.specs.Widths.{ArrayFits, DriversFit, HasWidth, WhenFits}
 use Rattle.net_model.specs.CheckedRules.{CodeKeeps, GateKeeps, HasFewCells, IsWellFormed, IsWithinLimits, NetKeeps, StorageKeeps, register_count}
-use Rattle.net_model.specs.Written.{Entry, code, register, memory, net, bus, module_item, part, Phrase}
-use Rattle.net_model.specs.TextNames.{item_named, Scope, in_text}
+use Rattle.net_model.specs.Written.{UnitModel, code, register, memory, net, bus, module_item, part, NetExprModel}
+use Rattle.net_model.specs.TextNames.{item_named, ScopeModel, in_text}
 use Rattle.rec_bits.specs.Faults.{same_name}
 use Rattle.net_model.specs.TextWidths.{is_width, ports_of}
 use Rattle.net_model.specs.Elaborable.{DriverFeeds, FeedsIf, IsBound, IsDriven, IsElaborable, IsFewIn, IsRegisterItem, IsSmall, ItemKeeps, PortFed, PortKeeps}
 use Rattle.net_model.specs.DriverRules.{covers, covers_binding, covers_driver, covers_if, drives_once}
 use Rattle.net_model.specs.LimitRules.{count_register, count_registers, most_cells}
-use Rattle.net_model.specs.Numbering.{NetSite, of_text, scope_at, bound, count, count_equation, count_input, count_inputs, count_outputs, count_item, count_storages, equations_of, storage_named}
+use Rattle.net_model.specs.Numbering.{SiteModel, of_text, scope_at, bound, count, count_equation, count_input, count_inputs, count_outputs, count_item, count_storages, equations_of, storage_named}
 use Rattle.net_model.specs.Elaborated.{bound_out, codes_from, count_codes, elaborated_drivers, driver_pairs, equation_nets, equations_nets, input_nets, inputs_nets, inside, item_codes, item_nets, item_storages, nets_from, nets_if, elaborated, netlist_in, out_if, out_of, output_wire, output_wires, plain_net, storage_in, storages_from}
 use Rattle.net_elab.proofs.Standing.{Stands, stands_left, stands_right, length_equation, length_input, length_items, length_nets}
 use Rattle.net_elab.proofs.ItemNames.{names_differ}
@@ -39,7 +39,7 @@ use Rattle.net_elab.proofs.Sounds.{all_located, found, inside_sound, module_of, 
 
 -- ---- optional and bound expressions
 
-covers_bound : (s : Scope) (bindings : List (Ident × Phrase)) (name : List ℕ) → IsTrue (list_all (covers_binding s) bindings) → IsTrue (covers_if s (bound bindings name))
+covers_bound : (s : ScopeModel) (bindings : List (Ident × NetExprModel)) (name : List ℕ) → IsTrue (list_all (covers_binding s) bindings) → IsTrue (covers_if s (bound bindings name))
 covers_bound s [] name h = refl
 covers_bound s (b ∷ bindings) name h =
     pick (same_name b.0.name name) (and_left (covers s b.1) (list_all (covers_binding s) bindings) h)
@@ -57,30 +57,30 @@ module _ (netlist : Netlist) where
   plain_keeps : (at width : ℕ) (g : Gate) → IsTrue (is_width width) → GateKeeps netlist width g → AllByRecursion Keeps (plain_net at width g ∷ [])
   plain_keeps at width g r k = ((width_range width r, k), tt)
 
-  module _ (site : NetSite) (sound : SiteSound netlist site) where
+  module _ (site : SiteModel) (sound : SiteSound netlist site) where
     -- a `when`
-    when_keeps : (at start : ℕ) (when : Option Phrase) → FeedsIf (scope_at site) 1 when → IsTrue (covers_if (scope_at site) when) → Stands netlist.nets start (nets_if site at start when)
+    when_keeps : (at start : ℕ) (when : Option NetExprModel) → FeedsIf (scope_at site) 1 when → IsTrue (covers_if (scope_at site) when) → Stands netlist.nets start (nets_if site at start when)
         → AllByRecursion Keeps (nets_if site at start when)
     when_keeps at start None f c k = tt
     when_keeps at start (Some a) f c k = keeps netlist site sound at start a 1 f c k
 
-    when_fits : (at start : ℕ) (when : Option Phrase) → FeedsIf (scope_at site) 1 when → Stands netlist.nets start (nets_if site at start when) → WhenFits netlist (out_if site start when)
+    when_fits : (at start : ℕ) (when : Option NetExprModel) → FeedsIf (scope_at site) 1 when → Stands netlist.nets start (nets_if site at start when) → WhenFits netlist (out_if site start when)
     when_fits at start None f k = tt
     when_fits at start (Some a) f k = out_has netlist site sound at start a 1 f k
 
     -- what is bound to a port
-    bound_keeps : (at start w : ℕ) (a : Option Phrase) → IsBound (scope_at site) w a → IsTrue (covers_if (scope_at site) a) → Stands netlist.nets start (nets_if site at start a)
+    bound_keeps : (at start w : ℕ) (a : Option NetExprModel) → IsBound (scope_at site) w a → IsTrue (covers_if (scope_at site) a) → Stands netlist.nets start (nets_if site at start a)
         → AllByRecursion Keeps (nets_if site at start a)
     bound_keeps at start w None f c k = tt
     bound_keeps at start w (Some a) f c k = keeps netlist site sound at start a w f c k
 
-    bound_has : (at start w : ℕ) (a : Option Phrase) → IsBound (scope_at site) w a → Stands netlist.nets start (nets_if site at start a) → HasWidth netlist (bound_out site start a) w
+    bound_has : (at start w : ℕ) (a : Option NetExprModel) → IsBound (scope_at site) w a → Stands netlist.nets start (nets_if site at start a) → HasWidth netlist (bound_out site start a) w
     bound_has at start w None f k = absurd f
     bound_has at start w (Some a) f k = out_has netlist site sound at start a w f k
 
     -- ---- drivers
 
-    drivers_keep : (at start w : ℕ) (drivers : List (Phrase × Phrase)) → AllByRecursion (DriverFeeds (scope_at site) w) drivers → IsTrue (list_all (covers_driver (scope_at site)) drivers)
+    drivers_keep : (at start w : ℕ) (drivers : List (NetExprModel × NetExprModel)) → AllByRecursion (DriverFeeds (scope_at site) w) drivers → IsTrue (list_all (covers_driver (scope_at site)) drivers)
         → Stands netlist.nets start (elaborated_drivers site at start drivers) → AllByRecursion Keeps (elaborated_drivers site at start drivers) × DriversFit netlist w (driver_pairs site start drivers)
     drivers_keep at start w [] f c k = (tt, tt)
     drivers_keep at start w (d ∷ drivers) f c k =
@@ -105,7 +105,7 @@ module _ (netlist : Netlist) where
     if_keeps true xs ys f g = f refl
     if_keeps false xs ys f g = g refl
 
-    input_keeps : (at start : ℕ) (links : List (Ident × Phrase)) (port : Port) → PortKeeps port → PortFed false (scope_at site) links port → IsTrue (list_all (covers_binding (scope_at site)) links)
+    input_keeps : (at start : ℕ) (links : List (Ident × NetExprModel)) (port : Port) → PortKeeps port → PortFed false (scope_at site) links port → IsTrue (list_all (covers_binding (scope_at site)) links)
         → Stands netlist.nets start (input_nets site at start links port) → AllByRecursion Keeps (input_nets site at start links port)
     input_keeps at start links port r f c k = if_keeps port.output [] _ (λ e. tt) (λ e.
         let l = stands_else netlist.nets start port.output [] (nets_if site at start (bound links port.name.name) ++ plain_net at port.width (gate.Wire (bound_out site start (bound links port.name.name))) ∷ []) e k in
@@ -114,7 +114,7 @@ module _ (netlist : Netlist) where
         (bound_keeps at start port.width (bound links port.name.name) (f e) (covers_bound (scope_at site) links port.name.name c) m)
         (plain_keeps at port.width (gate.Wire (bound_out site start (bound links port.name.name))) r (bound_has at start port.width (bound links port.name.name) (f e) m)))
 
-    inputs_keep : (at start : ℕ) (links : List (Ident × Phrase)) (ports : List Port) → AllByRecursion PortKeeps ports → AllByRecursion (PortFed false (scope_at site) links) ports
+    inputs_keep : (at start : ℕ) (links : List (Ident × NetExprModel)) (ports : List Port) → AllByRecursion PortKeeps ports → AllByRecursion (PortFed false (scope_at site) links) ports
         → IsTrue (list_all (covers_binding (scope_at site)) links) → Stands netlist.nets start (inputs_nets site at start links ports) → AllByRecursion Keeps (inputs_nets site at start links ports)
     inputs_keep at start links [] r f c k = tt
     inputs_keep at start links (port ∷ ports) r f c k =
@@ -124,20 +124,20 @@ module _ (netlist : Netlist) where
         (stands_right netlist.nets start (start + count_input links port) (input_nets site at start links port) _ (ap (λ (n : ℕ). start + n) (length_input site at start links port)) k))
 
     -- the equations' nets, and the wires that they feed
-    equation_keeps : (at start : ℕ) (equations : List (Ident × Phrase)) (port : Port) → PortFed true (scope_at site) equations port → IsTrue (list_all (covers_binding (scope_at site)) equations)
+    equation_keeps : (at start : ℕ) (equations : List (Ident × NetExprModel)) (port : Port) → PortFed true (scope_at site) equations port → IsTrue (list_all (covers_binding (scope_at site)) equations)
         → Stands netlist.nets start (equation_nets site at start equations port) → AllByRecursion Keeps (equation_nets site at start equations port)
     equation_keeps at start equations port f c k = if_keeps port.output _ [] (λ e.
         bound_keeps at start port.width (bound equations port.name.name) (f e) (covers_bound (scope_at site) equations port.name.name c)
         (stands_then netlist.nets start port.output (nets_if site at start (bound equations port.name.name)) [] e k)) (λ e. tt)
 
-    output_keeps : (at start : ℕ) (equations : List (Ident × Phrase)) (port : Port) → PortKeeps port → PortFed true (scope_at site) equations port
+    output_keeps : (at start : ℕ) (equations : List (Ident × NetExprModel)) (port : Port) → PortKeeps port → PortFed true (scope_at site) equations port
         → Stands netlist.nets start (equation_nets site at start equations port) → AllByRecursion Keeps (output_wire site at start equations port)
     output_keeps at start equations port r f k = if_keeps port.output _ [] (λ e.
         plain_keeps at port.width (gate.Wire (bound_out site start (bound equations port.name.name))) r
         (bound_has at start port.width (bound equations port.name.name) (f e)
         (stands_then netlist.nets start port.output (nets_if site at start (bound equations port.name.name)) [] e k))) (λ e. tt)
 
-    outputs_keep : (at start : ℕ) (equations : List (Ident × Phrase)) (ports : List Port) → AllByRecursion PortKeeps ports → AllByRecursion (PortFed true (scope_at site) equations) ports
+    outputs_keep : (at start : ℕ) (equations : List (Ident × NetExprModel)) (ports : List Port) → AllByRecursion PortKeeps ports → AllByRecursion (PortFed true (scope_at site) equations) ports
         → IsTrue (list_all (covers_binding (scope_at site)) equations) → Stands netlist.nets start (equations_nets site at start equations ports)
         → AllByRecursion Keeps (output_wires site at start equations ports) × AllByRecursion Keeps (equations_nets site at start equations ports)
     outputs_keep at start equations [] r f c k = (tt, tt)
@@ -156,17 +156,17 @@ array_keeps : (netlist : Netlist) (space : Space) (cells : Cells) → IsWidth ce
 array_keeps netlist InMemory cells w a f = (w, a, f)
 array_keeps netlist InFile cells w a f = (w, a, f)
 
-module _ (edition : ℕ) (text : List Entry) (keep : IsElaborable text) where
+module _ (edition : ℕ) (text : List UnitModel) (keep : IsElaborable text) where
   abbrev Kept : Net → Type 0
   Kept x = NetKeeps (netlist_in edition text) (Some x)
 
   -- what an item gives keeps the rules
-  pub record ItemFormed (e : Entry) (start storage number : ℕ) : Type 0 where
+  pub record ItemFormed (e : UnitModel) (start storage number : ℕ) : Type 0 where
     pub nets_keep : AllByRecursion Kept (item_nets text start storage number e)
     pub storages_keep : AllByRecursion (StorageKeeps (netlist_in edition text)) (item_storages text start e)
     pub codes_keep : AllByRecursion (CodeKeeps (netlist_in edition text)) (item_codes text e)
 
-  counter_is : (name : List ℕ) (o : Option Entry) → item_named text name ≡ o → IsRegisterItem o → IsRegister (slice_get (netlist_in edition text).storages (storage_named text name))
+  counter_is : (name : List ℕ) (o : Option UnitModel) → item_named text name ≡ o → IsRegisterItem o → IsRegister (slice_get (netlist_in edition text).storages (storage_named text name))
   counter_is name (Some (register kind own width input when)) e h =
       let f = found edition text keep name (register kind own width input when) e in
       rw (f.storage_is, f.there.storages_there.0) tt
@@ -178,7 +178,7 @@ module _ (edition : ℕ) (text : List Entry) (keep : IsElaborable text) where
   counter_is name (Some (module_item own ports equations)) e h = absurd h
   counter_is name (Some (part own of links)) e h = absurd h
 
-  item_formed : (e : Entry) (start storage number : ℕ) → ItemKeeps text e → IsDriven text e → Located (netlist_in edition text) text e start storage number → ItemFormed e start storage number
+  item_formed : (e : UnitModel) (start storage number : ℕ) → ItemKeeps text e → IsDriven text e → Located (netlist_in edition text) text e start storage number → ItemFormed e start storage number
   item_formed (code name bits size counter) start storage number k d l =
       let s = l.codes_there.0 in
       record {
@@ -276,12 +276,12 @@ module _ (edition : ℕ) (text : List Entry) (keep : IsElaborable text) where
 
   -- ---- all items
 
-  pub record AllFormed (entries : List Entry) (start storage number : ℕ) : Type 0 where
+  pub record AllFormed (entries : List UnitModel) (start storage number : ℕ) : Type 0 where
     pub nets_keep : AllByRecursion Kept (nets_from text start storage number entries)
     pub storages_keep : AllByRecursion (StorageKeeps (netlist_in edition text)) (storages_from text start entries)
     pub codes_keep : AllByRecursion (CodeKeeps (netlist_in edition text)) (codes_from text entries)
 
-  all_formed : (entries : List Entry) (start storage number : ℕ) → AllByRecursion (ItemKeeps text) entries → AllByRecursion (IsDriven text) entries
+  all_formed : (entries : List UnitModel) (start storage number : ℕ) → AllByRecursion (ItemKeeps text) entries → AllByRecursion (IsDriven text) entries
       → AllLocated (netlist_in edition text) text entries start storage number → AllFormed entries start storage number
   all_formed [] start storage number k d l = record { nets_keep = tt; storages_keep = tt; codes_keep = tt }
   all_formed (e ∷ entries) start storage number k d l =
@@ -306,7 +306,7 @@ module _ (edition : ℕ) (text : List Entry) (keep : IsElaborable text) where
   below_most : (space : Space) (size : ℕ) → IsTrue (nat_le size (most_cells edition space)) → size ≤ most_cells edition space
   below_most space size h = grind (arith, nat_tests)
 
-  cells_few : (e : Entry) (start : ℕ) → ((space : Space) → IsSmall edition space e) → AllByRecursion (HasFewCells edition) (item_storages text start e)
+  cells_few : (e : UnitModel) (start : ℕ) → ((space : Space) → IsSmall edition space e) → AllByRecursion (HasFewCells edition) (item_storages text start e)
   cells_few (code name bits size counter) start k = tt
   cells_few (register kind name width input when) start k = (tt, tt)
   cells_few (memory InMemory name width size addr_width value addr when) start k = (below_most InMemory size (k InMemory), tt)
@@ -316,7 +316,7 @@ module _ (edition : ℕ) (text : List Entry) (keep : IsElaborable text) where
   cells_few (module_item name ports equations) start k = tt
   cells_few (part name of links) start k = tt
 
-  all_cells : (entries : List Entry) (start : ℕ) → ((space : Space) → AllByRecursion (IsSmall edition space) entries) → AllByRecursion (HasFewCells edition) (storages_from text start entries)
+  all_cells : (entries : List UnitModel) (start : ℕ) → ((space : Space) → AllByRecursion (IsSmall edition space) entries) → AllByRecursion (HasFewCells edition) (storages_from text start entries)
   all_cells [] start k = tt
   all_cells (e ∷ entries) start k =
       all_append (HasFewCells edition) (item_storages text start e) _ (cells_few e start (λ space. (k space).0)) (all_cells entries (start + count_item text e) (λ space. (k space).1))
@@ -324,7 +324,7 @@ module _ (edition : ℕ) (text : List Entry) (keep : IsElaborable text) where
   abbrev HasFewWords : Code → Type 0
   HasFewWords made = made.words ≤ 65536
 
-  words_few : (e : Entry) → ItemKeeps text e → AllByRecursion HasFewWords (item_codes text e)
+  words_few : (e : UnitModel) → ItemKeeps text e → AllByRecursion HasFewWords (item_codes text e)
   words_few (code name bits size counter) k = (below_size size k.1, tt)
   words_few (register kind name width input when) k = tt
   words_few (memory space name width size addr_width value addr when) k = tt
@@ -333,7 +333,7 @@ module _ (edition : ℕ) (text : List Entry) (keep : IsElaborable text) where
   words_few (module_item name ports equations) k = tt
   words_few (part name of links) k = tt
 
-  all_words : (entries : List Entry) → AllByRecursion (ItemKeeps text) entries → AllByRecursion HasFewWords (codes_from text entries)
+  all_words : (entries : List UnitModel) → AllByRecursion (ItemKeeps text) entries → AllByRecursion HasFewWords (codes_from text entries)
   all_words [] k = tt
   all_words (e ∷ entries) k = all_append HasFewWords (item_codes text e) _ (words_few e k.0) (all_words entries k.1)
 
@@ -343,7 +343,7 @@ module _ (edition : ℕ) (text : List Entry) (keep : IsElaborable text) where
   registers_append (Memory cells ∷ xs) ys = registers_append xs ys
   registers_append (File cells ∷ xs) ys = registers_append xs ys
 
-  item_registers : (e : Entry) (start : ℕ) → register_count (item_storages text start e) ≡ count_register e
+  item_registers : (e : UnitModel) (start : ℕ) → register_count (item_storages text start e) ≡ count_register e
   item_registers (code name bits size counter) start = refl
   item_registers (register kind name width input when) start = refl
   item_registers (memory InMemory name width size addr_width value addr when) start = refl
@@ -353,7 +353,7 @@ module _ (edition : ℕ) (text : List Entry) (keep : IsElaborable text) where
   item_registers (module_item name ports equations) start = refl
   item_registers (part name of links) start = refl
 
-  all_registers : (entries : List Entry) (start : ℕ) → register_count (storages_from text start entries) ≡ count_registers entries
+  all_registers : (entries : List UnitModel) (start : ℕ) → register_count (storages_from text start entries) ≡ count_registers entries
   all_registers [] start = refl
   all_registers (e ∷ entries) start =
       let r = all_registers entries (start + count_item text e) in
@@ -381,10 +381,10 @@ module _ (edition : ℕ) (text : List Entry) (keep : IsElaborable text) where
 
 -- ---- answers that are the netlist of a text, where the text is seen as another that is the same
 
-pub answer_same : {E : Type 0} (edition : ℕ) (text seen : List Entry) → seen ≡ text → (r : Result Netlist E) → IfOk r (λ made. made ≡ netlist_in edition seen) → IfOk r (λ made. made ≡ netlist_in edition text)
+pub answer_same : {E : Type 0} (edition : ℕ) (text seen : List UnitModel) → seen ≡ text → (r : Result Netlist E) → IfOk r (λ made. made ≡ netlist_in edition seen) → IfOk r (λ made. made ≡ netlist_in edition text)
 answer_same edition text seen same (Ok made) is = is ∙ ap (netlist_in edition) same
 answer_same edition text seen same (Err e) is = tt
 
-pub answer_formed : {E : Type 0} (edition : ℕ) (text seen : List Entry) → IsElaborable text → IsFewIn edition text → seen ≡ text → (r : Result Netlist E) → IfOk r (λ made. made ≡ netlist_in edition seen) → IfOk r IsWellFormed
+pub answer_formed : {E : Type 0} (edition : ℕ) (text seen : List UnitModel) → IsElaborable text → IsFewIn edition text → seen ≡ text → (r : Result Netlist E) → IfOk r (λ made. made ≡ netlist_in edition seen) → IfOk r IsWellFormed
 answer_formed edition text seen keep few same (Ok made) is = subst IsWellFormed (sym (is ∙ ap (netlist_in edition) same)) (formed edition text keep few)
 answer_formed edition text seen keep few same (Err e) is = tt

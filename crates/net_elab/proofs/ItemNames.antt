@@ -6,7 +6,7 @@ use Rattle.net_model.specs.declared.hardware.Space.TheVariants.{Memory as InMemo
 use Rattle.net_model.specs.declared.hardware.Code.{Code}
 use Rattle.net_model.specs.Nets.{storage_name}
 use Rattle.net_model.specs.CheckedRules.{NamesDiffer}
-use Rattle.net_model.specs.Written.{Entry, code, register, memory, net, bus, module_item, part}
+use Rattle.net_model.specs.Written.{UnitModel, code, register, memory, net, bus, module_item, part}
 use Rattle.net_model.specs.TextNames.{own_name}
 use Rattle.rec_bits.specs.Faults.{same_name}
 use Rattle.net_model.specs.Elaborable.{item_names}
@@ -65,15 +65,15 @@ distinct_none : IsDistinct same_name []
 unfolding IsDistinct
 distinct_none = tt
 
-module _ (text : List Entry) where
-  abbrev stored : ℕ → List Entry → List (List ℕ)
+module _ (text : List UnitModel) where
+  abbrev stored : ℕ → List UnitModel → List (List ℕ)
   stored start entries = map storage_name (storages_from text start entries)
 
-  abbrev coded : List Entry → List (List ℕ)
+  abbrev coded : List UnitModel → List (List ℕ)
   coded entries = map code_name (codes_from text entries)
 
   -- a name that no item has
-  fresh_names : (name : List ℕ) (start : ℕ) (entries : List Entry) → Fresh name (item_names entries) → Fresh name (stored start entries) × Fresh name (coded entries)
+  fresh_names : (name : List ℕ) (start : ℕ) (entries : List UnitModel) → Fresh name (item_names entries) → Fresh name (stored start entries) × Fresh name (coded entries)
   fresh_names name start [] h = (tt, tt)
   fresh_names name start (code own bits size counter ∷ entries) h = let r = fresh_names name (start + count_item text (code own bits size counter)) entries h.1 in (r.0, (h.0, r.1))
   fresh_names name start (register kind own width input when ∷ entries) h = let r = fresh_names name (start + count_item text (register kind own width input when)) entries h.1 in ((h.0, r.0), r.1)
@@ -86,17 +86,17 @@ module _ (text : List Entry) where
   fresh_names name start (module_item own ports equations ∷ entries) h = fresh_names name (start + count_item text (module_item own ports equations)) entries h.1
   fresh_names name start (part own of links ∷ entries) h = fresh_names name (start + count_item text (part own of links)) entries h.1
 
-  fresh_both : (name : List ℕ) (start : ℕ) (entries : List Entry) → Fresh name (item_names entries) → Fresh name (stored start entries ++ coded entries)
+  fresh_both : (name : List ℕ) (start : ℕ) (entries : List UnitModel) → Fresh name (item_names entries) → Fresh name (stored start entries ++ coded entries)
   fresh_both name start entries h = let r = fresh_names name start entries h in fresh_append name (stored start entries) (coded entries) r.0 r.1
 
-  distinct_names : (start : ℕ) (before : List (List ℕ)) (entries : List Entry) → IsTrue (names_new before (item_names entries)) → IsDistinct same_name (stored start entries ++ coded entries)
+  distinct_names : (start : ℕ) (before : List (List ℕ)) (entries : List UnitModel) → IsTrue (names_new before (item_names entries)) → IsDistinct same_name (stored start entries ++ coded entries)
   distinct_names start before [] h = distinct_none
   distinct_names start before (e ∷ entries) h =
       let k = and_right (not (is_among before (own_name e).name)) (names_new ((own_name e).name ∷ before) (item_names entries)) h in
       let f = fresh_from (own_name e).name ((own_name e).name ∷ before) (item_names entries) (λ m o. left_false (same_name (own_name e).name m) (is_among before m) o) k in
       more e start entries f (distinct_names (start + count_item text e) ((own_name e).name ∷ before) entries k)
     where
-      more : (e : Entry) (start : ℕ) (entries : List Entry) → Fresh (own_name e).name (item_names entries) → IsDistinct same_name (stored (start + count_item text e) entries ++ coded entries)
+      more : (e : UnitModel) (start : ℕ) (entries : List UnitModel) → Fresh (own_name e).name (item_names entries) → IsDistinct same_name (stored (start + count_item text e) entries ++ coded entries)
           → IsDistinct same_name (stored start (e ∷ entries) ++ coded (e ∷ entries))
       more (code own bits size counter) start entries f d =
           distinct_insert own.name (stored (start + 1) entries) (coded entries) d (fresh_both own.name (start + 1) entries f)
@@ -111,5 +111,5 @@ module _ (text : List Entry) where
       more (module_item own ports equations) start entries f d = d
       more (part own of links) start entries f d = d
 
-pub names_differ : (edition : ℕ) (text : List Entry) → IsTrue (names_new [] (item_names text)) → NamesDiffer (netlist_in edition text)
+pub names_differ : (edition : ℕ) (text : List UnitModel) → IsTrue (names_new [] (item_names text)) → NamesDiffer (netlist_in edition text)
 names_differ edition text h = distinct_names text 0 [] text h

@@ -14,10 +14,10 @@ use Rattle.net_model.specs.declared.hardware.Gate.TheVariants as gate
 use Rattle.net_model.specs.Widths.{HasWidth, RowsFit, RestFits}
 use Rattle.net_model.specs.CheckedRules.{ReadKeeps, GateKeeps, NetKeeps, IsWhole}
 use Rattle.rec_bits.specs.Operators.{IsWidth}
-use Rattle.net_model.specs.Written.{Phrase, named, const, un, bin, cat, slice, zext, sext, read, case, Rows, no_rows, row, Rest, no_rest, rest}
-use Rattle.net_model.specs.TextWidths.{wide, is_width, is_below, named_width, memory_widths, MemoryWidths, sliced, paired, joined_width, extended, read_width, numbers_fit}
+use Rattle.net_model.specs.Written.{NetExprModel, named, const, un, bin, cat, slice, zext, sext, read, case, CaseRowsModel, no_rows, row, CaseRestModel, no_rest, rest}
+use Rattle.net_model.specs.TextWidths.{wide, is_width, is_below, named_width, memory_widths, MemoryWidthsModel, sliced, paired, joined_width, extended, read_width, numbers_fit}
 use Rattle.net_model.specs.DriverRules.{covers, covers_rows, covers_rest, is_covered}
-use Rattle.net_model.specs.Numbering.{NetSite, scope_at, count, count_rows, count_rest, net_named, memory_at}
+use Rattle.net_model.specs.Numbering.{SiteModel, scope_at, count, count_rows, count_rest, net_named, memory_at}
 use Rattle.net_model.specs.Elaborated.{width_or_none, net_of, elaborated, nets_of_rows, nets_of_rest, out_of, row_pairs, rest_out}
 use Rattle.rec_bits.proofs.Booleans.{and_left, and_right}
 use Rattle.net_elab.proofs.Cases.{RowsHave, RestHas, case_has, no_arms}
@@ -102,17 +102,17 @@ pub extended_has : (width : ℕ) (x : Option ℕ) (w : ℕ) → extended width x
 extended_has width None w h = absurd (cc h)
 extended_has width (Some a) w h = extended_so (is_width width && nat_le (a + 1) width) width a w refl h
 
-pub record IsReadOf (m : Option MemoryWidths) (x : Option ℕ) (w : ℕ) : Type 0 where
-  pub found : MemoryWidths
+pub record IsReadOf (m : Option MemoryWidthsModel) (x : Option ℕ) (w : ℕ) : Type 0 where
+  pub found : MemoryWidthsModel
   pub found_is : m ≡ Some found
   pub address_is : x ≡ Some found.address
   pub width_is : found.cell ≡ w
 
-read_so : (t : Bool) (m : MemoryWidths) (a w : ℕ) → (m.address == a) ≡ t → (if t then Some m.cell else None) ≡ Some w → IsReadOf (Some m) (Some a) w
+read_so : (t : Bool) (m : MemoryWidthsModel) (a w : ℕ) → (m.address == a) ≡ t → (if t then Some m.cell else None) ≡ Some w → IsReadOf (Some m) (Some a) w
 read_so false m a w t h = absurd (cc h)
 read_so true m a w t h = let e : a ≡ m.address = grind (arith, nat_tests) in record { found = m; found_is = refl; address_is = ap Some e; width_is = (let k : m.cell ≡ w = cc in k) }
 
-pub read_has : (m : Option MemoryWidths) (x : Option ℕ) (w : ℕ) → read_width m x ≡ Some w → IsReadOf m x w
+pub read_has : (m : Option MemoryWidthsModel) (x : Option ℕ) (w : ℕ) → read_width m x ≡ Some w → IsReadOf m x w
 read_has None x w h = absurd (cc h)
 read_has (Some m) None w h = absurd (cc h)
 read_has (Some m) (Some a) w h = read_so (m.address == a) m a w refl h
@@ -151,20 +151,20 @@ result_range Sar v r = r
 -- ---- where an expression stands
 
 -- names stand for nets and memories of their widths
-pub record SiteSound (netlist : Netlist) (site : NetSite) : Type 0 where
+pub record SiteSound (netlist : Netlist) (site : SiteModel) : Type 0 where
   pub named_has : (name : List ℕ) (field : Option Ident) (w : ℕ) → named_width (scope_at site) name field ≡ Some w → HasWidth netlist (net_named site name field) w
   pub named_range : (name : List ℕ) (field : Option Ident) (w : ℕ) → named_width (scope_at site) name field ≡ Some w → IsWidth w
-  pub cells_read : (name : List ℕ) (m : MemoryWidths) → memory_widths (scope_at site) name ≡ Some m → (addr : ℕ) → HasWidth netlist addr m.address
+  pub cells_read : (name : List ℕ) (m : MemoryWidthsModel) → memory_widths (scope_at site) name ≡ Some m → (addr : ℕ) → HasWidth netlist addr m.address
       → ReadKeeps netlist m.cell addr (slice_get netlist.storages (memory_at site name))
-  pub cells_range : (name : List ℕ) (m : MemoryWidths) → memory_widths (scope_at site) name ≡ Some m → IsWidth m.cell
+  pub cells_range : (name : List ℕ) (m : MemoryWidthsModel) → memory_widths (scope_at site) name ≡ Some m → IsWidth m.cell
 
-module _ (netlist : Netlist) (site : NetSite) (sound : SiteSound netlist site) where
+module _ (netlist : Netlist) (site : SiteModel) (sound : SiteSound netlist site) where
   abbrev pub Keeps : Net → Type 0
   Keeps net = NetKeeps netlist (Some net)
 
   -- ---- every width is 1 to 64
 
-  pub wide_range : (a : Phrase) (w : ℕ) → wide (scope_at site) a ≡ Some w → IsWidth w
+  pub wide_range : (a : NetExprModel) (w : ℕ) → wide (scope_at site) a ≡ Some w → IsWidth w
   wide_range (named name field None) w h = sound.named_range name.name field w h
   wide_range (named name field (Some bits)) w h =
       let k = sliced_has bits.0 bits.1 (named_width (scope_at site) name.name field) w h in
@@ -195,14 +195,14 @@ module _ (netlist : Netlist) (site : NetSite) (sound : SiteSound netlist site) w
 
   -- ---- the net that has the value has the width
 
-  length_two : (at start : ℕ) (a b : Phrase) → length (elaborated site at start a ++ elaborated site at (start + count a) b) ≡ count a + count b
+  length_two : (at start : ℕ) (a b : NetExprModel) → length (elaborated site at start a ++ elaborated site at (start + count a) b) ≡ count a + count b
   length_two at start a b = omega (arith, length-append (elaborated site at start a) (elaborated site at (start + count a) b), length_nets site at start a, length_nets site at (start + count a) b)
 
-  length_pair : (at start : ℕ) (selector : Phrase) (rows : Rows) → length (elaborated site at start selector ++ nets_of_rows site at (start + count selector) rows) ≡ count selector + count_rows rows
+  length_pair : (at start : ℕ) (selector : NetExprModel) (rows : CaseRowsModel) → length (elaborated site at start selector ++ nets_of_rows site at (start + count selector) rows) ≡ count selector + count_rows rows
   length_pair at start selector rows =
       omega (arith, length-append (elaborated site at start selector) (nets_of_rows site at (start + count selector) rows), length_nets site at start selector, length_rows site at (start + count selector) rows)
 
-  length_three : (at start : ℕ) (selector : Phrase) (rows : Rows) (other : Rest)
+  length_three : (at start : ℕ) (selector : NetExprModel) (rows : CaseRowsModel) (other : CaseRestModel)
       → length (elaborated site at start selector ++ nets_of_rows site at (start + count selector) rows ++ nets_of_rest site at (start + count selector + count_rows rows) other)
       ≡ count selector + count_rows rows + count_rest other
   length_three at start selector rows other =
@@ -213,11 +213,11 @@ module _ (netlist : Netlist) (site : NetSite) (sound : SiteSound netlist site) w
         length_rest site at (start + count selector + count_rows rows) other,
       )
 
-  own_at : (at start : ℕ) (pre : List Net) (a : Phrase) (g : Gate) (n w : ℕ) → start + length pre ≡ n → wide (scope_at site) a ≡ Some w
+  own_at : (at start : ℕ) (pre : List Net) (a : NetExprModel) (g : Gate) (n w : ℕ) → start + length pre ≡ n → wide (scope_at site) a ≡ Some w
       → Stands netlist.nets start (pre ++ net_of site at a g ∷ []) → HasWidth netlist n w
   own_at at start pre a g n w e h k = has_at netlist n (net_of site at a g) w (stands_right netlist.nets start n pre _ e k).0 (ap width_or_none h)
 
-  pub out_has : (at start : ℕ) (a : Phrase) (w : ℕ) → wide (scope_at site) a ≡ Some w → Stands netlist.nets start (elaborated site at start a) → HasWidth netlist (out_of site start a) w
+  pub out_has : (at start : ℕ) (a : NetExprModel) (w : ℕ) → wide (scope_at site) a ≡ Some w → Stands netlist.nets start (elaborated site at start a) → HasWidth netlist (out_of site start a) w
   out_has at start (named name field None) w h k = sound.named_has name.name field w h
   out_has at start (named name field (Some bits)) w h k = own_at at start [] (named name field (Some bits)) _ _ w (omega arith) h k
   out_has at start (const value width) w h k = own_at at start [] (const value width) _ _ w (omega arith) h k
@@ -239,7 +239,7 @@ module _ (netlist : Netlist) (site : NetSite) (sound : SiteSound netlist site) w
 
   -- ---- the parts of an expression stand where they are numbered
 
-  two_stand : (at start : ℕ) (a b : Phrase) (behind : List Net) → Stands netlist.nets start (elaborated site at start a ++ elaborated site at (start + count a) b ++ behind)
+  two_stand : (at start : ℕ) (a b : NetExprModel) (behind : List Net) → Stands netlist.nets start (elaborated site at start a ++ elaborated site at (start + count a) b ++ behind)
       → Stands netlist.nets start (elaborated site at start a) × Stands netlist.nets (start + count a) (elaborated site at (start + count a) b)
   two_stand at start a b behind k =
       let l = stands_left netlist.nets start (elaborated site at start a ++ elaborated site at (start + count a) b) behind k in (
@@ -247,7 +247,7 @@ module _ (netlist : Netlist) (site : NetSite) (sound : SiteSound netlist site) w
         stands_right netlist.nets start (start + count a) (elaborated site at start a) _ (omega (arith, length_nets site at start a)) l,
       )
 
-  three_stand : (at start : ℕ) (selector : Phrase) (rows : Rows) (other : Rest) (behind : List Net)
+  three_stand : (at start : ℕ) (selector : NetExprModel) (rows : CaseRowsModel) (other : CaseRestModel) (behind : List Net)
       → Stands netlist.nets start
       (elaborated site at start selector ++ nets_of_rows site at (start + count selector) rows
       ++ nets_of_rest site at (start + count selector + count_rows rows) other ++ behind)
@@ -274,7 +274,7 @@ module _ (netlist : Netlist) (site : NetSite) (sound : SiteSound netlist site) w
       let k : n < 2 ^ key = grind (arith, nat_tests, b) in
       (k, o, pairs_fit key w out numbers pairs (and_right (is_below n key) (numbers_fit key numbers) f) o r)
 
-  rows_fit : (at start key w : ℕ) (rows : Rows) → RowsHave (scope_at site) key w rows → Stands netlist.nets start (nets_of_rows site at start rows)
+  rows_fit : (at start key w : ℕ) (rows : CaseRowsModel) → RowsHave (scope_at site) key w rows → Stands netlist.nets start (nets_of_rows site at start rows)
       → RowsFit netlist key w (row_pairs site start rows)
   rows_fit at start key w no_rows h k = tt
   rows_fit at start key w (row numbers a rows) h k =
@@ -283,19 +283,19 @@ module _ (netlist : Netlist) (site : NetSite) (sound : SiteSound netlist site) w
       (rows_fit at (start + count a) key w rows h.2
       (stands_right netlist.nets start (start + count a) (elaborated site at start a) _ (omega (arith, length_nets site at start a)) k))
 
-  rest_fits : (at start w : ℕ) (other : Rest) → RestHas (scope_at site) w other → Stands netlist.nets start (nets_of_rest site at start other) → RestFits netlist w (rest_out site start other)
+  rest_fits : (at start w : ℕ) (other : CaseRestModel) → RestHas (scope_at site) w other → Stands netlist.nets start (nets_of_rest site at start other) → RestFits netlist w (rest_out site start other)
   rest_fits at start w no_rest h k = tt
   rest_fits at start w (rest a) h k = out_has at start a w h k
 
   -- ---- the nets keep the rules
 
-  own_keeps : (at w : ℕ) (a : Phrase) (g : Gate) → wide (scope_at site) a ≡ Some w → IsWidth w → GateKeeps netlist w g → AllByRecursion Keeps (net_of site at a g ∷ [])
+  own_keeps : (at w : ℕ) (a : NetExprModel) (g : Gate) → wide (scope_at site) a ≡ Some w → IsWidth w → GateKeeps netlist w g → AllByRecursion Keeps (net_of site at a g ∷ [])
   own_keeps at w a g h r k =
       let e : w ≡ width_or_none (wide (scope_at site) a) = ap width_or_none (sym h) in
       ((subst IsWidth e r, subst (λ (n : ℕ). GateKeeps netlist n g) e k), tt)
 
   mutual
-    pub keeps : (at start : ℕ) (a : Phrase) (w : ℕ) → wide (scope_at site) a ≡ Some w → IsTrue (covers (scope_at site) a) → Stands netlist.nets start (elaborated site at start a)
+    pub keeps : (at start : ℕ) (a : NetExprModel) (w : ℕ) → wide (scope_at site) a ≡ Some w → IsTrue (covers (scope_at site) a) → Stands netlist.nets start (elaborated site at start a)
         → AllByRecursion Keeps (elaborated site at start a)
     keeps at start (named name field None) w h c k = tt
     keeps at start (named name field (Some bits)) w h c k =
@@ -383,7 +383,7 @@ module _ (netlist : Netlist) (site : NetSite) (sound : SiteSound netlist site) w
               (rows_whole site (start + count selector) (start + count selector + count_rows rows) (scope_at site) p.key w rows other p.rows_have d_key),
         ))
 
-    rows_keep : (at start : ℕ) (rows : Rows) (key w : ℕ) → RowsHave (scope_at site) key w rows → IsTrue (covers_rows (scope_at site) rows) → Stands netlist.nets start (nets_of_rows site at start rows)
+    rows_keep : (at start : ℕ) (rows : CaseRowsModel) (key w : ℕ) → RowsHave (scope_at site) key w rows → IsTrue (covers_rows (scope_at site) rows) → Stands netlist.nets start (nets_of_rows site at start rows)
         → AllByRecursion Keeps (nets_of_rows site at start rows)
     rows_keep at start no_rows key w h c k = tt
     rows_keep at start (row numbers a rows) key w h c k =
@@ -392,7 +392,7 @@ module _ (netlist : Netlist) (site : NetSite) (sound : SiteSound netlist site) w
         (rows_keep at (start + count a) rows key w h.2 (and_right _ _ c)
         (stands_right netlist.nets start (start + count a) (elaborated site at start a) _ (omega (arith, length_nets site at start a)) k))
 
-    rest_keeps : (at start : ℕ) (other : Rest) (w : ℕ) → RestHas (scope_at site) w other → IsTrue (covers_rest (scope_at site) other) → Stands netlist.nets start (nets_of_rest site at start other)
+    rest_keeps : (at start : ℕ) (other : CaseRestModel) (w : ℕ) → RestHas (scope_at site) w other → IsTrue (covers_rest (scope_at site) other) → Stands netlist.nets start (nets_of_rest site at start other)
         → AllByRecursion Keeps (nets_of_rest site at start other)
     rest_keeps at start no_rest w h c k = tt
     rest_keeps at start (rest a) w h c k = keeps at start a w h c k

@@ -11,7 +11,7 @@ use Rattle.net_model.specs.declared.units.RegisterKind.TheVariants.{Plain, Mode 
 use Rattle.net_model.specs.Editions.{is_banked, is_moded}
 use Rattle.net_model.specs.Nets.{HasCells, IsRegister, storage_bits}
 use Rattle.net_model.specs.CheckedRules.{IsBank, IsMode, IsSpecial, IsSpecialIf}
-use Rattle.net_model.specs.Written.{Entry, code, register, memory, net, bus, module_item, part}
+use Rattle.net_model.specs.Written.{UnitModel, code, register, memory, net, bus, module_item, part}
 use Rattle.net_model.specs.Numbering.{count_item, count_storages}
 use Rattle.net_model.specs.Elaborated.{files_from, item_storages, lone_bank, lone_mode, modes_from, netlist_in, own_files, own_modes, storages_from}
 use Rattle.net_elab.proofs.Standing.{length_stored}
@@ -31,8 +31,8 @@ wide_at before rest name width input when n is =
       ap storage_bits (at_end before rest (Register name width input when)),
     )
 
-module _ (text : List Entry) where
-  own_wide : (before rest : List Storage) (start n : ℕ) (e : Entry) → length before ≡ n → AllByRecursion (IsWide (before ++ (item_storages text start e ++ rest))) (own_modes n e)
+module _ (text : List UnitModel) where
+  own_wide : (before rest : List Storage) (start n : ℕ) (e : UnitModel) → length before ≡ n → AllByRecursion (IsWide (before ++ (item_storages text start e ++ rest))) (own_modes n e)
   own_wide before rest start n (register AsMode name width input when) is = (wide_at before rest name.name width _ _ n is, tt)
   own_wide before rest start n (register Plain name width input when) is = tt
   own_wide before rest start n (code name bits size counter) is = tt
@@ -43,7 +43,7 @@ module _ (text : List Entry) where
   own_wide before rest start n (part name of links) is = tt
 
   -- each mode among items is a register of its width, whatever storages stand before
-  all_wide : (before : List Storage) (start n : ℕ) (entries : List Entry) → length before ≡ n → AllByRecursion (IsWide (before ++ storages_from text start entries)) (modes_from n entries)
+  all_wide : (before : List Storage) (start n : ℕ) (entries : List UnitModel) → length before ≡ n → AllByRecursion (IsWide (before ++ storages_from text start entries)) (modes_from n entries)
   all_wide before start n [] is = tt
   all_wide before start n (e ∷ entries) is =
       let rest = storages_from text (start + count_item text e) entries in
@@ -71,7 +71,7 @@ module _ (text : List Entry) where
   file_at before rest cells n is =
       subst (λ (k : ℕ). HasCells InFile (slice_get (before ++ File cells ∷ rest) k)) is (subst (HasCells InFile) (sym (at_end before rest (File cells))) tt)
 
-  own_filed : (before rest : List Storage) (start n : ℕ) (e : Entry) → length before ≡ n
+  own_filed : (before rest : List Storage) (start n : ℕ) (e : UnitModel) → length before ≡ n
       → AllByRecursion (λ (id : ℕ). HasCells InFile (slice_get (before ++ (item_storages text start e ++ rest)) id)) (own_files n e)
   own_filed before rest start n (memory InFile name width size addr_width value addr when) is = (file_at before rest _ n is, tt)
   own_filed before rest start n (memory InMemory name width size addr_width value addr when) is = tt
@@ -82,7 +82,7 @@ module _ (text : List Entry) where
   own_filed before rest start n (module_item name ports equations) is = tt
   own_filed before rest start n (part name of links) is = tt
 
-  all_filed : (before : List Storage) (start n : ℕ) (entries : List Entry) → length before ≡ n
+  all_filed : (before : List Storage) (start n : ℕ) (entries : List UnitModel) → length before ≡ n
       → AllByRecursion (λ (id : ℕ). HasCells InFile (slice_get (before ++ storages_from text start entries) id)) (files_from n entries)
   all_filed before start n [] is = tt
   all_filed before start n (e ∷ entries) is =

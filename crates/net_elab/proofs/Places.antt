@@ -6,10 +6,10 @@ use Rattle.net_model.specs.declared.hardware.Netlist.{Netlist}
 use Rattle.net_model.specs.declared.hardware.Net.{Net}
 use Rattle.net_model.specs.declared.hardware.Gate.{Gate}
 use Rattle.net_model.specs.Widths.{HasWidth}
-use Rattle.net_model.specs.Written.{Entry, Phrase}
+use Rattle.net_model.specs.Written.{UnitModel, NetExprModel}
 use Rattle.net_model.specs.TextNames.{is_port, port_named}
 use Rattle.rec_bits.specs.Faults.{same_name}
-use Rattle.net_model.specs.Numbering.{NetSite, bound, count_if, count_input, count_output, count_equation, count_item, count_storages, item_wires, last_nets, port_place, port_wires, storage_numbers, wires_from}
+use Rattle.net_model.specs.Numbering.{SiteModel, bound, count_if, count_input, count_output, count_equation, count_item, count_storages, item_wires, last_nets, port_place, port_wires, storage_numbers, wires_from}
 use Rattle.net_model.specs.Elaborated.{codes_from, count_codes, input_nets, inputs_nets, item_codes, item_nets, item_storages, nets_from, nets_if, output_wire, output_wires, plain_net, storages_from}
 use Rattle.net_elab.proofs.Standing.{Stands, stands_left, stands_right, has_at, length_if, length_input, length_output, length_item, length_stored, length_coded}
 
@@ -20,26 +20,26 @@ plain_at netlist start n pre at width g e k = has_at netlist n (plain_net at wid
 -- ---- items
 
 -- what an item gives stands in the netlist
-pub record Located (netlist : Netlist) (text : List Entry) (e : Entry) (start storage number : ℕ) : Type 0 where
+pub record Located (netlist : Netlist) (text : List UnitModel) (e : UnitModel) (start storage number : ℕ) : Type 0 where
   pub nets_there : Stands netlist.nets start (item_nets text start storage number e)
   pub storages_there : Stands netlist.storages storage (item_storages text start e)
   pub codes_there : Stands netlist.codes number (item_codes text e)
 
 -- what all of these items give
-pub record AllLocated (netlist : Netlist) (text entries : List Entry) (start storage number : ℕ) : Type 0 where
+pub record AllLocated (netlist : Netlist) (text entries : List UnitModel) (start storage number : ℕ) : Type 0 where
   pub nets_there : Stands netlist.nets start (nets_from text start storage number entries)
   pub storages_there : Stands netlist.storages storage (storages_from text start entries)
   pub codes_there : Stands netlist.codes number (codes_from text entries)
 
-module _ (netlist : Netlist) (text : List Entry) where
-  pub first_located : (e : Entry) (entries : List Entry) (start storage number : ℕ) → AllLocated netlist text (e ∷ entries) start storage number → Located netlist text e start storage number
+module _ (netlist : Netlist) (text : List UnitModel) where
+  pub first_located : (e : UnitModel) (entries : List UnitModel) (start storage number : ℕ) → AllLocated netlist text (e ∷ entries) start storage number → Located netlist text e start storage number
   first_located e entries start storage number a = record {
     nets_there = stands_left netlist.nets start (item_nets text start storage number e) _ a.nets_there;
     storages_there = stands_left netlist.storages storage (item_storages text start e) _ a.storages_there;
     codes_there = stands_left netlist.codes number (item_codes text e) _ a.codes_there;
   }
 
-  pub others_located : (e : Entry) (entries : List Entry) (start storage number : ℕ) → AllLocated netlist text (e ∷ entries) start storage number
+  pub others_located : (e : UnitModel) (entries : List UnitModel) (start storage number : ℕ) → AllLocated netlist text (e ∷ entries) start storage number
       → AllLocated netlist text entries (start + count_item text e) (storage + count_storages e) (number + count_codes e)
   others_located e entries start storage number a = record {
     nets_there = stands_right netlist.nets start _ (item_nets text start storage number e) _ (ap (λ (n : ℕ). start + n) (length_item text start storage number e)) a.nets_there;
@@ -48,7 +48,7 @@ module _ (netlist : Netlist) (text : List Entry) where
   }
 
   -- an item, its place in the netlist and its numbers
-  pub record FoundItem (entries : List Entry) (start storage : ℕ) (p : ℕ) (e : Entry) : Type 0 where
+  pub record FoundItem (entries : List UnitModel) (start storage : ℕ) (p : ℕ) (e : UnitModel) : Type 0 where
     pub net_at : ℕ
     pub storage_at : ℕ
     pub code_at : ℕ
@@ -57,11 +57,11 @@ module _ (netlist : Netlist) (text : List Entry) where
     pub storage_is : slice_index (storage_numbers storage entries) p ≡ storage_at
     pub wires_are : slice_get (wires_from text start entries) p ≡ Some (item_wires text net_at e)
 
-  pub locate : (entries : List Entry) (start storage number p : ℕ) (e : Entry) → slice_get entries p ≡ Some e → AllLocated netlist text entries start storage number → FoundItem entries start storage p e
+  pub locate : (entries : List UnitModel) (start storage number p : ℕ) (e : UnitModel) → slice_get entries p ≡ Some e → AllLocated netlist text entries start storage number → FoundItem entries start storage p e
   locate [] start storage number p e h a = absurd (cc h)
   locate (x ∷ entries) start storage number zero e h a =
       let s : x ≡ e = cc in
-      subst (λ (y : Entry). FoundItem (x ∷ entries) start storage zero y) s (record {
+      subst (λ (y : UnitModel). FoundItem (x ∷ entries) start storage zero y) s (record {
         net_at = start;
         storage_at = storage;
         code_at = number;
@@ -118,8 +118,8 @@ stands_else all start b xs ys e h = subst (λ (c : Bool). Stands all start (if c
 pub stands_then : {A : Type 0} (all : List A) (start : ℕ) (b : Bool) (xs ys : List A) → b ≡ true → Stands all start (if b then xs else ys) → Stands all start xs
 stands_then all start b xs ys e h = subst (λ (c : Bool). Stands all start (if c then xs else ys)) e h
 
-module _ (netlist : Netlist) (site : NetSite) (at : ℕ) where
-  input_at : (start wire : ℕ) (links : List (Ident × Phrase)) (q : Port) → q.output ≡ false → Stands netlist.nets start (input_nets site at start links q)
+module _ (netlist : Netlist) (site : SiteModel) (at : ℕ) where
+  input_at : (start wire : ℕ) (links : List (Ident × NetExprModel)) (q : Port) → q.output ≡ false → Stands netlist.nets start (input_nets site at start links q)
       → HasWidth netlist (if q.output then wire else start + count_input links q - 1) q.width
   input_at start wire links q e k =
       let own = stands_else netlist.nets start q.output [] _ e k in
@@ -129,7 +129,7 @@ module _ (netlist : Netlist) (site : NetSite) (at : ℕ) where
       (omega (arith, length_if site at start (bound links q.name.name), count_is)) own)
 
   -- the wire of an input
-  pub wire_in : (start wire : ℕ) (links : List (Ident × Phrase)) (ports : List Port) (name : List ℕ) (p : Port) → port_named false ports name ≡ Some p
+  pub wire_in : (start wire : ℕ) (links : List (Ident × NetExprModel)) (ports : List Port) (name : List ℕ) (p : Port) → port_named false ports name ≡ Some p
       → Stands netlist.nets start (inputs_nets site at start links ports) → HasWidth netlist (slice_index (port_wires start wire links ports) (port_place false ports name)) p.width
   wire_in start wire links [] name p h k = absurd (cc h)
   wire_in start wire links (q ∷ ports) name p h k = elim (port_cases false q ports name p h) [
@@ -143,14 +143,14 @@ module _ (netlist : Netlist) (site : NetSite) (at : ℕ) where
         (stands_right netlist.nets start _ (input_nets site at start links q) _ (ap (λ (n : ℕ). start + n) (length_input site at start links q)) k))
   ]
 
-  output_at : (start wire next : ℕ) (links equations : List (Ident × Phrase)) (q : Port) → q.output ≡ true → Stands netlist.nets wire (output_wire site at next equations q)
+  output_at : (start wire next : ℕ) (links equations : List (Ident × NetExprModel)) (q : Port) → q.output ≡ true → Stands netlist.nets wire (output_wire site at next equations q)
       → HasWidth netlist (if q.output then wire else start + count_input links q - 1) q.width
   output_at start wire next links equations q e k =
       subst (λ (b : Bool). HasWidth netlist (if b then wire else start + count_input links q - 1) q.width) (sym e)
       (plain_at netlist wire wire [] at q.width _ (omega arith) (stands_then netlist.nets wire q.output _ [] e k))
 
   -- the wire of an output
-  pub wire_out : (start wire next : ℕ) (links equations : List (Ident × Phrase)) (ports : List Port) (name : List ℕ) (p : Port) → port_named true ports name ≡ Some p
+  pub wire_out : (start wire next : ℕ) (links equations : List (Ident × NetExprModel)) (ports : List Port) (name : List ℕ) (p : Port) → port_named true ports name ≡ Some p
       → Stands netlist.nets wire (output_wires site at next equations ports) → HasWidth netlist (slice_index (port_wires start wire links ports) (port_place true ports name)) p.width
   wire_out start wire next links equations [] name p h k = absurd (cc h)
   wire_out start wire next links equations (q ∷ ports) name p h k = elim (port_cases true q ports name p h) [

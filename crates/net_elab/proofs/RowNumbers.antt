@@ -5,11 +5,11 @@ use Rattle.std.proofs.lemmas.Bool.Decides.{nat_tests}
 use Rattle.std.proofs.lemmas.Bool.{cases_eq, ne_eqb}
 use Rattle.std.proofs.lemmas.Map.Steps.{length-le_from_distinct_below}
 use Rattle.net_model.specs.CheckedRules.{IsWhole, row_numbers}
-use Rattle.net_model.specs.Written.{Rows, no_rows, row, Rest, no_rest, rest}
-use Rattle.net_model.specs.TextNames.{Scope}
+use Rattle.net_model.specs.Written.{CaseRowsModel, no_rows, row, CaseRestModel, no_rest, rest}
+use Rattle.net_model.specs.TextNames.{ScopeModel}
 use Rattle.net_model.specs.TextWidths.{is_below, numbers_fit}
 use Rattle.net_model.specs.DriverRules.{is_covered, is_rest, are_all, are_new, case_numbers as numbers_of}
-use Rattle.net_model.specs.Numbering.{NetSite, count}
+use Rattle.net_model.specs.Numbering.{SiteModel, count}
 use Rattle.net_model.specs.Elaborated.{out_of, row_pairs, rest_out}
 use Rattle.rec_bits.proofs.Booleans.{and_left, and_right, not_true, left_false, right_false}
 use Rattle.net_elab.proofs.Cases.{RowsHave}
@@ -19,7 +19,7 @@ numbers_more : (out : ℕ) (numbers : List ℕ) (pairs : List (ℕ × ℕ)) → 
 numbers_more out [] pairs = refl
 numbers_more out (n ∷ numbers) pairs = ap (λ (ns : List ℕ). n ∷ ns) (numbers_more out numbers pairs)
 
-pub same_numbers : (site : NetSite) (start : ℕ) (rows : Rows) → row_numbers (row_pairs site start rows) ≡ numbers_of rows
+pub same_numbers : (site : SiteModel) (start : ℕ) (rows : CaseRowsModel) → row_numbers (row_pairs site start rows) ≡ numbers_of rows
 same_numbers site start no_rows = refl
 same_numbers site start (row numbers a rows) =
     numbers_more (out_of site start a) numbers (row_pairs site (start + count a) rows) ∙ ap (λ (ns : List ℕ). numbers ++ ns) (same_numbers site (start + count a) rows)
@@ -50,7 +50,7 @@ new_distinct before (n ∷ numbers) h =
     let k = and_right (not (list_any (nat_eq n) before)) (are_new (before ++ n ∷ []) numbers) h in
     (apart_from n (before ++ n ∷ []) numbers (λ m e. any_last m n before e) k, new_distinct (before ++ n ∷ []) numbers k)
 
-pub rows_apart : (site : NetSite) (start : ℕ) (selector : Option ℕ) (rows : Rows) (other : Rest) → IsTrue (is_covered selector rows other) → IsDistinct nat_eq (row_numbers (row_pairs site start rows))
+pub rows_apart : (site : SiteModel) (start : ℕ) (selector : Option ℕ) (rows : CaseRowsModel) (other : CaseRestModel) → IsTrue (is_covered selector rows other) → IsDistinct nat_eq (row_numbers (row_pairs site start rows))
 rows_apart site start selector rows other h =
     subst (λ (ns : List ℕ). IsDistinct nat_eq ns) (sym (same_numbers site start rows)) (new_distinct [] (numbers_of rows) (and_left _ _ h))
 
@@ -98,11 +98,11 @@ below_in key (n ∷ numbers) more f g q h =
     or_cases (nat_eq q n) (member q (numbers ++ more)) q n (2 ^ key) refl h k
     (below_in key numbers more (and_right (is_below n key) (numbers_fit key numbers) f) g q)
 
-rows_below : (s : Scope) (key w : ℕ) (rows : Rows) → RowsHave s key w rows → (q : ℕ) → member q (numbers_of rows) ≡ true → q < 2 ^ key
+rows_below : (s : ScopeModel) (key w : ℕ) (rows : CaseRowsModel) → RowsHave s key w rows → (q : ℕ) → member q (numbers_of rows) ≡ true → q < 2 ^ key
 rows_below s key w no_rows h q e = absurd (cc e)
 rows_below s key w (row numbers a rows) h q e = below_in key numbers (numbers_of rows) h.0 (rows_below s key w rows h.2) q e
 
-pub rows_whole : (site : NetSite) (start later : ℕ) (s : Scope) (key w : ℕ) (rows : Rows) (other : Rest) → RowsHave s key w rows → IsTrue (is_covered (Some key) rows other)
+pub rows_whole : (site : SiteModel) (start later : ℕ) (s : ScopeModel) (key w : ℕ) (rows : CaseRowsModel) (other : CaseRestModel) → RowsHave s key w rows → IsTrue (is_covered (Some key) rows other)
     → IsWhole key (row_pairs site start rows) (rest_out site later other)
 rows_whole site start later s key w rows (rest a) h c = tt
 rows_whole site start later s key w rows no_rest h c = λ k l.

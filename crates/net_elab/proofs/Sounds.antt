@@ -12,12 +12,12 @@ use Rattle.net_model.specs.declared.hardware.Gate.TheVariants as gate
 use Rattle.net_model.specs.Widths.{HasWidth}
 use Rattle.net_model.specs.CheckedRules.{ReadKeeps}
 use Rattle.rec_bits.specs.Operators.{IsWidth}
-use Rattle.net_model.specs.Written.{Entry, code, register, memory, net, bus, module_item, part, Phrase}
+use Rattle.net_model.specs.Written.{UnitModel, code, register, memory, net, bus, module_item, part, NetExprModel}
 use Rattle.net_model.specs.TextNames.{place_named, item_named, port_named, in_module}
-use Rattle.net_model.specs.TextWidths.{MemoryWidths, field_width, input_width, memory_of, part_ports, ports_of, port_width, value_width}
+use Rattle.net_model.specs.TextWidths.{MemoryWidthsModel, field_width, input_width, memory_of, part_ports, ports_of, port_width, value_width}
 use Rattle.net_model.specs.Elaborable.{IsDriven, IsElaborable, ItemKeeps, PortFed, PortKeeps}
 use Rattle.net_model.specs.DriverRules.{covers_binding, drives_once}
-use Rattle.net_model.specs.Numbering.{NetSite, of_text, count, count_inputs, count_outputs, count_item, equations_of, item_net, item_wires, list_or_none, port_place, port_wires, storage_named, wires_named}
+use Rattle.net_model.specs.Numbering.{SiteModel, of_text, count, count_inputs, count_outputs, count_item, equations_of, item_net, item_wires, list_or_none, port_place, port_wires, storage_named, wires_named}
 use Rattle.net_model.specs.Elaborated.{storage_in, codes_from, elaborated_drivers, equations_nets, inputs_nets, inside, nets_from, nets_if, elaborated, netlist_in, out_of, output_wires, part_nets, storages_from}
 use Rattle.net_elab.proofs.Standing.{Stands, stands_left, stands_right, stands_self, length_drivers, length_if, length_inputs, length_nets, length_outputs}
 use Rattle.rec_bits.proofs.Booleans.{and_right}
@@ -32,16 +32,16 @@ all_at P [] i x h e = absurd (cc e)
 all_at P (y ∷ ys) zero x h e = subst P (let s : y ≡ x = cc in s) h.0
 all_at P (y ∷ ys) (suc i) x h e = all_at P ys i x h.1 e
 
-pub record ValueItem (o : Option Entry) (w : ℕ) : Type 0 where
-  pub entry : Entry
+pub record ValueItem (o : Option UnitModel) (w : ℕ) : Type 0 where
+  pub entry : UnitModel
   pub is : o ≡ Some entry
   pub width_is : value_width (Some entry) ≡ Some w
 
-value_item : (o : Option Entry) (w : ℕ) → value_width o ≡ Some w → ValueItem o w
+value_item : (o : Option UnitModel) (w : ℕ) → value_width o ≡ Some w → ValueItem o w
 value_item None w h = absurd (cc h)
 value_item (Some e) w h = record { entry = e; is = refl; width_is = h }
 
-value_range : (text : List Entry) (e : Entry) (w : ℕ) → value_width (Some e) ≡ Some w → ItemKeeps text e → IsWidth w
+value_range : (text : List UnitModel) (e : UnitModel) (w : ℕ) → value_width (Some e) ≡ Some w → ItemKeeps text e → IsWidth w
 value_range text (code name bits size counter) w h k = subst IsWidth (let s : bits ≡ w = cc in s) (width_range bits k.0)
 value_range text (register kind name width input when) w h k = subst IsWidth (let s : width ≡ w = cc in s) (width_range width k.0)
 value_range text (memory space name width size addr_width value addr when) w h k = absurd (cc h)
@@ -52,12 +52,12 @@ value_range text (part name of links) w h k = absurd (cc h)
 
 -- ---- the ports and equations of a module
 
-pub record ModuleParts (o : Option Entry) : Type 0 where
+pub record ModuleParts (o : Option UnitModel) : Type 0 where
   pub ports_keep : AllByRecursion PortKeeps (ports_of o)
   pub outputs_fed : AllByRecursion (PortFed true (in_module (ports_of o)) (equations_of o)) (ports_of o)
   pub equations_cover : IsTrue (list_all (covers_binding (in_module (ports_of o))) (equations_of o))
 
-pub module_parts : (text : List Entry) (o : Option Entry) → ((e : Entry) → o ≡ Some e → ItemKeeps text e) → ((e : Entry) → o ≡ Some e → IsDriven text e) → ModuleParts o
+pub module_parts : (text : List UnitModel) (o : Option UnitModel) → ((e : UnitModel) → o ≡ Some e → ItemKeeps text e) → ((e : UnitModel) → o ≡ Some e → IsDriven text e) → ModuleParts o
 module_parts text None f g = record { ports_keep = tt; outputs_fed = tt; equations_cover = refl }
 module_parts text (Some (module_item name ports equations)) f g =
     let k = f (module_item name ports equations) refl in
@@ -81,7 +81,7 @@ port_is (Some p) w h = record { port = p; is = refl; width_is = (let s : p.width
 
 -- ---- inside a part
 
-pub inside_sound : (netlist : Netlist) (at start : ℕ) (site : NetSite) (links : List (Ident × Phrase)) (ports : List Port) → AllByRecursion PortKeeps ports
+pub inside_sound : (netlist : Netlist) (at start : ℕ) (site : SiteModel) (links : List (Ident × NetExprModel)) (ports : List Port) → AllByRecursion PortKeeps ports
     → Stands netlist.nets start (inputs_nets site at start links ports) → SiteSound netlist (inside start links ports)
 inside_sound netlist at start site links ports keep k = record {
   named_has = λ name field w h. has name field w h;
@@ -105,16 +105,16 @@ inside_sound netlist at start site links ports keep k = record {
 
 -- ---- among the items
 
-abbrev cell_or : Option MemoryWidths → ℕ
+abbrev cell_or : Option MemoryWidthsModel → ℕ
 cell_or None = 0
 cell_or (Some m) = m.cell
 
-abbrev address_or : Option MemoryWidths → ℕ
+abbrev address_or : Option MemoryWidthsModel → ℕ
 address_or None = 0
 address_or (Some m) = m.address
 
 -- an item's own net is its last one and has the width of what its name stands for
-item_out : (netlist : Netlist) (text : List Entry) (e : Entry) (w start storage number : ℕ) → value_width (Some e) ≡ Some w → Located netlist text e start storage number
+item_out : (netlist : Netlist) (text : List UnitModel) (e : UnitModel) (w start storage number : ℕ) → value_width (Some e) ≡ Some w → Located netlist text e start storage number
     → HasWidth netlist (start + count_item text e - 1) w
 item_out netlist text (code name bits size counter) w start storage number h l =
     subst (λ (n : ℕ). HasWidth netlist (start + 1 - 1) n) (let s : bits ≡ w = cc in s)
@@ -142,7 +142,7 @@ pub array_stored : (space : Space) (cells : Cells) → storage_array (storage_in
 array_stored InMemory cells = refl
 array_stored InFile cells = refl
 
-module _ (edition : ℕ) (text : List Entry) (keep : IsElaborable text) where
+module _ (edition : ℕ) (text : List UnitModel) (keep : IsElaborable text) where
   abbrev made : Netlist
   made = netlist_in edition text
 
@@ -153,27 +153,27 @@ module _ (edition : ℕ) (text : List Entry) (keep : IsElaborable text) where
     codes_there = stands_self (codes_from text text);
   }
 
-  pub found : (name : List ℕ) (e : Entry) → item_named text name ≡ Some e → FoundItem (netlist_in edition text) text text 0 0 (place_named text name) e
+  pub found : (name : List ℕ) (e : UnitModel) → item_named text name ≡ Some e → FoundItem (netlist_in edition text) text text 0 0 (place_named text name) e
   found name e h = locate (netlist_in edition text) text text 0 0 0 (place_named text name) e h all_located
 
-  pub item_kept : (name : List ℕ) (e : Entry) → item_named text name ≡ Some e → ItemKeeps text e
+  pub item_kept : (name : List ℕ) (e : UnitModel) → item_named text name ≡ Some e → ItemKeeps text e
   item_kept name e h = all_at (ItemKeeps text) text (place_named text name) e keep.items h
 
-  pub item_driven : (name : List ℕ) (e : Entry) → item_named text name ≡ Some e → IsDriven text e
+  pub item_driven : (name : List ℕ) (e : UnitModel) → item_named text name ≡ Some e → IsDriven text e
   item_driven name e h = all_at (IsDriven text) text (place_named text name) e keep.driven h
 
   pub module_of : (name : List ℕ) → ModuleParts (item_named text name)
   module_of name = module_parts text (item_named text name) (item_kept name) (item_driven name)
 
   -- the inputs and the output wires of a part
-  pub record PartStands (at start : ℕ) (links : List (Ident × Phrase)) (ports : List Port) (equations : List (Ident × Phrase)) : Type 0 where
+  pub record PartStands (at start : ℕ) (links : List (Ident × NetExprModel)) (ports : List Port) (equations : List (Ident × NetExprModel)) : Type 0 where
     pub inputs_there : Stands (netlist_in edition text).nets start (inputs_nets (of_text text) at start links ports)
     pub outputs_there : Stands (netlist_in edition text).nets (start + count_inputs links ports)
         (output_wires (inside start links ports) at (start + count_inputs links ports + count_outputs ports) equations ports)
     pub equations_there : Stands (netlist_in edition text).nets (start + count_inputs links ports + count_outputs ports)
         (equations_nets (inside start links ports) at (start + count_inputs links ports + count_outputs ports) equations ports)
 
-  pub part_stands : (at start : ℕ) (links : List (Ident × Phrase)) (ports : List Port) (equations : List (Ident × Phrase))
+  pub part_stands : (at start : ℕ) (links : List (Ident × NetExprModel)) (ports : List Port) (equations : List (Ident × NetExprModel))
       → Stands (netlist_in edition text).nets start (part_nets text at start links ports equations) → PartStands at start links ports equations
   part_stands at start links ports equations k =
       let xs = inputs_nets (of_text text) at start links ports in
@@ -200,7 +200,7 @@ module _ (edition : ℕ) (text : List Entry) (keep : IsElaborable text) where
       (item_out (netlist_in edition text) text v.entry w f.net_at f.storage_at f.code_at v.width_is f.there)
 
   -- an output of a part
-  field_has : (name : List ℕ) (field : Ident) (w : ℕ) (o : Option Entry) → item_named text name ≡ o → port_width (port_named true (part_ports text o) field.name) ≡ Some w
+  field_has : (name : List ℕ) (field : Ident) (w : ℕ) (o : Option UnitModel) → item_named text name ≡ o → port_width (port_named true (part_ports text o) field.name) ≡ Some w
       → HasWidth (netlist_in edition text) (slice_index (wires_named text name) (port_place true (part_ports text o) field.name)) w
   field_has name field w (Some (part own of links)) e h =
       let f = found name (part own of links) e in
@@ -220,7 +220,7 @@ module _ (edition : ℕ) (text : List Entry) (keep : IsElaborable text) where
   field_has name field w (Some (bus own width drivers)) e h = absurd (cc h)
   field_has name field w (Some (module_item own ports equations)) e h = absurd (cc h)
 
-  field_range : (field : Ident) (w : ℕ) (o : Option Entry) → port_width (port_named true (part_ports text o) field.name) ≡ Some w → IsWidth w
+  field_range : (field : Ident) (w : ℕ) (o : Option UnitModel) → port_width (port_named true (part_ports text o) field.name) ≡ Some w → IsWidth w
   field_range field w (Some (part own of links)) h =
       let p = port_is (port_named true (ports_of (item_named text of.name)) field.name) w h in
       subst IsWidth p.width_is (width_range p.port.width (port_keeps true (ports_of (item_named text of.name)) field.name p.port (module_of of.name).ports_keep p.is))
@@ -240,13 +240,13 @@ module _ (edition : ℕ) (text : List Entry) (keep : IsElaborable text) where
   text_range name None w h = let v = value_item (item_named text name) w h in value_range text v.entry w v.width_is (item_kept name v.entry v.is)
   text_range name (Some field) w h = field_range field w (item_named text name) h
 
-  memory_reads : (name : List ℕ) (m : MemoryWidths) (o : Option Entry) → item_named text name ≡ o → memory_of o ≡ Some m → (addr : ℕ) → HasWidth (netlist_in edition text) addr m.address
+  memory_reads : (name : List ℕ) (m : MemoryWidthsModel) (o : Option UnitModel) → item_named text name ≡ o → memory_of o ≡ Some m → (addr : ℕ) → HasWidth (netlist_in edition text) addr m.address
       → ReadKeeps (netlist_in edition text) m.cell addr (slice_get (netlist_in edition text).storages (storage_named text name))
   memory_reads name m (Some (memory space own width size addr_width value at when)) e h addr k =
       let f = found name (memory space own width size addr_width value at when) e in
       let s = f.there.storages_there.0 in
-      let c : width ≡ m.cell = ap (λ (x : Option MemoryWidths). cell_or x) h in
-      let a : m.address ≡ addr_width = sym (ap (λ (x : Option MemoryWidths). address_or x) h) in
+      let c : width ≡ m.cell = ap (λ (x : Option MemoryWidthsModel). cell_or x) h in
+      let a : m.address ≡ addr_width = sym (ap (λ (x : Option MemoryWidthsModel). address_or x) h) in
       rw (f.storage_is, s, array_stored space _) (c, subst (HasWidth (netlist_in edition text) addr) a k)
   memory_reads name m None e h addr k = absurd (cc h)
   memory_reads name m (Some (code own bits size counter)) e h addr k = absurd (cc h)
@@ -256,9 +256,9 @@ module _ (edition : ℕ) (text : List Entry) (keep : IsElaborable text) where
   memory_reads name m (Some (module_item own ports equations)) e h addr k = absurd (cc h)
   memory_reads name m (Some (part own of links)) e h addr k = absurd (cc h)
 
-  memory_range : (name : List ℕ) (m : MemoryWidths) (o : Option Entry) → item_named text name ≡ o → memory_of o ≡ Some m → IsWidth m.cell
+  memory_range : (name : List ℕ) (m : MemoryWidthsModel) (o : Option UnitModel) → item_named text name ≡ o → memory_of o ≡ Some m → IsWidth m.cell
   memory_range name m (Some (memory space own width size addr_width value at when)) e h =
-      let c : width ≡ m.cell = ap (λ (x : Option MemoryWidths). cell_or x) h in
+      let c : width ≡ m.cell = ap (λ (x : Option MemoryWidthsModel). cell_or x) h in
       subst IsWidth c (width_range width (item_kept name (memory space own width size addr_width value at when) e).0)
   memory_range name m None e h = absurd (cc h)
   memory_range name m (Some (code own bits size counter)) e h = absurd (cc h)

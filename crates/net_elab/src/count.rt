@@ -1,7 +1,7 @@
 //! How many nets there are.
 
 ghost use Rattle.std.specs.Prelude.{◌≡◌, ◌<◌, ◌^◌, map, option_map, option_copied};
-ghost use Rattle.net_model.specs.Written.{binding_of, driver_of, other_of, phrase_of, rest_of, row_of, rows_of};
+ghost use Rattle.net_model.specs.Written.{binding_of, driver_of, other_of, model_of_net_expr, case_rest_of, model_of_case_row, case_rows_of};
 ghost use Rattle.net_model.specs.Numbering.{bound, count, count_drivers, count_equation, count_equations, count_if, count_input, count_inputs, count_output, count_outputs, count_part, count_rest, count_rows};
 
 use net_model::{Ident, NetExpr, Port};
@@ -10,8 +10,8 @@ use rec_bits::Name;
 /// How many nets an expression gives.
 #[cycle(count)]
 pub fn count_nets(e: &NetExpr) -> u32
-    requires { count (phrase_of e.now) < 2 ^ 32 }
-    ensures { result ≡ count (phrase_of e.now) }
+    requires { count (model_of_net_expr e.now) < 2 ^ 32 }
+    ensures { result ≡ count (model_of_net_expr e.now) }
 {
     match e {
         NetExpr::Named { bits, .. } => match bits {
@@ -34,8 +34,8 @@ pub fn count_nets(e: &NetExpr) -> u32
 /// How many nets the rows of a case give.
 #[cycle(count)]
 fn count_rows(rows: &[(Vec<u64>, NetExpr)]) -> u32
-    requires { count_rows (rows_of (map row_of rows.now)) < 2 ^ 32 }
-    ensures { result ≡ count_rows (rows_of (map row_of rows.now)) }
+    requires { count_rows (case_rows_of (map model_of_case_row rows.now)) < 2 ^ 32 }
+    ensures { result ≡ count_rows (case_rows_of (map model_of_case_row rows.now)) }
 {
     let mut total = 0;
     for row in rows {
@@ -47,8 +47,8 @@ fn count_rows(rows: &[(Vec<u64>, NetExpr)]) -> u32
 /// How many nets the rest of a case gives.
 #[cycle(count)]
 fn count_other(other: &Option<Box<NetExpr>>) -> u32
-    requires { count_rest (rest_of (other_of other.now)) < 2 ^ 32 }
-    ensures { result ≡ count_rest (rest_of (other_of other.now)) }
+    requires { count_rest (case_rest_of (other_of other.now)) < 2 ^ 32 }
+    ensures { result ≡ count_rest (case_rest_of (other_of other.now)) }
 {
     match other {
         Some(a) => count_nets(a),
@@ -58,8 +58,8 @@ fn count_other(other: &Option<Box<NetExpr>>) -> u32
 
 /// How many nets an expression gives, where there is one.
 pub fn count_if(e: Option<&NetExpr>) -> u32
-    requires { count_if (option_map phrase_of (option_copied e)) < 2 ^ 32 }
-    ensures { result ≡ count_if (option_map phrase_of (option_copied e.entry)) }
+    requires { count_if (option_map model_of_net_expr (option_copied e)) < 2 ^ 32 }
+    ensures { result ≡ count_if (option_map model_of_net_expr (option_copied e.entry)) }
 {
     match e {
         Some(e) => count_nets(e),
@@ -81,7 +81,7 @@ pub fn count_drivers(drivers: &[(NetExpr, NetExpr)]) -> u32
 
 /// The first expression that is bound to a name.
 pub fn bound<'a>(bindings: &'a [(Ident, NetExpr)], name: &Name) -> Option<&'a NetExpr>
-    ensures { option_map phrase_of (option_copied result) ≡ bound (map binding_of bindings.now) name.now }
+    ensures { option_map model_of_net_expr (option_copied result) ≡ bound (map binding_of bindings.now) name.now }
 {
     for binding in bindings {
         if binding.0.name == *name {

@@ -6,7 +6,7 @@ ghost use Rattle.net_model.specs.Elaborable.{IsElaborable, PortKeeps};
 ghost use Rattle.net_model.specs.Numbering.{count_item, equations_of};
 ghost use Rattle.net_model.specs.TextNames.{item_named, place_named};
 ghost use Rattle.net_model.specs.TextWidths.{part_ports, ports_of, value_width};
-ghost use Rattle.net_model.specs.Written.{binding_of, entry_of};
+ghost use Rattle.net_model.specs.Written.{binding_of, model_of_unit};
 ghost use Rattle.net_elab.specs.Inner.Found.{ModuleKeeps, cell_width};
 
 use crate::count::{count_drivers, count_if, count_nets, count_part};
@@ -42,7 +42,7 @@ impl<'a> Declared<'a> {
     /// The items of a text.
     pub fn new(units: &'a Units, names: &'a Names<'a>) -> Declared<'a>
         requires names { names.now ≡ units.now.items }
-        requires keeps { IsElaborable (map entry_of units.now.items) }
+        requires keeps { IsElaborable (map model_of_unit units.now.items) }
         ensures { result ≡ units.now.items }
     {
         Declared { units, names }
@@ -51,29 +51,29 @@ impl<'a> Declared<'a> {
     /// The items in their order.
     pub fn units(&self) -> &[Unit]
         ensures items { result.now ≡ self.now }
-        ensures keeps { IsElaborable (map entry_of self.now) }
+        ensures keeps { IsElaborable (map model_of_unit self.now) }
     {
         self.units.items.as_slice()
     }
 
     /// The place of the first item of a name.
     pub fn place(&self, name: &Name) -> usize
-        ensures { result ≡ place_named (map entry_of self.now) name.now }
+        ensures { result ≡ place_named (map model_of_unit self.now) name.now }
     {
         self.names.place(name)
     }
 
     /// The first item of a name.
     fn item(&self, name: &Name) -> Option<&Unit>
-        ensures item { option_map entry_of (option_copied result) ≡ item_named (map entry_of self.now) name.now }
-        ensures keeps { IsElaborable (map entry_of self.now) }
+        ensures item { option_map model_of_unit (option_copied result) ≡ item_named (map model_of_unit self.now) name.now }
+        ensures keeps { IsElaborable (map model_of_unit self.now) }
     {
         self.names.item(name)
     }
 
     /// The width of what a name stands for.
     pub fn value_width(&self, name: &Name) -> Option<u64>
-        ensures width { result ≡ value_width (item_named (map entry_of self.now) name.now) }
+        ensures width { result ≡ value_width (item_named (map model_of_unit self.now) name.now) }
         ensures narrow { (width : ℕ) → result ≡ Some width → width ≤ 64 }
     {
         match self.item(name)? {
@@ -87,7 +87,7 @@ impl<'a> Declared<'a> {
 
     /// The width of the cells of the memory or the file of a name.
     pub fn cell_width(&self, name: &Name) -> Option<u64>
-        ensures width { result ≡ cell_width (item_named (map entry_of self.now) name.now) }
+        ensures width { result ≡ cell_width (item_named (map model_of_unit self.now) name.now) }
         ensures narrow { (width : ℕ) → result ≡ Some width → width ≤ 64 }
     {
         match self.item(name)? {
@@ -98,7 +98,7 @@ impl<'a> Declared<'a> {
 
     /// The ports of the module of a name.
     pub fn ports(&self, name: &Name) -> &[Port]
-        ensures ports { result.now ≡ ports_of (item_named (map entry_of self.now) name.now) }
+        ensures ports { result.now ≡ ports_of (item_named (map model_of_unit self.now) name.now) }
         ensures narrow { AllByRecursion PortKeeps result.now }
     {
         match self.item(name) {
@@ -109,7 +109,7 @@ impl<'a> Declared<'a> {
 
     /// The ports of the module of the part of a name.
     pub fn part_ports(&self, part: &Name) -> &[Port]
-        ensures ports { result.now ≡ part_ports (map entry_of self.now) (item_named (map entry_of self.now) part.now) }
+        ensures ports { result.now ≡ part_ports (map model_of_unit self.now) (item_named (map model_of_unit self.now) part.now) }
         ensures narrow { AllByRecursion PortKeeps result.now }
     {
         match self.item(part) {
@@ -120,8 +120,8 @@ impl<'a> Declared<'a> {
 
     /// The equations of the module of a name.
     pub fn equations(&self, name: &Name) -> &[(Ident, NetExpr)]
-        ensures equations { map binding_of result.now ≡ equations_of (item_named (map entry_of self.now) name.now) }
-        ensures keeps { ModuleKeeps (item_named (map entry_of self.now) name.now) }
+        ensures equations { map binding_of result.now ≡ equations_of (item_named (map model_of_unit self.now) name.now) }
+        ensures keeps { ModuleKeeps (item_named (map model_of_unit self.now) name.now) }
     {
         match self.item(name) {
             Some(Unit::Module { equations, .. }) => equations.as_slice(),
@@ -131,8 +131,8 @@ impl<'a> Declared<'a> {
 
     /// How many nets an item gives.
     pub fn count_item(&self, unit: &Unit) -> u32
-        requires { count_item (map entry_of self.now) (entry_of unit.now) < 2 ^ 32 }
-        ensures { result ≡ count_item (map entry_of self.now) (entry_of unit.now) }
+        requires { count_item (map model_of_unit self.now) (model_of_unit unit.now) < 2 ^ 32 }
+        ensures { result ≡ count_item (map model_of_unit self.now) (model_of_unit unit.now) }
     {
         match unit {
             Unit::Code { .. } => 1,

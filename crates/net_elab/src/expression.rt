@@ -4,17 +4,17 @@ ghost use Rattle.std.specs.Prelude.{◌≡◌, ◌+◌, ◌<◌, ◌^◌, ◌++�
 ghost use Rattle.net_model.specs.declared.hardware.Gate.TheVariants.{Slice};
 ghost use Rattle.net_model.specs.Numbering.{count, count_if, count_rest, count_rows, net_named, scope_at};
 ghost use Rattle.net_model.specs.TextWidths.{named_width, sliced, wide};
-ghost use Rattle.net_model.specs.Written.{case, named, other_of, phrase_of, rest_of, row_of, rows_of};
+ghost use Rattle.net_model.specs.Written.{case, named, other_of, model_of_net_expr, case_rest_of, model_of_case_row, case_rows_of};
 ghost use Rattle.net_elab.specs.Inner.Emissions.{AllWide, Emitted, EmittedIf, EmittedRest, EmittedRows, IsWideIf, IsWideRest, Pushed};
-ghost use Rattle.net_elab.specs.Inner.Sites.{site_of};
+ghost use Rattle.net_elab.specs.Inner.Sites.{model_of_site};
 
-use crate::site::{Site, Spot};
+use crate::site::{NetRef, Site};
 use net_model::{Gate, Ident, Net, NetExpr};
 use rec_bits::{Items, NoMemory, result_width};
 use std::alloc::Global;
 
 /// One more net, of the item whose name has the offset `at`.
-pub fn push_net(nets: &mut Items<Net>, at: u64, width: u8, gate: Gate) -> Result<Spot, NoMemory>
+pub fn push_net(nets: &mut Items<Net>, at: u64, width: u8, gate: Gate) -> Result<NetRef, NoMemory>
     requires { length nets.old < 2 ^ 32 }
     ensures { IfOk result (Pushed (Some width) at gate nets.old nets.new) }
 {
@@ -24,11 +24,17 @@ pub fn push_net(nets: &mut Items<Net>, at: u64, width: u8, gate: Gate) -> Result
         name_at: at,
         gate,
     })?;
-    Ok(Spot { net, width })
+    Ok(NetRef { net, width })
 }
 
 /// The bits of a net from `hi` down to `lo`.
-fn push_slice(nets: &mut Items<Net>, at: u64, of: Spot, hi: u64, lo: u64) -> Result<Spot, NoMemory>
+fn push_slice(
+    nets: &mut Items<Net>,
+    at: u64,
+    of: NetRef,
+    hi: u64,
+    lo: u64,
+) -> Result<NetRef, NoMemory>
     requires fits { IsSome (sliced hi lo (Some of.width)) }
     requires room { length nets.old < 2 ^ 32 }
     ensures { IfOk result (Pushed (sliced hi lo (Some of.width)) at (Slice of.net hi lo) nets.old nets.new) }
@@ -49,10 +55,10 @@ fn emit_name(
     name: &Ident,
     field: &Option<Ident>,
     bits: &Option<(u64, u64)>,
-) -> Result<Spot, NoMemory>
-    requires widths { IsSome (wide (scope_at (site_of site.now)) (named name.now field.now bits.now)) }
+) -> Result<NetRef, NoMemory>
+    requires widths { IsSome (wide (scope_at (model_of_site site.now)) (named name.now field.now bits.now)) }
     requires room { length nets.old + count (named name.now field.now bits.now) < 2 ^ 32 }
-    ensures { IfOk result (Emitted (site_of site.now) at (named name.now field.now bits.now) nets.old nets.new) }
+    ensures { IfOk result (Emitted (model_of_site site.now) at (named name.now field.now bits.now) nets.old nets.new) }
 {
     let Some(spot) = site.net(&name.name, field) else {
         unreachable!()
@@ -71,10 +77,10 @@ pub fn emit(
     nets: &mut Items<Net>,
     at: u64,
     e: &NetExpr,
-) -> Result<Spot, NoMemory>
-    requires widths { IsSome (wide (scope_at (site_of site.now)) (phrase_of e.now)) }
-    requires room { length nets.old + count (phrase_of e.now) < 2 ^ 32 }
-    ensures { IfOk result (Emitted (site_of site.now) at (phrase_of e.now) nets.old nets.new) }
+) -> Result<NetRef, NoMemory>
+    requires widths { IsSome (wide (scope_at (model_of_site site.now)) (model_of_net_expr e.now)) }
+    requires room { length nets.old + count (model_of_net_expr e.now) < 2 ^ 32 }
+    ensures { IfOk result (Emitted (model_of_site site.now) at (model_of_net_expr e.now) nets.old nets.new) }
 {
     match e {
         NetExpr::Named { name, field, bits } => emit_name(site, nets, at, name, field, bits),
@@ -131,14 +137,14 @@ fn emit_case(
     selector: &NetExpr,
     rows: &[(Vec<u64>, NetExpr)],
     other: &Option<Box<NetExpr>>,
-) -> Result<Spot, NoMemory>
-    requires widths { IsSome (wide (scope_at (site_of site.now)) (case (phrase_of selector.now)
-        (rows_of (map row_of rows.now)) (rest_of (other_of other.now)))) }
+) -> Result<NetRef, NoMemory>
+    requires widths { IsSome (wide (scope_at (model_of_site site.now)) (case (model_of_net_expr selector.now)
+        (case_rows_of (map model_of_case_row rows.now)) (case_rest_of (other_of other.now)))) }
     requires room { length nets.old
-        + count (case (phrase_of selector.now) (rows_of (map row_of rows.now)) (rest_of (other_of other.now)))
+        + count (case (model_of_net_expr selector.now) (case_rows_of (map model_of_case_row rows.now)) (case_rest_of (other_of other.now)))
         < 2 ^ 32 }
-    ensures { IfOk result (Emitted (site_of site.now) at
-        (case (phrase_of selector.now) (rows_of (map row_of rows.now)) (rest_of (other_of other.now)))
+    ensures { IfOk result (Emitted (model_of_site site.now) at
+        (case (model_of_net_expr selector.now) (case_rows_of (map model_of_case_row rows.now)) (case_rest_of (other_of other.now)))
         nets.old nets.new) }
 {
     let selector = emit(alloc, site, nets, at, selector)?;
@@ -180,9 +186,9 @@ fn emit_rows(
     at: u64,
     rows: &[(Vec<u64>, NetExpr)],
 ) -> Result<Pairs, NoMemory>
-    requires widths { AllWide (scope_at (site_of site.now)) (rows_of (map row_of rows.now)) }
-    requires room { length nets.old + count_rows (rows_of (map row_of rows.now)) < 2 ^ 32 }
-    ensures { IfOk result (EmittedRows (site_of site.now) at (rows_of (map row_of rows.now)) nets.old nets.new) }
+    requires widths { AllWide (scope_at (model_of_site site.now)) (case_rows_of (map model_of_case_row rows.now)) }
+    requires room { length nets.old + count_rows (case_rows_of (map model_of_case_row rows.now)) < 2 ^ 32 }
+    ensures { IfOk result (EmittedRows (model_of_site site.now) at (case_rows_of (map model_of_case_row rows.now)) nets.old nets.new) }
 {
     let mut pairs = Pairs {
         rows: Items::new(alloc),
@@ -214,10 +220,10 @@ fn emit_rest(
     nets: &mut Items<Net>,
     at: u64,
     other: &Option<Box<NetExpr>>,
-) -> Result<Option<Spot>, NoMemory>
-    requires widths { IsWideRest (scope_at (site_of site.now)) (rest_of (other_of other.now)) }
-    requires room { length nets.old + count_rest (rest_of (other_of other.now)) < 2 ^ 32 }
-    ensures { IfOk result (EmittedRest (site_of site.now) at (rest_of (other_of other.now)) nets.old nets.new) }
+) -> Result<Option<NetRef>, NoMemory>
+    requires widths { IsWideRest (scope_at (model_of_site site.now)) (case_rest_of (other_of other.now)) }
+    requires room { length nets.old + count_rest (case_rest_of (other_of other.now)) < 2 ^ 32 }
+    ensures { IfOk result (EmittedRest (model_of_site site.now) at (case_rest_of (other_of other.now)) nets.old nets.new) }
 {
     match other {
         None => Ok(None),
@@ -233,10 +239,10 @@ pub fn emit_if(
     at: u64,
     e: Option<&NetExpr>,
 ) -> Result<Option<u32>, NoMemory>
-    requires widths { IsWideIf (scope_at (site_of site.now)) (option_map phrase_of (option_copied e)) }
-    requires room { length nets.old + count_if (option_map phrase_of (option_copied e)) < 2 ^ 32 }
-    ensures { IfOk result (EmittedIf (site_of site.now) at
-        (option_map phrase_of (option_copied e.entry)) nets.old nets.new) }
+    requires widths { IsWideIf (scope_at (model_of_site site.now)) (option_map model_of_net_expr (option_copied e)) }
+    requires room { length nets.old + count_if (option_map model_of_net_expr (option_copied e)) < 2 ^ 32 }
+    ensures { IfOk result (EmittedIf (model_of_site site.now) at
+        (option_map model_of_net_expr (option_copied e.entry)) nets.old nets.new) }
 {
     match e {
         None => Ok(None),

@@ -4,9 +4,9 @@ ghost use Rattle.std.specs.Prelude.{◌≡◌, ◌+◌, ◌<◌, ◌^◌, IfOk, 
 ghost use Rattle.net_model.specs.Elaborated.{storage_in};
 ghost use Rattle.net_model.specs.Elaborable.{ItemKeeps};
 ghost use Rattle.net_model.specs.Numbering.{count_drivers, scope_at};
-ghost use Rattle.net_model.specs.Written.{binding_of, bus, code, driver_of, entry_of, memory, net, part, phrase_of, register, when_of};
+ghost use Rattle.net_model.specs.Written.{binding_of, bus, code, driver_of, model_of_unit, memory, net, part, model_of_net_expr, register, when_of};
 ghost use Rattle.net_elab.specs.Inner.Emissions.{AllDriversWide, EmittedDrivers, HasRoom, ItemDone};
-ghost use Rattle.net_elab.specs.Inner.Sites.{site_of};
+ghost use Rattle.net_elab.specs.Inner.Sites.{model_of_site};
 
 use crate::expression::{emit, emit_if, push_net};
 use crate::part::emit_part;
@@ -34,9 +34,9 @@ fn emit_code(
     size: u64,
     counter: &Ident,
 ) -> Result<(), NoMemory>
-    requires keeps { ItemKeeps (map entry_of text.now) (code name.now bits size counter.now) }
-    requires room { HasRoom (map entry_of text.now) (code name.now bits size counter.now) netlist.old }
-    ensures { OnOk result (ItemDone (map entry_of text.now) (code name.now bits size counter.now)
+    requires keeps { ItemKeeps (map model_of_unit text.now) (code name.now bits size counter.now) }
+    requires room { HasRoom (map model_of_unit text.now) (code name.now bits size counter.now) netlist.old }
+    ensures { OnOk result (ItemDone (map model_of_unit text.now) (code name.now bits size counter.now)
         netlist.old netlist.new) }
 {
     let gate = Gate::Word(netlist.codes.len() as u32);
@@ -66,12 +66,12 @@ fn emit_register(
     input: &NetExpr,
     when: &Option<NetExpr>,
 ) -> Result<(), NoMemory>
-    requires keeps { ItemKeeps (map entry_of text.now)
-        (register latch.kind name.now latch.width (phrase_of input.now) (when_of when.now)) }
-    requires room { HasRoom (map entry_of text.now)
-        (register latch.kind name.now latch.width (phrase_of input.now) (when_of when.now)) netlist.old }
-    ensures { OnOk result (ItemDone (map entry_of text.now)
-        (register latch.kind name.now latch.width (phrase_of input.now) (when_of when.now)) netlist.old netlist.new) }
+    requires keeps { ItemKeeps (map model_of_unit text.now)
+        (register latch.kind name.now latch.width (model_of_net_expr input.now) (when_of when.now)) }
+    requires room { HasRoom (map model_of_unit text.now)
+        (register latch.kind name.now latch.width (model_of_net_expr input.now) (when_of when.now)) netlist.old }
+    ensures { OnOk result (ItemDone (map model_of_unit text.now)
+        (register latch.kind name.now latch.width (model_of_net_expr input.now) (when_of when.now)) netlist.old netlist.new) }
 {
     let site = Site::Top(text);
     let input = emit(alloc, &site, &mut netlist.nets, name.at, input)?;
@@ -89,7 +89,7 @@ fn emit_register(
 /// Whether it is a memory or a file, how wide its cells are, how many there are, and how wide its
 /// addresses.
 #[derive(Clone, Copy)]
-struct Shape {
+struct MemoryMeasures {
     space: Space,
     width: u64,
     size: u64,
@@ -120,18 +120,18 @@ fn emit_memory(
     text: &Text,
     netlist: &mut Netlist,
     name: &Ident,
-    shape: Shape,
+    shape: MemoryMeasures,
     write: &Write,
 ) -> Result<(), NoMemory>
-    requires keeps { ItemKeeps (map entry_of text.now) (memory shape.space name.now shape.width shape.size
-        shape.addr_width (phrase_of write.now.value.now) (phrase_of write.now.addr.now)
+    requires keeps { ItemKeeps (map model_of_unit text.now) (memory shape.space name.now shape.width shape.size
+        shape.addr_width (model_of_net_expr write.now.value.now) (model_of_net_expr write.now.addr.now)
         (when_of write.now.when.now)) }
-    requires room { HasRoom (map entry_of text.now)
-        (memory shape.space name.now shape.width shape.size shape.addr_width (phrase_of write.now.value.now)
-        (phrase_of write.now.addr.now) (when_of write.now.when.now)) netlist.old }
-    ensures { OnOk result (ItemDone (map entry_of text.now)
-        (memory shape.space name.now shape.width shape.size shape.addr_width (phrase_of write.now.value.now)
-        (phrase_of write.now.addr.now) (when_of write.now.when.now)) netlist.old netlist.new) }
+    requires room { HasRoom (map model_of_unit text.now)
+        (memory shape.space name.now shape.width shape.size shape.addr_width (model_of_net_expr write.now.value.now)
+        (model_of_net_expr write.now.addr.now) (when_of write.now.when.now)) netlist.old }
+    ensures { OnOk result (ItemDone (map model_of_unit text.now)
+        (memory shape.space name.now shape.width shape.size shape.addr_width (model_of_net_expr write.now.value.now)
+        (model_of_net_expr write.now.addr.now) (when_of write.now.when.now)) netlist.old netlist.new) }
 {
     let site = Site::Top(text);
     let nets = &mut netlist.nets;
@@ -160,10 +160,10 @@ fn emit_net(
     width: u64,
     value: &NetExpr,
 ) -> Result<(), NoMemory>
-    requires keeps { ItemKeeps (map entry_of text.now) (net name.now width (phrase_of value.now)) }
-    requires room { HasRoom (map entry_of text.now) (net name.now width (phrase_of value.now)) netlist.old }
-    ensures { OnOk result (ItemDone (map entry_of text.now)
-        (net name.now width (phrase_of value.now)) netlist.old netlist.new) }
+    requires keeps { ItemKeeps (map model_of_unit text.now) (net name.now width (model_of_net_expr value.now)) }
+    requires room { HasRoom (map model_of_unit text.now) (net name.now width (model_of_net_expr value.now)) netlist.old }
+    ensures { OnOk result (ItemDone (map model_of_unit text.now)
+        (net name.now width (model_of_net_expr value.now)) netlist.old netlist.new) }
 {
     let nets = &mut netlist.nets;
     let value = emit(alloc, &Site::Top(text), nets, name.at, value)?;
@@ -179,9 +179,9 @@ fn emit_drivers(
     at: u64,
     drivers: &[(NetExpr, NetExpr)],
 ) -> Result<Items<(u32, u32)>, NoMemory>
-    requires widths { AllDriversWide (scope_at (site_of site.now)) (map driver_of drivers.now) }
+    requires widths { AllDriversWide (scope_at (model_of_site site.now)) (map driver_of drivers.now) }
     requires room { length nets.old + count_drivers (map driver_of drivers.now) < 2 ^ 32 }
-    ensures { IfOk result (EmittedDrivers (site_of site.now) at (map driver_of drivers.now) nets.old nets.new) }
+    ensures { IfOk result (EmittedDrivers (model_of_site site.now) at (map driver_of drivers.now) nets.old nets.new) }
 {
     let mut pairs = Items::new(alloc);
     for driver in drivers {
@@ -201,9 +201,9 @@ fn emit_bus(
     width: u64,
     drivers: &[(NetExpr, NetExpr)],
 ) -> Result<(), NoMemory>
-    requires keeps { ItemKeeps (map entry_of text.now) (bus name.now width (map driver_of drivers.now)) }
-    requires room { HasRoom (map entry_of text.now) (bus name.now width (map driver_of drivers.now)) netlist.old }
-    ensures { OnOk result (ItemDone (map entry_of text.now)
+    requires keeps { ItemKeeps (map model_of_unit text.now) (bus name.now width (map driver_of drivers.now)) }
+    requires room { HasRoom (map model_of_unit text.now) (bus name.now width (map driver_of drivers.now)) netlist.old }
+    ensures { OnOk result (ItemDone (map model_of_unit text.now)
         (bus name.now width (map driver_of drivers.now)) netlist.old netlist.new) }
 {
     let site = Site::Top(text);
@@ -221,9 +221,9 @@ fn emit_instance(
     of: &Ident,
     links: &[(Ident, NetExpr)],
 ) -> Result<(), NoMemory>
-    requires keeps { ItemKeeps (map entry_of text.now) (part name.now of.now (map binding_of links.now)) }
-    requires room { HasRoom (map entry_of text.now) (part name.now of.now (map binding_of links.now)) netlist.old }
-    ensures { OnOk result (ItemDone (map entry_of text.now)
+    requires keeps { ItemKeeps (map model_of_unit text.now) (part name.now of.now (map binding_of links.now)) }
+    requires room { HasRoom (map model_of_unit text.now) (part name.now of.now (map binding_of links.now)) netlist.old }
+    ensures { OnOk result (ItemDone (map model_of_unit text.now)
         (part name.now of.now (map binding_of links.now)) netlist.old netlist.new) }
 {
     let ports = text.declared().ports(&of.name);
@@ -239,9 +239,9 @@ pub fn emit_item(
     netlist: &mut Netlist,
     unit: &Unit,
 ) -> Result<(), NoMemory>
-    requires keeps { ItemKeeps (map entry_of text.now) (entry_of unit.now) }
-    requires room { HasRoom (map entry_of text.now) (entry_of unit.now) netlist.old }
-    ensures { OnOk result (ItemDone (map entry_of text.now) (entry_of unit.now) netlist.old netlist.new) }
+    requires keeps { ItemKeeps (map model_of_unit text.now) (model_of_unit unit.now) }
+    requires room { HasRoom (map model_of_unit text.now) (model_of_unit unit.now) netlist.old }
+    ensures { OnOk result (ItemDone (map model_of_unit text.now) (model_of_unit unit.now) netlist.old netlist.new) }
 {
     match unit {
         Unit::Code {
@@ -273,7 +273,7 @@ pub fn emit_item(
             addr,
             when,
         } => {
-            let shape = Shape {
+            let shape = MemoryMeasures {
                 space: *space,
                 width: *width,
                 size: *size,

@@ -3,7 +3,7 @@
 ghost use Rattle.std.specs.Prelude.{◌≡◌, ◌<◌, ◌^◌, IfOk, length, map, option_to_list};
 ghost use Rattle.net_model.specs.Editions.{is_banked, is_moded};
 ghost use Rattle.net_model.specs.Elaborated.{files_from, lone_bank, lone_mode, modes_from, own_files, own_modes, special_in};
-ghost use Rattle.net_model.specs.Written.{entry_of};
+ghost use Rattle.net_model.specs.Written.{model_of_unit};
 
 use crate::numbers::count_storages;
 use net_model::{RegisterKind, Space, Unit, is_banked};
@@ -18,7 +18,7 @@ const MODE_BITS: u64 = 2;
 
 /// The storage and the width of an item that is a mode, where the item's storage has this number.
 fn own_mode(storage: u32, unit: &Unit) -> Option<(u32, u64)>
-    ensures { option_to_list result ≡ own_modes storage (entry_of unit.now) }
+    ensures { option_to_list result ≡ own_modes storage (model_of_unit unit.now) }
 {
     match unit {
         Unit::Register {
@@ -33,7 +33,7 @@ fn own_mode(storage: u32, unit: &Unit) -> Option<(u32, u64)>
 /// The storages and the widths of all modes.
 fn modes(alloc: Global, units: &[Unit]) -> Result<Items<(u32, u64)>, NoMemory>
     requires { length units.now < 2 ^ 32 }
-    ensures { IfOk result (λ modes. modes ≡ modes_from 0 (map entry_of units.now)) }
+    ensures { IfOk result (λ modes. modes ≡ modes_from 0 (map model_of_unit units.now)) }
 {
     let mut modes = Items::new(alloc);
     let mut storage = 0u32;
@@ -58,7 +58,7 @@ fn lone_mode(modes: &[(u32, u64)]) -> Option<u32>
 
 /// The storage of an item that is a file, where the item's storage has this number.
 fn own_file(storage: u32, unit: &Unit) -> Option<u32>
-    ensures { option_to_list result ≡ own_files storage (entry_of unit.now) }
+    ensures { option_to_list result ≡ own_files storage (model_of_unit unit.now) }
 {
     match unit {
         Unit::Memory {
@@ -72,7 +72,7 @@ fn own_file(storage: u32, unit: &Unit) -> Option<u32>
 /// The storages of all files, which are banks where the edition has one.
 fn files(alloc: Global, units: &[Unit]) -> Result<Items<u32>, NoMemory>
     requires { length units.now < 2 ^ 32 }
-    ensures { IfOk result (λ files. files ≡ files_from 0 (map entry_of units.now)) }
+    ensures { IfOk result (λ files. files ≡ files_from 0 (map model_of_unit units.now)) }
 {
     let mut files = Items::new(alloc);
     let mut storage = 0u32;
@@ -99,7 +99,7 @@ fn lone_bank(files: &[u32]) -> Option<u32>
 /// one a bank.
 pub fn special_in(alloc: Global, edition: u8, units: &[Unit]) -> Result<Option<u32>, NoMemory>
     requires { length units.now < 2 ^ 32 }
-    ensures { IfOk result (λ special. special ≡ special_in edition (map entry_of units.now)) }
+    ensures { IfOk result (λ special. special ≡ special_in edition (map model_of_unit units.now)) }
 {
     if edition == MODED {
         let modes = modes(alloc, units)?;

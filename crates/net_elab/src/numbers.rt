@@ -2,7 +2,7 @@
 
 ghost use Rattle.std.specs.Prelude.{◌≡◌, ◌+◌, ◌<◌, ◌^◌, ◌++◌, ◌∷◌, [], IfOk, OnOk, if◌then◌else◌, length, map, slice_get, slice_index};
 ghost use Rattle.net_model.specs.Numbering.{count_input, count_inputs, count_item, count_output, count_outputs, count_storages, item_wires, last_nets, list_or_none, port_wires, storage_numbers, wires_from};
-ghost use Rattle.net_model.specs.Written.{binding_of, entry_of};
+ghost use Rattle.net_model.specs.Written.{binding_of, model_of_unit};
 ghost use Rattle.net_elab.specs.Inner.Found.{IsNumbered};
 
 use crate::count::{count_input, count_inputs, count_output};
@@ -67,8 +67,8 @@ fn item_wires(
     start: u32,
     unit: &Unit,
 ) -> Result<Items<u32>, NoMemory>
-    requires { start + count_item (map entry_of declared.now) (entry_of unit.now) < 2 ^ 32 }
-    ensures { IfOk result (λ wires. wires ≡ item_wires (map entry_of declared.now) start (entry_of unit.now)) }
+    requires { start + count_item (map model_of_unit declared.now) (model_of_unit unit.now) < 2 ^ 32 }
+    ensures { IfOk result (λ wires. wires ≡ item_wires (map model_of_unit declared.now) start (model_of_unit unit.now)) }
 {
     match unit {
         Unit::Part { module, links, .. } => {
@@ -83,7 +83,7 @@ fn item_wires(
 
 /// How many storages an item gives.
 pub fn count_storages(unit: &Unit) -> u32
-    ensures { result ≡ count_storages (entry_of unit.now) }
+    ensures { result ≡ count_storages (model_of_unit unit.now) }
 {
     match unit {
         Unit::Register { .. } | Unit::Memory { .. } => 1,
@@ -127,7 +127,7 @@ impl Numbers {
 
 /// The numbers of a text.
 pub fn numbered(alloc: Global, declared: &Declared) -> Result<Numbers, NoMemory>
-    ensures { IfOk result (λ made. IsNumbered (map entry_of declared.now) made.nets made.storages made.wires) }
+    ensures { IfOk result (λ made. IsNumbered (map model_of_unit declared.now) made.nets made.storages made.wires) }
 {
     let mut made = Numbers::new(alloc);
     let mut start = 0u32;

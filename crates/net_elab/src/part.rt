@@ -7,9 +7,9 @@ ghost use Rattle.net_model.specs.Elaborated.{bound_out, equation_nets, equations
 ghost use Rattle.net_model.specs.Numbering.{bound, count, count_equation, count_equations, count_if, count_input, count_inputs, count_output, count_outputs, count_part, scope_at};
 ghost use Rattle.net_model.specs.TextNames.{in_module, in_text};
 ghost use Rattle.net_model.specs.TextWidths.{wide};
-ghost use Rattle.net_model.specs.Written.{binding_of, entry_of, phrase_of};
+ghost use Rattle.net_model.specs.Written.{binding_of, model_of_unit, model_of_net_expr};
 ghost use Rattle.net_elab.specs.Inner.Emissions.{Grown, IsWideIf};
-ghost use Rattle.net_elab.specs.Inner.Sites.{site_of};
+ghost use Rattle.net_elab.specs.Inner.Sites.{model_of_site};
 
 use crate::count::{bound, count_equation, count_inputs, count_nets, count_outputs};
 use crate::expression::{emit_if, push_net};
@@ -29,10 +29,10 @@ fn emit_input(
     port: &Port,
 ) -> Result<(), NoMemory>
     requires narrow { PortKeeps port.now }
-    requires fed { PortFed false (scope_at (site_of site.now)) (map binding_of links.now) port.now }
+    requires fed { PortFed false (scope_at (model_of_site site.now)) (map binding_of links.now) port.now }
     requires room { length nets.old + count_input (map binding_of links.now) port.now < 2 ^ 32 }
     ensures { OnOk result (Grown
-        (input_nets (site_of site.now) at (length nets.old) (map binding_of links.now) port.now)
+        (input_nets (model_of_site site.now) at (length nets.old) (map binding_of links.now) port.now)
         (count_input (map binding_of links.now) port.now) nets.old nets.new) }
 {
     if port.output {
@@ -54,10 +54,10 @@ fn emit_inputs(
     ports: &[Port],
 ) -> Result<(), NoMemory>
     requires narrow { AllByRecursion PortKeeps ports.now }
-    requires fed { AllByRecursion (PortFed false (scope_at (site_of site.now)) (map binding_of links.now)) ports.now }
+    requires fed { AllByRecursion (PortFed false (scope_at (model_of_site site.now)) (map binding_of links.now)) ports.now }
     requires room { length nets.old + count_inputs (map binding_of links.now) ports.now < 2 ^ 32 }
     ensures { OnOk result (Grown
-        (inputs_nets (site_of site.now) at (length nets.old) (map binding_of links.now) ports.now)
+        (inputs_nets (model_of_site site.now) at (length nets.old) (map binding_of links.now) ports.now)
         (count_inputs (map binding_of links.now) ports.now) nets.old nets.new) }
 {
     for port in ports {
@@ -68,9 +68,9 @@ fn emit_inputs(
 
 /// The net that will have an expression's value, where the expression's own nets begin at a number.
 fn out_of(site: &Site, start: u32, e: &NetExpr) -> u32
-    requires widths { IsSome (wide (scope_at (site_of site.now)) (phrase_of e.now)) }
-    requires room { start + count (phrase_of e.now) < 2 ^ 32 }
-    ensures { result ≡ out_of (site_of site.now) start (phrase_of e.now) }
+    requires widths { IsSome (wide (scope_at (model_of_site site.now)) (model_of_net_expr e.now)) }
+    requires room { start + count (model_of_net_expr e.now) < 2 ^ 32 }
+    ensures { result ≡ out_of (model_of_site site.now) start (model_of_net_expr e.now) }
 {
     match e {
         NetExpr::Named {
@@ -98,9 +98,9 @@ fn out_of(site: &Site, start: u32, e: &NetExpr) -> u32
 
 /// The net that will have the value of a port's expression, and 0 where there is none.
 fn bound_out(site: &Site, start: u32, e: Option<&NetExpr>) -> u32
-    requires widths { IsWideIf (scope_at (site_of site.now)) (option_map phrase_of (option_copied e)) }
-    requires room { start + count_if (option_map phrase_of (option_copied e)) < 2 ^ 32 }
-    ensures { result ≡ bound_out (site_of site.now) start (option_map phrase_of (option_copied e.entry)) }
+    requires widths { IsWideIf (scope_at (model_of_site site.now)) (option_map model_of_net_expr (option_copied e)) }
+    requires room { start + count_if (option_map model_of_net_expr (option_copied e)) < 2 ^ 32 }
+    ensures { result ≡ bound_out (model_of_site site.now) start (option_map model_of_net_expr (option_copied e.entry)) }
 {
     match e {
         Some(e) => out_of(site, start, e),
@@ -118,10 +118,10 @@ fn emit_output(
     port: &Port,
 ) -> Result<(), NoMemory>
     requires narrow { PortKeeps port.now }
-    requires fed { PortFed true (scope_at (site_of site.now)) (map binding_of equations.now) port.now }
+    requires fed { PortFed true (scope_at (model_of_site site.now)) (map binding_of equations.now) port.now }
     requires room { length nets.old < 2 ^ 32 }
     requires behind { start + count_equation (map binding_of equations.now) port.now < 2 ^ 32 }
-    ensures { OnOk result (Grown (output_wire (site_of site.now) at start (map binding_of equations.now) port.now)
+    ensures { OnOk result (Grown (output_wire (model_of_site site.now) at start (map binding_of equations.now) port.now)
         (count_output port.now) nets.old nets.new) }
 {
     if port.output {
@@ -142,10 +142,10 @@ fn emit_outputs(
 ) -> Result<(), NoMemory>
     requires narrow { AllByRecursion PortKeeps ports.now }
     requires fed { AllByRecursion
-        (PortFed true (scope_at (site_of site.now)) (map binding_of equations.now)) ports.now }
+        (PortFed true (scope_at (model_of_site site.now)) (map binding_of equations.now)) ports.now }
     requires room { length nets.old + count_outputs ports.now < 2 ^ 32 }
     requires behind { start + count_equations (map binding_of equations.now) ports.now < 2 ^ 32 }
-    ensures { OnOk result (Grown (output_wires (site_of site.now) at start (map binding_of equations.now) ports.now)
+    ensures { OnOk result (Grown (output_wires (model_of_site site.now) at start (map binding_of equations.now) ports.now)
         (count_outputs ports.now) nets.old nets.new) }
 {
     let mut next = start;
@@ -165,10 +165,10 @@ fn emit_equation(
     equations: &[(Ident, NetExpr)],
     port: &Port,
 ) -> Result<(), NoMemory>
-    requires fed { PortFed true (scope_at (site_of site.now)) (map binding_of equations.now) port.now }
+    requires fed { PortFed true (scope_at (model_of_site site.now)) (map binding_of equations.now) port.now }
     requires room { length nets.old + count_equation (map binding_of equations.now) port.now < 2 ^ 32 }
     ensures { OnOk result (Grown
-        (equation_nets (site_of site.now) at (length nets.old) (map binding_of equations.now) port.now)
+        (equation_nets (model_of_site site.now) at (length nets.old) (map binding_of equations.now) port.now)
         (count_equation (map binding_of equations.now) port.now) nets.old nets.new) }
 {
     if port.output {
@@ -187,10 +187,10 @@ fn emit_equations(
     ports: &[Port],
 ) -> Result<(), NoMemory>
     requires fed { AllByRecursion
-        (PortFed true (scope_at (site_of site.now)) (map binding_of equations.now)) ports.now }
+        (PortFed true (scope_at (model_of_site site.now)) (map binding_of equations.now)) ports.now }
     requires room { length nets.old + count_equations (map binding_of equations.now) ports.now < 2 ^ 32 }
     ensures { OnOk result (Grown
-        (equations_nets (site_of site.now) at (length nets.old) (map binding_of equations.now) ports.now)
+        (equations_nets (model_of_site site.now) at (length nets.old) (map binding_of equations.now) ports.now)
         (count_equations (map binding_of equations.now) ports.now) nets.old nets.new) }
 {
     for port in ports {
@@ -211,11 +211,11 @@ pub fn emit_part(
 ) -> Result<(), NoMemory>
     requires narrow { AllByRecursion PortKeeps ports.now }
     requires links { AllByRecursion
-        (PortFed false (in_text (map entry_of text.now)) (map binding_of links.now)) ports.now }
+        (PortFed false (in_text (map model_of_unit text.now)) (map binding_of links.now)) ports.now }
     requires equations { AllByRecursion (PortFed true (in_module ports.now) (map binding_of equations.now)) ports.now }
     requires room { length nets.old + count_part (map binding_of links.now) ports.now (map binding_of equations.now)
         < 2 ^ 32 }
-    ensures { OnOk result (Grown (part_nets (map entry_of text.now) at (length nets.old)
+    ensures { OnOk result (Grown (part_nets (map model_of_unit text.now) at (length nets.old)
         (map binding_of links.now) ports.now (map binding_of equations.now))
         (count_part (map binding_of links.now) ports.now (map binding_of equations.now)) nets.old nets.new) }
 {

@@ -6,9 +6,9 @@ ghost use Rattle.net_model.specs.Elaborable.{PortKeeps};
 ghost use Rattle.net_model.specs.Numbering.{item_net, memory_at, net_named, port_place, scope_at, storage_named};
 ghost use Rattle.net_model.specs.TextNames.{item_named, port_named};
 ghost use Rattle.net_model.specs.TextWidths.{field_width, input_width, memory_widths, named_width, part_ports, port_width, value_width};
-ghost use Rattle.net_model.specs.Written.{entry_of};
+ghost use Rattle.net_model.specs.Written.{model_of_unit};
 ghost use Rattle.net_elab.specs.Inner.Found.{IsCells, IsSpot, cell_width_of, cell_width, field_of};
-ghost use Rattle.net_elab.specs.Inner.Sites.{site_of};
+ghost use Rattle.net_elab.specs.Inner.Sites.{model_of_site};
 
 use crate::declared::Declared;
 use crate::numbers::{Numbers, list_at, number_at, numbered};
@@ -19,7 +19,7 @@ use std::marker::Model;
 
 /// A net by its number, and its width.
 #[derive(Clone, Copy)]
-pub struct Spot {
+pub struct NetRef {
     pub net: u32,
     pub width: u8,
 }
@@ -43,7 +43,7 @@ impl<'a> Model for Text<'a> {
     ghost use Rattle.std.specs.Coded.{codes};
     ghost use Rattle.net_model.specs.contracts.units.NetExpr as e;
     ghost use Rattle.net_model.specs.declared.units.Unit.{Unit as Item};
-    ghost use Rattle.net_model.specs.Written.{entry_of};
+    ghost use Rattle.net_model.specs.Written.{model_of_unit};
     ghost use Rattle.net_elab.specs.Inner.Found.{IsNumbered};
 
     ghost Value = { List Item };
@@ -52,7 +52,7 @@ impl<'a> Model for Text<'a> {
 
     ghost view = { λ text. text.declared };
 
-    ghost invariant = { λ text. IsNumbered (map entry_of text.declared) text.numbers.nets
+    ghost invariant = { λ text. IsNumbered (map model_of_unit text.declared) text.numbers.nets
         text.numbers.storages text.numbers.wires };
 }
 
@@ -74,7 +74,7 @@ impl<'a> Text<'a> {
 
     /// The storage of the first item of a name.
     pub fn storage(&self, name: &Name) -> u32
-        ensures { result ≡ storage_named (map entry_of self.now) name.now }
+        ensures { result ≡ storage_named (map model_of_unit self.now) name.now }
     {
         number_at(self.numbers.storages.as_slice(), self.declared.place(name))
     }
@@ -82,9 +82,9 @@ impl<'a> Text<'a> {
     /// The memory or the file of a name.
     fn cells(&self, name: &Name) -> Option<Readable>
         ensures { MatchOption result
-            (cell_width (item_named (map entry_of self.now) name.now) ≡ None)
-            (λ cells. IsCells (cell_width (item_named (map entry_of self.now) name.now))
-            (storage_named (map entry_of self.now) name.now) cells) }
+            (cell_width (item_named (map model_of_unit self.now) name.now) ≡ None)
+            (λ cells. IsCells (cell_width (item_named (map model_of_unit self.now) name.now))
+            (storage_named (map model_of_unit self.now) name.now) cells) }
     {
         let width = self.declared.cell_width(name)?;
         Some(Readable {
@@ -94,26 +94,26 @@ impl<'a> Text<'a> {
     }
 
     /// The output of the item of a name.
-    fn output(&self, name: &Name) -> Option<Spot>
+    fn output(&self, name: &Name) -> Option<NetRef>
         ensures { MatchOption result
-            (value_width (item_named (map entry_of self.now) name.now) ≡ None)
-            (λ spot. IsSpot (value_width (item_named (map entry_of self.now) name.now))
-            (item_net (map entry_of self.now) name.now None) spot) }
+            (value_width (item_named (map model_of_unit self.now) name.now) ≡ None)
+            (λ spot. IsSpot (value_width (item_named (map model_of_unit self.now) name.now))
+            (item_net (map model_of_unit self.now) name.now None) spot) }
     {
         let width = self.declared.value_width(name)?;
         let net = number_at(self.numbers.nets.as_slice(), self.declared.place(name));
-        Some(Spot {
+        Some(NetRef {
             net,
             width: width as u8,
         })
     }
 
     /// The wire of an output of the part of a name.
-    fn port(&self, name: &Name, field: &Ident) -> Option<Spot>
+    fn port(&self, name: &Name, field: &Ident) -> Option<NetRef>
         ensures { MatchOption result
-            (field_width (map entry_of self.now) name.now (field_of field.now) ≡ None)
-            (λ spot. IsSpot (field_width (map entry_of self.now) name.now (field_of field.now))
-            (item_net (map entry_of self.now) name.now (field_of field.now)) spot) }
+            (field_width (map model_of_unit self.now) name.now (field_of field.now) ≡ None)
+            (λ spot. IsSpot (field_width (map model_of_unit self.now) name.now (field_of field.now))
+            (item_net (map model_of_unit self.now) name.now (field_of field.now)) spot) }
     {
         let ports = self.declared.part_ports(name);
         let wires = list_at(self.numbers.wires.as_slice(), self.declared.place(name));
@@ -121,10 +121,10 @@ impl<'a> Text<'a> {
     }
 
     /// What a name stands for among the items.
-    fn net(&self, name: &Name, field: &Option<Ident>) -> Option<Spot>
-        ensures { MatchOption result (field_width (map entry_of self.now) name.now field.now ≡ None)
-            (λ spot. IsSpot (field_width (map entry_of self.now) name.now field.now)
-            (item_net (map entry_of self.now) name.now field.now) spot) }
+    fn net(&self, name: &Name, field: &Option<Ident>) -> Option<NetRef>
+        ensures { MatchOption result (field_width (map model_of_unit self.now) name.now field.now ≡ None)
+            (λ spot. IsSpot (field_width (map model_of_unit self.now) name.now field.now)
+            (item_net (map model_of_unit self.now) name.now field.now) spot) }
     {
         match field {
             None => self.output(name),
@@ -159,14 +159,14 @@ fn port_named<'a>(output: bool, ports: &'a [Port], name: &Name) -> Option<&'a Po
 }
 
 /// The wire of the first port of a direction and a name.
-fn wire_of(output: bool, ports: &[Port], wires: &[u32], name: &Name) -> Option<Spot>
+fn wire_of(output: bool, ports: &[Port], wires: &[u32], name: &Name) -> Option<NetRef>
     requires { AllByRecursion PortKeeps ports.now }
     ensures { MatchOption result (port_width (port_named output ports.now name.now) ≡ None)
         (λ spot. IsSpot (port_width (port_named output ports.now name.now))
         (slice_index wires.now (port_place output ports.now name.now)) spot) }
 {
     let port = port_named(output, ports, name)?;
-    Some(Spot {
+    Some(NetRef {
         net: number_at(wires, port_place(output, ports, name)),
         width: port.width as u8,
     })
@@ -202,7 +202,7 @@ impl<'a> Inside<'a> {
     }
 
     /// The wire of the input of a name.
-    fn input(&self, name: &Name) -> Option<Spot>
+    fn input(&self, name: &Name) -> Option<NetRef>
         ensures { MatchOption result (port_width (port_named false self.now.0 name.now) ≡ None)
             (λ spot. IsSpot (port_width (port_named false self.now.0 name.now))
             (slice_index self.now.1 (port_place false self.now.0 name.now)) spot) }
@@ -220,11 +220,11 @@ pub enum Site<'a> {
 
 impl<'a> Site<'a> {
     /// What a name stands for.
-    pub fn net(&self, name: &Name, field: &Option<Ident>) -> Option<Spot>
+    pub fn net(&self, name: &Name, field: &Option<Ident>) -> Option<NetRef>
         ensures { MatchOption result
-            (named_width (scope_at (site_of self.now)) name.now field.now ≡ None)
-            (λ spot. IsSpot (named_width (scope_at (site_of self.now)) name.now field.now)
-            (net_named (site_of self.now) name.now field.now) spot) }
+            (named_width (scope_at (model_of_site self.now)) name.now field.now ≡ None)
+            (λ spot. IsSpot (named_width (scope_at (model_of_site self.now)) name.now field.now)
+            (net_named (model_of_site self.now) name.now field.now) spot) }
     {
         match (self, field) {
             (Site::Top(text), field) => text.net(name, field),
@@ -235,9 +235,9 @@ impl<'a> Site<'a> {
 
     /// The memory or the file of a name.
     pub fn cells(&self, name: &Name) -> Option<Readable>
-        ensures { MatchOption result (memory_widths (scope_at (site_of self.now)) name.now ≡ None)
-            (λ cells. IsCells (option_map cell_width_of (memory_widths (scope_at (site_of self.now)) name.now))
-            (memory_at (site_of self.now) name.now) cells) }
+        ensures { MatchOption result (memory_widths (scope_at (model_of_site self.now)) name.now ≡ None)
+            (λ cells. IsCells (option_map cell_width_of (memory_widths (scope_at (model_of_site self.now)) name.now))
+            (memory_at (model_of_site self.now) name.now) cells) }
     {
         match self {
             Site::Top(text) => text.cells(name),

@@ -4,7 +4,7 @@ ghost use Rattle.std.specs.Prelude.{◌≡◌, IfOk, map};
 ghost use Rattle.net_model.specs.CheckedRules.{IsWellFormed};
 ghost use Rattle.net_model.specs.Elaborable.{IsElaborable, IsFewIn};
 ghost use Rattle.net_model.specs.Elaborated.{netlist_in, netlist_of};
-ghost use Rattle.net_model.specs.Written.{entry_of, text_of};
+ghost use Rattle.net_model.specs.Written.{model_of_unit, model_of_units};
 
 use crate::declared::Declared;
 use crate::item::emit_item;
@@ -17,8 +17,8 @@ use std::alloc::Global;
 
 /// The nets, storages and codes of the items.
 fn emit_items(alloc: Global, edition: u8, text: &Text) -> Result<Netlist, NoMemory>
-    requires { IsElaborable (map entry_of text.now) }
-    ensures { IfOk result (λ netlist. netlist ≡ netlist_in edition (map entry_of text.now)) }
+    requires { IsElaborable (map model_of_unit text.now) }
+    ensures { IfOk result (λ netlist. netlist ≡ netlist_in edition (map model_of_unit text.now)) }
 {
     let special = special_in(alloc, edition, text.declared().units())?;
     let mut netlist = Netlist {
@@ -44,9 +44,9 @@ fn emit_items(alloc: Global, edition: u8, text: &Text) -> Result<Netlist, NoMemo
 /// and limits. `names` are the items'.
 pub fn elaborate(alloc: Global, units: &Units, names: &Names) -> Result<Netlist, NoMemory>
     requires names { names.now ≡ units.now.items }
-    requires keeps { IsElaborable (map entry_of units.now.items) }
-    requires few { IsFewIn units.now.edition (map entry_of units.now.items) }
-    ensures exact { IfOk result (λ netlist. netlist ≡ netlist_of (text_of units.now)) }
+    requires keeps { IsElaborable (map model_of_unit units.now.items) }
+    requires few { IsFewIn units.now.edition (map model_of_unit units.now.items) }
+    ensures exact { IfOk result (λ netlist. netlist ≡ netlist_of (model_of_units units.now)) }
     ensures formed { IfOk result IsWellFormed }
 {
     let text = Text::new(alloc, Declared::new(units, names))?;

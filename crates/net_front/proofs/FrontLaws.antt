@@ -9,9 +9,9 @@ use Rattle.net_model.specs.declared.hardware.Netlist.{Netlist}
 use Rattle.net_model.specs.CheckedRules.{IsWellFormed, KeepsRules, Ordered}
 use Rattle.net_model.specs.Editions.{is_banked, is_moded}
 use Rattle.net_model.specs.Elaborated.{files_from, lone_bank, lone_mode, modes_from, netlist_of, special_in}
-use Rattle.net_model.specs.ModeRules.{AcceptsModes, AreModesOf, KeepsInOrder, KeepsModes, ModeFaultOf, Moded, RefusesModes}
+use Rattle.net_model.specs.ModeRules.{AcceptsModes, AreModesOfNetlist, KeepsInOrder, KeepsModes, ModeFaultOf, Moded, RefusesModes}
 use Rattle.net_model.specs.NetFaults.{Accepts, FaultOf, Refuses}
-use Rattle.net_model.specs.Written.{Text as NetText, entry_of, text_of}
+use Rattle.net_model.specs.Written.{UnitsModel as NetText, model_of_unit, model_of_units}
 use Rattle.net_model.proofs.ByEdition.{no_special}
 use Rattle.net_model.proofs.FaultLaws.{kept_no_fault, one_fault}
 use Rattle.net_model.proofs.ModeFaults.{alone_base, alone_fault, alone_modes, kept_no_mode_fault, modes_keep, one_mode_fault}
@@ -56,10 +56,10 @@ one_broken_rule bytes fault later a b =
 -- ---- what is read
 
 -- a text has no more items than bytes
-pub few_items : (bytes : List ℕ) (units : Units) → SaysNet bytes (text_of units) → length bytes < 2 ^ 32 → length units.items < 2 ^ 32
+pub few_items : (bytes : List ℕ) (units : Units) → SaysNet bytes (model_of_units units) → length bytes < 2 ^ 32 → length units.items < 2 ^ 32
 few_items bytes units says short =
-    let few = short_text bytes (text_of units) says.text in
-    let same = length-map units.items entry_of in
+    let few = short_text bytes (model_of_units units) says.text in
+    let same = length-map units.items model_of_unit in
     omega arith
 
 pub file_of : (bytes : List ℕ) (entries : NetText) (moded : Moded) → SaysNet bytes entries → IsModedOf entries moded → IsNetFile bytes entries
@@ -184,7 +184,7 @@ moded_of entries netlist moded plain of (same, rules) = record {
   kept = of.kept;
   rest = subst (λ (b : Bool). KeepsIf b (netlist_of entries)) (sym plain) (subst KeepsModes of.exact (modes_keep netlist moded.bases rules));
   netlist = same ∙ of.exact ∙ sym (taken_plain entries plain);
-  rules = subst (λ (n : Netlist). AreModesOf n moded.bases) (sym same) rules;
+  rules = subst (λ (n : Netlist). AreModesOfNetlist n moded.bases) (sym same) rules;
 }
 
 moded_refusal : (entries : NetText) (netlist : Netlist) (cause : CheckFault) → is_banked entries.edition ≡ false → IsElaboratedOf entries netlist → RefusesModes netlist cause → IsRuleRefusal entries (check_refusal cause)
@@ -246,6 +246,6 @@ module _ (netlist : Netlist) (checked : Ordered) (banked : is_banked netlist.edi
     viewed_by (Ok moded) (is, rules) only = record {
       rest = record { order = checked.order; rules = kept_rules };
       view = is ∙ view_is;
-      rules = subst (λ (n : Netlist). AreModesOf n moded.bases) (sym is) rules;
+      rules = subst (λ (n : Netlist). AreModesOfNetlist n moded.bases) (sym is) rules;
     }
     viewed_by (Err cause) refused only = subst (Refuses netlist) (sym (only (subst KeepsModes (sym view_is) (view_keeps netlist checked.order banked kept_rules)))) tt

@@ -7,7 +7,7 @@ use Rattle.net_model.specs.declared.fault.NetFault.TheVariants.{Role as LacksRol
 use Rattle.net_model.specs.declared.fault.Role.{Role}
 use Rattle.net_model.specs.Editions.{is_banked}
 use Rattle.net_model.specs.ModeRules.{Moded}
-use Rattle.net_model.specs.Written.{Text as NetText}
+use Rattle.net_model.specs.Written.{UnitsModel as NetText}
 use Rattle.net_parser.specs.Texts.{IsNoNetText}
 use Rattle.net_front.specs.declared.front.NetRefusal.{NetRefusal}
 use Rattle.net_front.specs.declared.front.NetRefusal.TheVariants.{Text, Fault, Memory}

@@ -1,4 +1,8 @@
--- Which bytes are a netlist's, and why others are refused.
+-- Which bytes are a netlist's, and why others are refused. The bytes are a netlist's where they
+-- say some items and no others, these break none of N1 to N4 and N11, and their netlist keeps all
+-- rules in each of its modes, or as it stands where it has a bank; or else the first rule that is
+-- broken. The netlist that is *taken* for them is their own, and where it has a bank its view
+-- (`taken_of`).
 use Rattle.std.specs.Prelude.{◌≡◌, ◌⊎◌, if◌then◌else◌, Bool, true, false, ℕ, List, Some, None}
 use Rattle.net_model.specs.declared.fault.NetFault.{NetFault}
 use Rattle.net_model.specs.declared.fault.CheckFault.{CheckFault}
@@ -6,11 +10,11 @@ use Rattle.net_model.specs.declared.fault.CheckFault.TheVariants.{Fault as Broke
 use Rattle.net_model.specs.declared.hardware.Netlist.{Netlist}
 use Rattle.net_model.specs.CheckedRules.{IsWellFormed, KeepsRules, Ordered}
 use Rattle.net_model.specs.Editions.{is_banked}
-use Rattle.net_model.specs.ModeRules.{AcceptsModes, AreModesOf, KeepsInOrder, KeepsModes, ModeFaultOf, Moded, RefusesModes}
+use Rattle.net_model.specs.ModeRules.{AcceptsModes, AreModesOfNetlist, KeepsInOrder, KeepsModes, ModeFaultOf, Moded, RefusesModes}
 use Rattle.net_model.specs.NetFaults.{FaultOf, Refuses}
 use Rattle.net_model.specs.Elaborated.{netlist_of}
 use Rattle.net_model.specs.TextRules.{first_fault}
-use Rattle.net_model.specs.Written.{Text as NetText}
+use Rattle.net_model.specs.Written.{UnitsModel as NetText}
 use Rattle.rec_bits.specs.declared.fault.ParseFault.{ParseFault}
 use Rattle.rec_bits.specs.declared.fault.ParseFault.TheVariants.{Text as NoText, Memory as ParseMemory}
 use Rattle.net_parser.specs.Texts.{IsNetText, IsNoNetText}
@@ -74,7 +78,7 @@ pub record IsModedOf (entries : NetText) (moded : Moded) : Type 0 where
   pub kept : first_fault entries.edition entries.items ≡ None
   pub rest : KeepsRest entries
   pub netlist : moded.netlist ≡ taken_of entries
-  pub rules : AreModesOf moded.netlist moded.bases
+  pub rules : AreModesOfNetlist moded.netlist moded.bases
 
 -- this netlist is taken for the items, which have no mode and no bank, and it was checked
 pub record IsCheckedOf (entries : NetText) (checked : Ordered) : Type 0 where
@@ -86,7 +90,7 @@ pub record IsCheckedOf (entries : NetText) (checked : Ordered) : Type 0 where
 pub record IsViewOf (netlist : Netlist) (moded : Moded) : Type 0 where
   pub rest : KeepsInOrder netlist
   pub view : moded.netlist ≡ view_of netlist
-  pub rules : AreModesOf moded.netlist moded.bases
+  pub rules : AreModesOfNetlist moded.netlist moded.bases
 
 -- what a netlist is taken as: as its view where it has a bank, and otherwise as what it is in its
 -- modes

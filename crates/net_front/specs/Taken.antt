@@ -8,7 +8,7 @@ use Rattle.net_model.specs.declared.fault.Role.TheVariants.{File as NoFile, Mode
 use Rattle.net_model.specs.declared.words.ItemWord.{ItemWord}
 use Rattle.net_model.specs.declared.words.ItemWord.TheVariants.{Mode, Bank}
 use Rattle.net_model.specs.Editions.{added_by, is_banked, is_moded}
-use Rattle.net_model.specs.Written.{Text as NetText}
+use Rattle.net_model.specs.Written.{UnitsModel as NetText}
 use Rattle.net_parser.specs.Texts.{IsNoNetText}
 use Rattle.net_front.specs.Fronts.{BreaksFirst, BreaksRule, IsNetFile, SaysNet}
 use Rattle.net_front.specs.declared.front.NetRefusal.{NetRefusal}

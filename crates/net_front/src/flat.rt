@@ -1,7 +1,7 @@
 //! Netlists from items.
 
 ghost use Rattle.std.specs.Prelude.{◌≡◌, ◌^◌, ◌<◌, length, IfOk, IfErr};
-ghost use Rattle.net_model.specs.Written.{text_of};
+ghost use Rattle.net_model.specs.Written.{model_of_units};
 ghost use Rattle.net_front.specs.Fronts.{IsElaboratedOf, IsTextRefusal};
 
 use net_elab::elaborate;
@@ -18,8 +18,8 @@ pub type NetFault2 = CheckFault;
 fn flatten_by(alloc: Global, units: &Units, names: &Names) -> Result<Netlist, NetFault2>
     requires few { length units.now.items < 2 ^ 32 }
     requires names { names.now ≡ units.now.items }
-    ensures found { IfOk result (IsElaboratedOf (text_of units.now)) }
-    ensures refused { IfErr result (IsTextRefusal (text_of units.now)) }
+    ensures found { IfOk result (IsElaboratedOf (model_of_units units.now)) }
+    ensures refused { IfErr result (IsTextRefusal (model_of_units units.now)) }
 {
     if let Some(fault) = first_fault(alloc, units, names)? {
         return Err(NetFault2::Fault(fault));
@@ -34,8 +34,8 @@ fn flatten_by(alloc: Global, units: &Units, names: &Names) -> Result<Netlist, Ne
 /// `Memory` is want of memory.
 pub fn flatten(alloc: Global, units: &Units) -> Result<Netlist, NetFault2>
     requires { length units.now.items < 2 ^ 32 }
-    ensures found { IfOk result (IsElaboratedOf (text_of units.now)) }
-    ensures refused { IfErr result (IsTextRefusal (text_of units.now)) }
+    ensures found { IfOk result (IsElaboratedOf (model_of_units units.now)) }
+    ensures refused { IfErr result (IsTextRefusal (model_of_units units.now)) }
 {
     let names = Names::new(alloc, units)?;
     flatten_by(alloc, units, &names)

@@ -4,7 +4,7 @@ ghost use Rattle.std.specs.Prelude.{◌≡◌, ◌^◌, ◌<◌, true, length, I
 ghost use Rattle.net_model.specs.CheckedRules.{IsWellFormed};
 ghost use Rattle.net_model.specs.Editions.{is_banked};
 ghost use Rattle.net_model.specs.NetFaults.{Refuses};
-ghost use Rattle.net_model.specs.Written.{text_of};
+ghost use Rattle.net_model.specs.Written.{model_of_units};
 ghost use Rattle.net_front.specs.Fronts.{IsModedOf, IsTakenAs, IsViewOf, RefusesIf, SaysNet, IsItemsRefusal, IsRuleRefusal};
 
 use crate::flat::flatten;
@@ -67,7 +67,7 @@ impl From<CheckFault> for NetRefusal {
 // The items that the bytes say.
 pub(crate) fn items(alloc: Global, bytes: &[u8]) -> Result<Units, NetRefusal>
     requires { length bytes.now < 2 ^ 32 }
-    ensures found { IfOk result (λ units. SaysNet bytes.now (text_of units)) }
+    ensures found { IfOk result (λ units. SaysNet bytes.now (model_of_units units)) }
     ensures refused { IfErr result (IsItemsRefusal bytes.now) }
 {
     let units = net_parser::read(alloc, bytes)?;
@@ -101,8 +101,8 @@ fn seen(alloc: Global, netlist: Netlist) -> Result<Modes, CheckFault>
 // keeps the rules in each.
 pub(crate) fn modes(alloc: Global, units: &Units) -> Result<Modes, NetRefusal>
     requires { length units.now.items < 2 ^ 32 }
-    ensures found { IfOk result (IsModedOf (text_of units.now)) }
-    ensures refused { IfErr result (IsRuleRefusal (text_of units.now)) }
+    ensures found { IfOk result (IsModedOf (model_of_units units.now)) }
+    ensures refused { IfErr result (IsRuleRefusal (model_of_units units.now)) }
 {
     let netlist = flatten(alloc, units)?;
     let modes = seen(alloc, netlist)?;

@@ -2,7 +2,7 @@
 
 ghost use Rattle.std.specs.Prelude.{◌≡◌, true, ◌^◌, ◌<◌, ◌≤◌, length, IfOk, IfErr};
 ghost use Rattle.net_model.specs.declared.fault.NetFault.TheVariants.{Role as LacksRole};
-ghost use Rattle.net_model.specs.Written.{text_of};
+ghost use Rattle.net_model.specs.Written.{model_of_units};
 ghost use Rattle.net_front.specs.Fronts.{IsCheckedOf, IsModedOf, IsNetFile, IsRuleRefusal};
 ghost use Rattle.net_front.specs.Taken.{IsBankedRefusal, IsTakenRefusal, added_role, is_behind_roles as behind_roles, newer_of, unbanked_role};
 ghost use Rattle.net_model.specs.Editions.{is_banked};
@@ -85,8 +85,8 @@ fn newer_refusal(role: Role, modes: Result<Modes, NetRefusal>) -> NetRefusal
 fn checked(alloc: Global, units: &Units) -> Result<Checked, NetRefusal>
     requires few { length units.now.items < 2 ^ 32 }
     requires alone { units.now.edition < 3 }
-    ensures found { IfOk result (IsCheckedOf (text_of units.now)) }
-    ensures refused { IfErr result (IsRuleRefusal (text_of units.now)) }
+    ensures found { IfOk result (IsCheckedOf (model_of_units units.now)) }
+    ensures refused { IfErr result (IsRuleRefusal (model_of_units units.now)) }
 {
     let netlist = flatten(alloc, units)?;
     let checked = check(alloc, netlist)?;
@@ -103,9 +103,9 @@ fn checked(alloc: Global, units: &Units) -> Result<Checked, NetRefusal>
 /// the part that its edition adds. `Memory` is want of memory.
 pub fn read_net(alloc: Global, bytes: &[u8], newest: u8) -> Result<(Units, Modes), NetRefusal>
     requires { length bytes.now < 2 ^ 32 }
-    ensures found { IfOk result (λ read. IsNetFile bytes.now (text_of read.0)) }
+    ensures found { IfOk result (λ read. IsNetFile bytes.now (model_of_units read.0)) }
     ensures taken { IfOk result (λ read. read.0.edition ≤ newest) }
-    ensures modes { IfOk result (λ read. IsModedOf (text_of read.0) read.1) }
+    ensures modes { IfOk result (λ read. IsModedOf (model_of_units read.0) read.1) }
     ensures refused { IfErr result (IsTakenRefusal newest bytes.now) }
 {
     let units = items(alloc, bytes)?;
@@ -123,9 +123,9 @@ pub fn read_net(alloc: Global, bytes: &[u8], newest: u8) -> Result<(Units, Modes
 /// where its edition has one, and else with the bank.
 pub fn read_banked(alloc: Global, bytes: &[u8]) -> Result<(Units, Modes), NetRefusal>
     requires { length bytes.now < 2 ^ 32 }
-    ensures found { IfOk result (λ read. IsNetFile bytes.now (text_of read.0)) }
+    ensures found { IfOk result (λ read. IsNetFile bytes.now (model_of_units read.0)) }
     ensures banked { IfOk result (λ read. is_banked read.0.edition ≡ true) }
-    ensures modes { IfOk result (λ read. IsModedOf (text_of read.0) read.1) }
+    ensures modes { IfOk result (λ read. IsModedOf (model_of_units read.0) read.1) }
     ensures refused { IfErr result (IsBankedRefusal bytes.now) }
 {
     let units = items(alloc, bytes)?;
@@ -145,9 +145,9 @@ pub fn read_banked(alloc: Global, bytes: &[u8]) -> Result<(Units, Modes), NetRef
 pub fn read_taken(alloc: Global, bytes: &[u8], newest: u8) -> Result<(Units, Checked), NetRefusal>
     requires bytes { length bytes.now < 2 ^ 32 }
     requires alone { newest < 3 }
-    ensures found { IfOk result (λ read. IsNetFile bytes.now (text_of read.0)) }
+    ensures found { IfOk result (λ read. IsNetFile bytes.now (model_of_units read.0)) }
     ensures taken { IfOk result (λ read. read.0.edition ≤ newest) }
-    ensures netlist { IfOk result (λ read. IsCheckedOf (text_of read.0) read.1) }
+    ensures netlist { IfOk result (λ read. IsCheckedOf (model_of_units read.0) read.1) }
     ensures refused { IfErr result (IsTakenRefusal newest bytes.now) }
 {
     let units = items(alloc, bytes)?;

@@ -4,7 +4,7 @@ use Rattle.std.specs.Prelude.{bit_or}
 use Rattle.std.specs.Int.{bit_at}
 use Rattle.std.proofs.lemmas.Bool.{eqb-true, eq-eqb}
 use Rattle.std.proofs.lemmas.Nat.Bits.{bit_at_or, bit_at-zero, bit_at-pow_same, bit_at-pow_other, bit_at_ones, bit_at_ones_above, bit_at_mask_inside, bit_at_mask_below, bit_at_mask_above}
-use Rattle.net_model.specs.Terms.{Term, word, reg, const, read, un, bin, slice, cat, zext, sext, select}
+use Rattle.net_model.specs.Exprs.{ExprModel, word, reg, const, read, un, bin, slice, cat, zext, sext, select}
 use Rattle.net_model.specs.Fields.{bits_between, fields}
 use Rattle.net_model.specs.Occurs.{bit_uses, occurs, register_uses, registers}
 
@@ -18,7 +18,7 @@ one_has r q = by (r == q) refl
     by true e = subst (λ k. bit_at (2 ^ r) k ≡ 1) (eqb-true r q e) (bit_at-pow_same r)
     by false e = bit_at-pow_other r q (λ x. true≢false (sym (eq-eqb r q (sym x)) ∙ e))
 
-pub registers_has : (q : ℕ) (t : Term) → bit_at (registers t) q ≡ min 1 (register_uses q t)
+pub registers_has : (q : ℕ) (t : ExprModel) → bit_at (registers t) q ≡ min 1 (register_uses q t)
 registers_has q (word w) = bit_at-zero q
 registers_has q (reg r w) = one_has r q
 registers_has q (const w v) = bit_at-zero q
@@ -48,7 +48,7 @@ span_has hi lo k = by (nat_le lo k) refl (nat_le k hi) refl
     by true e false f = (let q : hi < k = grind (arith, f) in bit_at_mask_above lo (hi + 1) k (omega (arith, q)))
     by false e b f = bit_at_mask_below lo (hi + 1) k (grind (arith, e))
 
-pub fields_has : (k : ℕ) (t : Term) → bit_at (fields t) k ≡ min 1 (bit_uses k t)
+pub fields_has : (k : ℕ) (t : ExprModel) → bit_at (fields t) k ≡ min 1 (bit_uses k t)
 fields_has k (word w) = ones_has w k
 fields_has k (reg r w) = bit_at-zero k
 fields_has k (const w v) = bit_at-zero k
@@ -78,7 +78,7 @@ fields_has k (select c a b) =
 or_uses : (a b : Bool) (m n : ℕ) → a ≡ nat_lt 0 m → b ≡ nat_lt 0 n → (a || b) ≡ nat_lt 0 (m + n)
 or_uses a b m n p q = rw (p, q) (grind arith)
 
-pub occurs_used : (q : ℕ) (t : Term) → occurs q t ≡ nat_lt 0 (register_uses q t)
+pub occurs_used : (q : ℕ) (t : ExprModel) → occurs q t ≡ nat_lt 0 (register_uses q t)
 occurs_used q (word w) = refl
 occurs_used q (reg r w) = by (r == q)
   where

@@ -2,7 +2,7 @@
 use Rattle.std.proofs.Common.{ℕ, zero, suc, ◌≡◌, Bool, true, false, cond, List, [], ◌∷◌, length, map, option_to_list, refl, sym, ◌∙◌, ap, arith, Option, Some, None, slice_get, slice_index, slice_set}
 use Rattle.std.specs.List.{AllByRecursion, position_or_len}
 use Rattle.std.proofs.lemmas.Bool.{eqb-true}
-use Rattle.net_model.specs.Terms.{Term, reg, Move, keep, write, write_at}
+use Rattle.net_model.specs.Exprs.{ExprModel, reg, TransferModel, keep, write, write_at}
 use Rattle.net_model.specs.Nets.{IsRegister, place_in, held}
 use Rattle.net_model.specs.Value.{value_of}
 use Rattle.net_model.specs.Widths.{IsTyped, WordFits, IsState}
@@ -10,7 +10,7 @@ use Rattle.net_model.specs.Clock.{clash_in, enabled_count, gate_clashes, is_enab
 use Rattle.net_model.specs.Symbolic.{no_state, is_static, sym_of}
 use Rattle.net_model.specs.Meaning.{mean}
 use Rattle.net_model.specs.Control.{AllPass, gate_enables, storage_enables, IsSound}
-use Rattle.net_model.specs.Transfers.{same_reg, array_move, storage_move, transfer_of, IsClean, Moved, reg_moved, cells_moved}
+use Rattle.net_model.specs.Transfers.{same_reg, array_transfer, storage_transfer, transfer_of, IsClean, Moved, reg_moved, cells_moved}
 use Rattle.net_model.specs.declared.hardware.Netlist.{Netlist}
 use Rattle.net_model.specs.declared.hardware.Net.{Net}
 use Rattle.net_model.specs.declared.hardware.Gate.{Gate}
@@ -58,17 +58,17 @@ reg_after v (storage ∷ storages) [] id e = absurd (omega arith)
 reg_after v (storage ∷ storages) (old ∷ olds) zero e = refl
 reg_after v (storage ∷ storages) (old ∷ olds) (suc id) e = reg_after v storages olds id (omega arith)
 
-abbrev pub option_move : (ℕ → Term) → (ℕ → ℕ) → Option Storage → ℕ → Move
-option_move t u None id = keep
-option_move t u (Some storage) id = storage_move t u id storage
+abbrev pub option_transfer : (ℕ → ExprModel) → (ℕ → ℕ) → Option Storage → ℕ → TransferModel
+option_transfer t u None id = keep
+option_transfer t u (Some storage) id = storage_transfer t u id storage
 
 -- whether a storage's `when` is on, by the values of static nets
-module _ (netlist : Netlist) (s : State) (i : ℕ) (t : ℕ → Term) (u v : ℕ → ℕ) (h : (m : ℕ) → mean (t m) s i ≡ v m) (hu : (m : ℕ) → is_static netlist m ≡ true → u m ≡ v m) where
+module _ (netlist : Netlist) (s : State) (i : ℕ) (t : ℕ → ExprModel) (u v : ℕ → ℕ) (h : (m : ℕ) → mean (t m) s i ≡ v m) (hu : (m : ℕ) → is_static netlist m ≡ true → u m ≡ v m) where
   on_same : (when : Option ℕ) → AllPass (is_static netlist) (option_to_list when) → is_enabled v when ≡ is_enabled u when
   on_same None c = refl
   on_same (Some when) c = rw (hu when c.0) refl
 
-  same_mean : (e : Term) (id : ℕ) → same_reg e id ≡ true → mean e s i ≡ slice_index s.regs id
+  same_mean : (e : ExprModel) (id : ℕ) → same_reg e id ≡ true → mean e s i ≡ slice_index s.regs id
   same_mean (reg r w) id e = ap (slice_index s.regs) (eqb-true r id e)
   same_mean _ id e = cc
 
@@ -78,7 +78,7 @@ module _ (netlist : Netlist) (s : State) (i : ℕ) (t : ℕ → Term) (u v : ℕ
   pick_reg true false input id e = sym (h input)
   pick_reg false b input id e = refl
 
-  reg_law : (o : Option Storage) (id : ℕ) → IsRegister o → ((storage : Storage) → o ≡ Some storage → AllPass (is_static netlist) (storage_enables storage)) → reg_next v o (slice_index s.regs id) ≡ reg_moved (option_move t u o id) s i id
+  reg_law : (o : Option Storage) (id : ℕ) → IsRegister o → ((storage : Storage) → o ≡ Some storage → AllPass (is_static netlist) (storage_enables storage)) → reg_next v o (slice_index s.regs id) ≡ reg_moved (option_transfer t u o id) s i id
   reg_law None id r c = absurd r
   reg_law (Some (Memory cells)) id r c = absurd r
   reg_law (Some (File cells)) id r c = absurd r
@@ -89,10 +89,10 @@ module _ (netlist : Netlist) (s : State) (i : ℕ) (t : ℕ → Term) (u v : ℕ
   pick_cells true addr value olds = rw (h addr, h value) refl
   pick_cells false addr value olds = refl
 
-  array_law : (cells : Cells) (olds : List ℕ) → AllPass (is_static netlist) (option_to_list cells.when) → written v (Some cells) olds ≡ cells_moved (array_move t u cells) s i olds
+  array_law : (cells : Cells) (olds : List ℕ) → AllPass (is_static netlist) (option_to_list cells.when) → written v (Some cells) olds ≡ cells_moved (array_transfer t u cells) s i olds
   array_law cells olds c = rw (on_same cells.when c) (pick_cells (is_enabled u cells.when) cells.addr cells.value olds)
 
-  cells_law : (space : Space) (storages : List Storage) (id : ℕ) (olds : List ℕ) → AllByRecursion (λ storage. AllPass (is_static netlist) (storage_enables storage)) storages → next_cells v space storages olds ≡ cells_moved (option_move t u (slice_get storages (place_in space storages)) id) s i olds
+  cells_law : (space : Space) (storages : List Storage) (id : ℕ) (olds : List ℕ) → AllByRecursion (λ storage. AllPass (is_static netlist) (storage_enables storage)) storages → next_cells v space storages olds ≡ cells_moved (option_transfer t u (slice_get storages (place_in space storages)) id) s i olds
   cells_law space [] id olds c = refl
   cells_law InMemory (Register name width input when ∷ storages) id olds c = cells_law InMemory storages id olds c.1
   cells_law InMemory (Memory cells ∷ storages) id olds c = array_law cells olds c.0
@@ -108,7 +108,7 @@ pub next_is_state : (netlist : Netlist) (s : State) (i : ℕ) → IsTyped netlis
 next_is_state netlist s i t h w =
     next_fits netlist (value_of netlist s i) (record { fits = λ n. value_fits netlist s i t h.fits w (length netlist.nets) n }) s t h
 
-option_move_is : (netlist : Netlist) (i id : ℕ) (o : Option Storage) → option_move (sym_of netlist i) (value_of netlist no_state i) o id ≡ transfer_of netlist i id o
+option_move_is : (netlist : Netlist) (i id : ℕ) (o : Option Storage) → option_transfer (sym_of netlist i) (value_of netlist no_state i) o id ≡ transfer_of netlist i id o
 option_move_is netlist i id None = refl
 option_move_is netlist i id (Some storage) = refl
 
@@ -127,9 +127,9 @@ moved netlist words i s sound h clean e =
       regs = λ id r.
           reg_after v netlist.storages s.regs id h.regs
           ∙ reg_law netlist s i (sym_of netlist i) (value_of netlist no_state i) v means static (slice_get netlist.storages id) id r (λ storage at. gathered_at (λ n. is_static netlist n ≡ true) storage_enables netlist.storages id storage at sound.storages)
-          ∙ ap (λ (m : Move). reg_moved m s i id) (option_move_is netlist i id (slice_get netlist.storages id));
+          ∙ ap (λ (m : TransferModel). reg_moved m s i id) (option_move_is netlist i id (slice_get netlist.storages id));
       cells = λ space.
           held_next v netlist s space
           ∙ cells_law netlist s i (sym_of netlist i) (value_of netlist no_state i) v means static space netlist.storages (place_in space netlist.storages) (held s space) (gather_all (λ n. is_static netlist n ≡ true) storage_enables netlist.storages sound.storages)
-          ∙ ap (λ (m : Move). cells_moved m s i (held s space)) (option_move_is netlist i (place_in space netlist.storages) (slice_get netlist.storages (place_in space netlist.storages)));
+          ∙ ap (λ (m : TransferModel). cells_moved m s i (held s space)) (option_move_is netlist i (place_in space netlist.storages) (slice_get netlist.storages (place_in space netlist.storages)));
     }

@@ -4,7 +4,7 @@ use Rattle.std.proofs.lemmas.Bool.Decides.{nat_tests}
 use Rattle.std.specs.Cmp.Lexicographic.{bytes_decides}
 use Rattle.std.specs.List.{AllByRecursion, list_all}
 use Rattle.rec_bits.proofs.Booleans.{and_left, and_right, left_false, right_false}
-use Rattle.rec_bits.specs.Faults.{least, gather, broken}
+use Rattle.rec_bits.specs.Faults.{least, gather, offsets_if}
 use Rattle.rec_bits.proofs.Faults.{least_none}
 use Rattle.net_model.proofs.ByEdition.{nets_within}
 use Rattle.net_model.proofs.Memories.{most_within}
@@ -16,15 +16,15 @@ use Rattle.net_model.specs.declared.fault.NetKind.{NetKind}
 use Rattle.net_model.specs.declared.fault.NetKind.TheVariants.{Nets, Registers, Cells, Words, File}
 use Rattle.grammar.specs.declared.words.Ident.{Ident}
 use Rattle.net_model.specs.declared.units.Port.{Port}
-use Rattle.net_model.specs.Written.{Entry, code, register, memory, net, bus, module_item, part, Phrase}
-use Rattle.net_model.specs.TextNames.{own_name, place_named, item_named, is_port, port_named, Scope, in_text, in_module}
+use Rattle.net_model.specs.Written.{UnitModel, code, register, memory, net, bus, module_item, part, NetExprModel}
+use Rattle.net_model.specs.TextNames.{own_name, place_named, item_named, is_port, port_named, ScopeModel, in_text, in_module}
 use Rattle.rec_bits.specs.Faults.{same_name}
 use Rattle.net_model.specs.TextWidths.{wide, is_width, port_width, ports_of}
 use Rattle.net_model.specs.NameRules.{is_among, repeated, port_name, repeated_ports, duplicates, is_register, unknown_in_item, unknowns}
 use Rattle.net_model.specs.WidthRules.{has_width, feeds, enables, driver_feeds, binding_feeds, feeds_port, port_keeps, widths_fit, misfit, misfits}
 use Rattle.net_model.specs.DriverRules.{names_new, is_driven, drives_once, binding_name, covers_binding, is_driven_item, undriven, undrivens}
 use Rattle.net_model.specs.Editions.{is_banked}
-use Rattle.net_model.specs.LimitRules.{count_registers, cells_of, data_size, file_size, most_cells, most_nets, words_of, greatest, over, limit_fault}
+use Rattle.net_model.specs.LimitRules.{count_registers, cells_of, data_size, file_size, most_cells, most_nets, words_of_unit, greatest, over, limit_fault}
 use Rattle.rec_bits.specs.Faults.{or_else}
 use Rattle.rec_bits.specs.Counts.{capped}
 use Rattle.net_model.specs.TextRules.{first_fault}
@@ -46,11 +46,11 @@ gather_none : {A : Type 0} (f : A → List ℕ) (xs : List A) → gather f xs �
 gather_none f [] h = tt
 gather_none f (x ∷ xs) h = (left_none (f x) (gather f xs) h, gather_none f xs (right_none (f x) (gather f xs) h))
 
-kept : (b : Bool) (at : ℕ) → broken (not b) at ≡ [] → IsTrue b
+kept : (b : Bool) (at : ℕ) → offsets_if (not b) at ≡ [] → IsTrue b
 kept true at h = refl
 kept false at h = absurd (cc h)
 
-not_broken : (b : Bool) (at : ℕ) → broken b at ≡ [] → b ≡ false
+not_broken : (b : Bool) (at : ℕ) → offsets_if b at ≡ [] → b ≡ false
 not_broken true at h = absurd (cc h)
 not_broken false at h = refl
 
@@ -85,10 +85,10 @@ all_both P Q R f (x ∷ xs) h k = (f x h.0 k.0, all_both P Q R f xs h.1 k.1)
 same_self : (name : List ℕ) → same_name name name ≡ true
 same_self name = (bytes_decides name name).1 refl
 
-items_new : (before : List (List ℕ)) (text : List Entry) → repeated before (map own_name text) ≡ [] → IsTrue (names_new before (item_names text))
+items_new : (before : List (List ℕ)) (text : List UnitModel) → repeated before (map own_name text) ≡ [] → IsTrue (names_new before (item_names text))
 items_new before [] h = refl
 items_new before (e ∷ text) h =
-    let offsets = broken (is_among before (own_name e).name) (own_name e).at in
+    let offsets = offsets_if (is_among before (own_name e).name) (own_name e).at in
     let later = repeated ((own_name e).name ∷ before) (map own_name text) in
     both_hold (is_among before (own_name e).name) (names_new ((own_name e).name ∷ before) (item_names text))
     (not_broken (is_among before (own_name e).name) (own_name e).at (left_none offsets later h))
@@ -104,7 +104,7 @@ ports_differ : (name : List ℕ) (before : List (List ℕ)) (ports : List Port) 
     → repeated before (map port_name ports) ≡ [] → AllByRecursion (Differs name) ports
 ports_differ name before [] f h = tt
 ports_differ name before (p ∷ ports) f h =
-    let offsets = broken (is_among before p.name.name) p.name.at in
+    let offsets = offsets_if (is_among before p.name.name) p.name.at in
     let later = repeated (p.name.name ∷ before) (map port_name ports) in (
       f p.name.name (not_broken (is_among before p.name.name) p.name.at (left_none offsets later h)),
       ports_differ name (p.name.name ∷ before) ports (λ m e. f m (right_false (same_name p.name.name m) (is_among before m) e)) (right_none offsets later h),
@@ -140,7 +140,7 @@ own_later output p ports q differs own h =
 own_ports : (output : Bool) (before : List (List ℕ)) (ports : List Port) → repeated before (map port_name ports) ≡ [] → AllByRecursion (OwnPort output ports) ports
 own_ports output before [] h = tt
 own_ports output before (p ∷ ports) h =
-    let offsets = broken (is_among before p.name.name) p.name.at in
+    let offsets = offsets_if (is_among before p.name.name) p.name.at in
     let later = repeated (p.name.name ∷ before) (map port_name ports) in
     let others = right_none offsets later h in (
       own_first output p ports,
@@ -155,14 +155,14 @@ has_width_is : (o : Option ℕ) (width : ℕ) → IsTrue (has_width o width) →
 has_width_is None width h = absurd (cc h)
 has_width_is (Some found) width h = let e : found ≡ width = grind (arith, nat_tests) in ap Some e
 
-feeds_is : (s : Scope) (width : ℕ) (a : Phrase) → IsTrue (feeds s width a) → Feeds s width a
+feeds_is : (s : ScopeModel) (width : ℕ) (a : NetExprModel) → IsTrue (feeds s width a) → Feeds s width a
 feeds_is s width a h = has_width_is (wide s a) width h
 
-enables_is : (s : Scope) (when : Option Phrase) → IsTrue (enables s when) → FeedsIf s 1 when
+enables_is : (s : ScopeModel) (when : Option NetExprModel) → IsTrue (enables s when) → FeedsIf s 1 when
 enables_is s None h = tt
 enables_is s (Some a) h = feeds_is s 1 a h
 
-driver_is : (s : Scope) (width : ℕ) (driver : Phrase × Phrase) → IsTrue (driver_feeds s width driver) → DriverFeeds s width driver
+driver_is : (s : ScopeModel) (width : ℕ) (driver : NetExprModel × NetExprModel) → IsTrue (driver_feeds s width driver) → DriverFeeds s width driver
 driver_is s width driver h = (
   feeds_is s width driver.0 (and_left (feeds s width driver.0) (feeds s 1 driver.1) h),
   feeds_is s 1 driver.1 (and_right (feeds s width driver.0) (feeds s 1 driver.1) h),
@@ -170,19 +170,19 @@ driver_is s width driver h = (
 
 -- ---- bindings
 
-module _ (output : Bool) (ports : List Port) (s : Scope) (p : Port) (own : port_named output ports p.name.name ≡ Some p) where
-  binding_is : (binding : Ident × Phrase) → same_name binding.0.name p.name.name ≡ true → IsTrue (binding_feeds output ports s binding) → Feeds s p.width binding.1
+module _ (output : Bool) (ports : List Port) (s : ScopeModel) (p : Port) (own : port_named output ports p.name.name ≡ Some p) where
+  binding_is : (binding : Ident × NetExprModel) → same_name binding.0.name p.name.name ≡ true → IsTrue (binding_feeds output ports s binding) → Feeds s p.width binding.1
   binding_is binding same h =
       let e : port_named output ports binding.0.name ≡ Some p = ap (port_named output ports) ((bytes_decides binding.0.name p.name.name).0 same) ∙ own in
       feeds_is s p.width binding.1 (subst (λ (o : Option Port). IsTrue (feeds_port s (port_width o) binding.1)) e h)
 
-  by_name : (b : Bool) (binding : Ident × Phrase) (found : Option Phrase) → same_name binding.0.name p.name.name ≡ b → IsTrue (binding_feeds output ports s binding)
+  by_name : (b : Bool) (binding : Ident × NetExprModel) (found : Option NetExprModel) → same_name binding.0.name p.name.name ≡ b → IsTrue (binding_feeds output ports s binding)
       → (IsTrue (is_some found) → IsBound s p.width found) → IsTrue (is_some (if b then Some binding.1 else found)) → IsBound s p.width (if b then Some binding.1 else found)
   by_name true binding found same h f k = binding_is binding same h
   by_name false binding found same h f k = f k
 
   -- what is bound to a port has its width
-  bound_is : (bindings : List (Ident × Phrase)) → IsTrue (list_all (binding_feeds output ports s) bindings) → IsTrue (is_some (bound bindings p.name.name)) → IsBound s p.width (bound bindings p.name.name)
+  bound_is : (bindings : List (Ident × NetExprModel)) → IsTrue (list_all (binding_feeds output ports s) bindings) → IsTrue (is_some (bound bindings p.name.name)) → IsBound s p.width (bound bindings p.name.name)
   bound_is [] h k = absurd (cc k)
   bound_is (binding ∷ bindings) h k =
       let here = and_left (binding_feeds output ports s binding) (list_all (binding_feeds output ports s) bindings) h in
@@ -197,14 +197,14 @@ second_of_not : (a b : Bool) → a ≡ true → IsTrue (not a || b) → IsTrue b
 second_of_not true b e h = h
 second_of_not false b e h = absurd (cc e)
 
-port_fed : (output : Bool) (ports : List Port) (s : Scope) (bindings : List (Ident × Phrase)) → IsTrue (list_all (binding_feeds output ports s) bindings)
+port_fed : (output : Bool) (ports : List Port) (s : ScopeModel) (bindings : List (Ident × NetExprModel)) → IsTrue (list_all (binding_feeds output ports s) bindings)
     → (p : Port) → IsTrue (is_driven output bindings p) → OwnPort output ports p → PortFed output s bindings p
 port_fed true ports s bindings h p driven own =
     λ e. bound_is true ports s p (own e) bindings h (second_of_not p.output (is_some (bound bindings p.name.name)) e driven)
 port_fed false ports s bindings h p driven own =
     λ e. bound_is false ports s p (own e) bindings h (second_of p.output (is_some (bound bindings p.name.name)) e driven)
 
-ports_fed : (output : Bool) (ports : List Port) (s : Scope) (bindings : List (Ident × Phrase)) → repeated [] (map port_name ports) ≡ []
+ports_fed : (output : Bool) (ports : List Port) (s : ScopeModel) (bindings : List (Ident × NetExprModel)) → repeated [] (map port_name ports) ≡ []
     → IsTrue (list_all (binding_feeds output ports s) bindings) → IsTrue (drives_once output ports bindings) → AllByRecursion (PortFed output s bindings) ports
 ports_fed output ports s bindings apart h once =
     let driven = and_left (list_all (is_driven output bindings) ports) (names_new [] (map binding_name bindings)) once in
@@ -214,22 +214,22 @@ ports_fed output ports s bindings apart h once =
 
 -- ---- items
 
-register_item : (o : Option Entry) → IsTrue (is_register o) → IsRegisterItem o
+register_item : (o : Option UnitModel) → IsTrue (is_register o) → IsRegisterItem o
 register_item (Some (register kind name width input when)) h = tt
 register_item _ h = absurd (cc h)
 
-item_ports_apart : (e : Entry) → repeated_ports e ≡ [] → repeated [] (map port_name (ports_of (Some e))) ≡ []
+item_ports_apart : (e : UnitModel) → repeated_ports e ≡ [] → repeated [] (map port_name (ports_of (Some e))) ≡ []
 item_ports_apart (module_item name ports equations) h = h
 item_ports_apart _ h = refl
 
-ports_apart_at : (text : List Entry) (i : ℕ) → AllByRecursion (λ e. repeated_ports e ≡ []) text → repeated [] (map port_name (ports_of (slice_get text i))) ≡ []
+ports_apart_at : (text : List UnitModel) (i : ℕ) → AllByRecursion (λ e. repeated_ports e ≡ []) text → repeated [] (map port_name (ports_of (slice_get text i))) ≡ []
 ports_apart_at [] i h = refl
 ports_apart_at (e ∷ text) zero h = item_ports_apart e h.0
 ports_apart_at (e ∷ text) (suc i) h = ports_apart_at text i h.1
 
-module _ (text : List Entry) (apart : AllByRecursion (λ e. repeated_ports e ≡ []) text) where
-  item_keeps : (e : Entry) → repeated_ports e ≡ [] → unknown_in_item text e ≡ [] → IsTrue (widths_fit text e) → IsTrue (is_driven_item text e)
-      → ((space : Space) → IsTrue (nat_le (cells_of space e) 65536)) → IsTrue (nat_le (words_of e) 65536) → ItemKeeps text e
+module _ (text : List UnitModel) (apart : AllByRecursion (λ e. repeated_ports e ≡ []) text) where
+  item_keeps : (e : UnitModel) → repeated_ports e ≡ [] → unknown_in_item text e ≡ [] → IsTrue (widths_fit text e) → IsTrue (is_driven_item text e)
+      → ((space : Space) → IsTrue (nat_le (cells_of space e) 65536)) → IsTrue (nat_le (words_of_unit e) 65536) → ItemKeeps text e
   item_keeps (code name bits size counter) own known fit driven cells words =
       (fit, words, register_item (item_named text counter.name) (kept (is_register (item_named text counter.name)) counter.at known))
   item_keeps (register kind name width input when) own known fit driven cells words =
@@ -277,9 +277,9 @@ module _ (text : List Entry) (apart : AllByRecursion (λ e. repeated_ports e ≡
       ports_fed false ports (in_text text) links (ports_apart_at text (place_named text of.name) apart) fit
       (and_left (drives_once false ports links) (list_all (covers_binding (in_text text)) links) driven)
 
-  items_keep : (entries : List Entry) → AllByRecursion (λ e. repeated_ports e ≡ []) entries → AllByRecursion (λ e. unknown_in_item text e ≡ []) entries
+  items_keep : (entries : List UnitModel) → AllByRecursion (λ e. repeated_ports e ≡ []) entries → AllByRecursion (λ e. unknown_in_item text e ≡ []) entries
       → AllByRecursion (λ e. misfit text e ≡ []) entries → AllByRecursion (λ e. undriven text e ≡ []) entries
-      → ((space : Space) → AllByRecursion (λ e. IsTrue (nat_le (cells_of space e) 65536)) entries) → AllByRecursion (λ e. IsTrue (nat_le (words_of e) 65536)) entries
+      → ((space : Space) → AllByRecursion (λ e. IsTrue (nat_le (cells_of space e) 65536)) entries) → AllByRecursion (λ e. IsTrue (nat_le (words_of_unit e) 65536)) entries
       → AllByRecursion (ItemKeeps text) entries
   items_keep [] own known fit driven cells words = tt
   items_keep (e ∷ entries) own known fit driven cells words = (
@@ -287,7 +287,7 @@ module _ (text : List Entry) (apart : AllByRecursion (λ e. repeated_ports e ≡
     items_keep entries own.1 known.1 fit.1 driven.1 (λ space. (cells space).1) words.1,
   )
 
-  items_driven : (entries : List Entry) → AllByRecursion (λ e. undriven text e ≡ []) entries → AllByRecursion (IsDriven text) entries
+  items_driven : (entries : List UnitModel) → AllByRecursion (λ e. undriven text e ≡ []) entries → AllByRecursion (IsDriven text) entries
   items_driven [] h = tt
   items_driven (e ∷ entries) h = (kept (is_driven_item text e) (own_name e).at h.0, items_driven entries h.1)
 
@@ -313,7 +313,7 @@ first_within a b limit h = let k : max a b ≤ limit = grind (arith, nat_tests) 
 second_within : (a b limit : ℕ) → IsTrue (nat_le (max a b) limit) → IsTrue (nat_le b limit)
 second_within a b limit h = let k : max a b ≤ limit = grind (arith, nat_tests) in let l : b ≤ limit = omega arith in grind (arith, nat_tests)
 
-sizes_within : (size : Entry → ℕ) (limit : ℕ) (text : List Entry) → IsTrue (nat_le (greatest size text) limit) → AllByRecursion (λ e. IsTrue (nat_le (size e) limit)) text
+sizes_within : (size : UnitModel → ℕ) (limit : ℕ) (text : List UnitModel) → IsTrue (nat_le (greatest size text) limit) → AllByRecursion (λ e. IsTrue (nat_le (size e) limit)) text
 sizes_within size limit [] h = tt
 sizes_within size limit (e ∷ text) h =
     (first_within (size e) (greatest size text) limit h, sizes_within size limit text (second_within (size e) (greatest size text) limit h))
@@ -321,7 +321,7 @@ sizes_within size limit (e ∷ text) h =
 -- ---- texts
 
 -- the sizes of the items of a space, of which those of a file and of a memory are kept
-sizes_kept : (edition : ℕ) (text : List Entry) → IsTrue (nat_le (file_size edition text) 32) → IsTrue (nat_le (data_size edition text) 65536) → (space : Space)
+sizes_kept : (edition : ℕ) (text : List UnitModel) → IsTrue (nat_le (file_size edition text) 32) → IsTrue (nat_le (data_size edition text) 65536) → (space : Space)
     → IsTrue (nat_le (greatest (cells_of space) text) (most_cells edition space))
 sizes_kept edition text small large InMemory = by (is_banked edition) large
   where
@@ -338,7 +338,7 @@ sizes_kept edition text small large InFile = by (is_banked edition) small large
     by false small large = small
 
 -- the offsets of each rule are none, and the limits of an edition are kept
-record KeepsAll (edition : ℕ) (text : List Entry) : Type 0 where
+record KeepsAll (edition : ℕ) (text : List UnitModel) : Type 0 where
   no_duplicates : duplicates text ≡ []
   no_unknowns : unknowns text ≡ []
   no_misfits : misfits text ≡ []
@@ -346,9 +346,9 @@ record KeepsAll (edition : ℕ) (text : List Entry) : Type 0 where
   nets : IsTrue (nat_le (capped (count_items text text)) (most_nets edition))
   registers : IsTrue (nat_le (capped (count_registers text)) 13)
   cells : (space : Space) → IsTrue (nat_le (greatest (cells_of space) text) (most_cells edition space))
-  words : IsTrue (nat_le (greatest words_of text) 65536)
+  words : IsTrue (nat_le (greatest words_of_unit text) 65536)
 
-keeps_all : (edition : ℕ) (text : List Entry) → first_fault edition text ≡ None → KeepsAll edition text
+keeps_all : (edition : ℕ) (text : List UnitModel) → first_fault edition text ≡ None → KeepsAll edition text
 keeps_all edition text h =
     let a = both_none (fault_at Duplicate (least (duplicates text))) _ h in
     let b = both_none (fault_at Unknown (least (unknowns text))) _ a.1 in
@@ -357,7 +357,7 @@ keeps_all edition text h =
     let e = both_none (over Nets (most_nets edition) (capped (count_items text text))) _ d.1 in
     let f = both_none (over Registers 13 (capped (count_registers text))) _ e.1 in
     let x = both_none (over File 32 (file_size edition text)) _ f.1 in
-    let g = both_none (over Cells 65536 (data_size edition text)) (over Words 65536 (greatest words_of text)) x.1 in
+    let g = both_none (over Cells 65536 (data_size edition text)) (over Words 65536 (greatest words_of_unit text)) x.1 in
     record {
       no_duplicates = rule_kept Duplicate (duplicates text) a.0;
       no_unknowns = rule_kept Unknown (unknowns text) b.0;
@@ -366,17 +366,17 @@ keeps_all edition text h =
       nets = within Nets (most_nets edition) (capped (count_items text text)) e.0;
       registers = within Registers 13 (capped (count_registers text)) f.0;
       cells = sizes_kept edition text (within File 32 (file_size edition text) x.0) (within Cells 65536 (data_size edition text) g.0);
-      words = within Words 65536 (greatest words_of text) g.1;
+      words = within Words 65536 (greatest words_of_unit text) g.1;
     }
 
 -- what an edition allows no edition has more of
-loose : (edition : ℕ) (space : Space) (text : List Entry) → AllByRecursion (IsSmall edition space) text → AllByRecursion (λ e. IsTrue (nat_le (cells_of space e) 65536)) text
+loose : (edition : ℕ) (space : Space) (text : List UnitModel) → AllByRecursion (IsSmall edition space) text → AllByRecursion (λ e. IsTrue (nat_le (cells_of space e) 65536)) text
 loose edition space [] h = tt
 loose edition space (e ∷ text) h =
     (wider (cells_of space e) (most_cells edition space) 65536 (most_within edition space) h.0, loose edition space text h.1)
 
 -- items that keep the rules have as much as their edition asks for
-pub few_in_edition : (edition : ℕ) (text : List Entry) → first_fault edition text ≡ None → IsFewIn edition text
+pub few_in_edition : (edition : ℕ) (text : List UnitModel) → first_fault edition text ≡ None → IsFewIn edition text
 few_in_edition edition text h =
     let k = keeps_all edition text h in
     record {
@@ -384,7 +384,7 @@ few_in_edition edition text h =
       cells = λ space. sizes_within (cells_of space) (most_cells edition space) text (k.cells space);
     }
 
-pub elaborable_of : (edition : ℕ) (text : List Entry) → first_fault edition text ≡ None → length text < 2 ^ 32 → IsElaborable text
+pub elaborable_of : (edition : ℕ) (text : List UnitModel) → first_fault edition text ≡ None → length text < 2 ^ 32 → IsElaborable text
 elaborable_of edition text h few =
     let k = keeps_all edition text h in
     let of_edition = few_in_edition edition text h in
@@ -394,7 +394,7 @@ elaborable_of edition text h few =
     record {
       names = items_new [] text names;
       items = items_keep text apart text apart (gather_none (unknown_in_item text) text k.no_unknowns) (gather_none (misfit text) text k.no_misfits) driven
-          (λ space. loose edition space text (of_edition.cells space)) (sizes_within words_of 65536 text k.words);
+          (λ space. loose edition space text (of_edition.cells space)) (sizes_within words_of_unit 65536 text k.words);
       driven = items_driven text apart text driven;
       few_nets = omega (arith, of_edition.nets, nets_within edition);
       few_registers = told_below 13 (count_registers text) (omega arith) k.registers;

@@ -27,7 +27,7 @@ use Rattle.net_model.specs.Control.{enables, gate_enables, gate_selectors, selec
 use Rattle.net_model.specs.CheckedRules.{HasRoles, HasStaticEnables, HasPlainControl, HasNarrowSelectors, control_within, net_control, is_control, is_control_gate, is_plain, all_file_addrs, file_addrs, gate_file_addrs, storage_file_addrs, KeepsRules, Ordered}
 use Rattle.net_model.specs.NetFaults.{FaultOf, IsFaultOrMemory, LacksRole, net_name, name_at, failing}
 use Rattle.net_model.specs.Fixed.{fixed_gate, fixed_net, fixed_of, in_mode, mode_count}
-use Rattle.net_model.specs.ModeRules.{AreModesOf, base_at, bases_below, bases_of, KeepsInOrder, KeepsModes, ModeFaultOf, IsTriedBefore, modes_in, RefusesModes, rule_place, whole_of}
+use Rattle.net_model.specs.ModeRules.{AreModesOfNetlist, base_at, bases_below, bases_of, KeepsInOrder, KeepsModes, ModeFaultOf, IsTriedBefore, modes_in, RefusesModes, rule_place, whole_of}
 use Rattle.net_model.proofs.ByEdition.{no_special}
 use Rattle.net_model.proofs.Fixes.{length_bases}
 use Rattle.net_model.proofs.Fixing.{same_width}
@@ -365,7 +365,7 @@ rules_in (mode ∷ modes) h zero base e =
 rules_in (mode ∷ modes) h (suc v) base e = rules_in modes h.1 v base e
 
 -- what a netlist is in its modes, each of which was checked, keeps the rules
-pub modes_keep : (netlist : Netlist) (bases : List Ordered) → AreModesOf netlist bases → KeepsModes netlist
+pub modes_keep : (netlist : Netlist) (bases : List Ordered) → AreModesOfNetlist netlist bases → KeepsModes netlist
 modes_keep netlist bases are = record {
   special = are.special;
   each = λ v small. rules_in bases are.rules v (base_at netlist v) (ap (λ (list : List Netlist). slice_get list v) are.are ∙ base_in netlist (modes_in netlist) v small);
@@ -399,7 +399,7 @@ alone_modes netlist none = (only netlist netlist.special none 0).1
 pub alone_bases : (netlist : Netlist) → netlist.special ≡ None → bases_of netlist ≡ netlist ∷ []
 alone_bases netlist none = ap (bases_below netlist) (alone_modes netlist none) ∙ ap (λ (n : Netlist). n ∷ []) (alone_base netlist none 0)
 
-pub modes_alone : (checked : Ordered) → checked.netlist.special ≡ None → KeepsRules checked.netlist checked.order → AreModesOf checked.netlist (checked ∷ [])
+pub modes_alone : (checked : Ordered) → checked.netlist.special ≡ None → KeepsRules checked.netlist checked.order → AreModesOfNetlist checked.netlist (checked ∷ [])
 modes_alone checked none rules = record {
   special = no_special checked.netlist checked.netlist.special none;
   are = sym (alone_bases checked.netlist none);
@@ -410,7 +410,7 @@ netlists_at : (bases : List Ordered) (v : ℕ) (base : Ordered) → slice_get ba
 netlists_at bases v base at = slice_get-map (λ (base : Ordered). base.netlist) bases v ∙ ap (option_map (λ (base : Ordered). base.netlist)) at
 
 -- what stands at the place of a mode is what the netlist is in that mode
-pub base_is : (netlist : Netlist) (bases : List Ordered) → AreModesOf netlist bases → (v : ℕ) (base : Ordered) → slice_get bases v ≡ Some base → base.netlist ≡ base_at netlist v
+pub base_is : (netlist : Netlist) (bases : List Ordered) → AreModesOfNetlist netlist bases → (v : ℕ) (base : Ordered) → slice_get bases v ≡ Some base → base.netlist ≡ base_at netlist v
 base_is netlist bases are v base at =
     let small : v < modes_in netlist = within (modes_in netlist) v base.netlist (sym (ap (λ (list : List Netlist). slice_get list v) are.are) ∙ netlists_at bases v base at) in
     same_Some base.netlist (base_at netlist v)
@@ -423,7 +423,7 @@ base_is netlist bases are v base at =
         omega (arith, long, inside)
 
 -- and something stands at the place of mode 0
-pub some_bases : (netlist : Netlist) (bases : List Ordered) → AreModesOf netlist bases → 0 < length bases
+pub some_bases : (netlist : Netlist) (bases : List Ordered) → AreModesOfNetlist netlist bases → 0 < length bases
 some_bases netlist bases are =
     let long = length_bases netlist (modes_in netlist) in
     let same = ap length are.are in

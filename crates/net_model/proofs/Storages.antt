@@ -9,12 +9,12 @@ use Rattle.net_model.specs.declared.hardware.Space.{Space}
 use Rattle.net_model.specs.declared.hardware.Space.TheVariants.{Memory as InMemory, File as InFile}
 use Rattle.net_model.specs.CheckedRules.{memory_count, count_in}
 use Rattle.net_model.specs.Patterns.{IsPattern, Pattern}
-use Rattle.net_model.specs.Terms.{Term, keep, write, write_at}
+use Rattle.net_model.specs.Exprs.{ExprModel, keep, write, write_at}
 use Rattle.net_model.specs.Nets.{IsMemory, IsRegister, memory_id, storage_array, place_in, HasCells, is_in, space_of, array_in, width_in}
 use Rattle.net_model.specs.Clock.{is_enabled}
 use Rattle.net_model.specs.Value.{value_of}
 use Rattle.net_model.specs.Symbolic.{no_state, sym_of}
-use Rattle.net_model.specs.Transfers.{same_reg, transfer_of, array_move}
+use Rattle.net_model.specs.Transfers.{same_reg, transfer_of, array_transfer}
 
 -- a register is one of the storages
 pub register_within : (storages : List Storage) (id : ℕ) → IsRegister (slice_get storages id) → id < length storages
@@ -121,28 +121,28 @@ other_register storages id one lt ne = by (slice_get storages id) refl
 
 -- ---- what a transfer tells of its storage
 
-memory_writes_not : (a : Bool) (t u e : Term) → cond a (write_at t u) keep ≡ write e → ⊥
+memory_writes_not : (a : Bool) (t u e : ExprModel) → cond a (write_at t u) keep ≡ write e → ⊥
 memory_writes_not true t u e h = cc
 memory_writes_not false t u e h = cc
 
-array_writes_not : (netlist : Netlist) (i : ℕ) (cells : Cells) (e : Term) → array_move (sym_of netlist i) (value_of netlist no_state i) cells ≡ write e → ⊥
+array_writes_not : (netlist : Netlist) (i : ℕ) (cells : Cells) (e : ExprModel) → array_transfer (sym_of netlist i) (value_of netlist no_state i) cells ≡ write e → ⊥
 array_writes_not netlist i cells e h =
     memory_writes_not (is_enabled (value_of netlist no_state i) cells.when) (sym_of netlist i cells.addr) (sym_of netlist i cells.value) e h
 
 -- only a register takes a value
-pub writes_register : (netlist : Netlist) (i id : ℕ) (e : Term) (o : Option Storage) → transfer_of netlist i id o ≡ write e → IsRegister o
+pub writes_register : (netlist : Netlist) (i id : ℕ) (e : ExprModel) (o : Option Storage) → transfer_of netlist i id o ≡ write e → IsRegister o
 writes_register netlist i id e None h = cc
 writes_register netlist i id e (Some (Register name width input when)) h = tt
 writes_register netlist i id e (Some (Memory cells)) h = array_writes_not netlist i cells e h
 writes_register netlist i id e (Some (File cells)) h = array_writes_not netlist i cells e h
 
-register_stores_not : (a b : Bool) (t u e : Term) → cond a (cond b keep (write t)) keep ≡ write_at u e → ⊥
+register_stores_not : (a b : Bool) (t u e : ExprModel) → cond a (cond b keep (write t)) keep ≡ write_at u e → ⊥
 register_stores_not true true t u e h = cc
 register_stores_not true false t u e h = cc
 register_stores_not false b t u e h = cc
 
 -- only a memory or a file takes one at an address
-pub stores_cells : (netlist : Netlist) (i id : ℕ) (a e : Term) (o : Option Storage) → transfer_of netlist i id o ≡ write_at a e → HasCells (space_of o) o
+pub stores_cells : (netlist : Netlist) (i id : ℕ) (a e : ExprModel) (o : Option Storage) → transfer_of netlist i id o ≡ write_at a e → HasCells (space_of o) o
 stores_cells netlist i id a e None h = cc
 stores_cells netlist i id a e (Some (Register name width input when)) h =
     register_stores_not (is_enabled (value_of netlist no_state i) when) (same_reg (sym_of netlist i input) id) (sym_of netlist i input) a e h

@@ -9,44 +9,44 @@ use Rattle.net_model.specs.declared.hardware.Gate.TheVariants.{Word, Reg, Read, 
 use Rattle.net_model.specs.declared.hardware.Storage.{Storage}
 use Rattle.net_model.specs.declared.hardware.Storage.TheVariants.{Register, Memory, File}
 use Rattle.net_model.specs.declared.hardware.Cells.{Cells}
-use Rattle.net_model.specs.Terms.{Term, word, reg, const, read, un, bin, slice, cat, zext, sext, select, term_width, Move, keep, write, write_at}
+use Rattle.net_model.specs.Exprs.{ExprModel, word, reg, const, read, un, bin, slice, cat, zext, sext, select, expr_width, TransferModel, keep, write, write_at}
 use Rattle.net_model.specs.Nets.{code_bits, word_width}
 use Rattle.net_model.specs.Value.{value_within, value_of}
 use Rattle.net_model.specs.CheckedRules.{CodeKeeps, KeepsRules}
 use Rattle.net_model.specs.Widths.{GateFits, NetFits, IsTyped, WordFits}
-use Rattle.net_model.specs.Symbolic.{sliced, no_state, is_static, case_term, bus_term, gate_term, net_term, sym_within, sym_of}
+use Rattle.net_model.specs.Symbolic.{sliced, no_state, is_static, case_expr, bus_expr, gate_expr, net_expr, sym_within, sym_of}
 use Rattle.net_model.specs.Clock.{is_enabled}
-use Rattle.net_model.specs.Transfers.{IsClean, same_reg, array_move, storage_move, transfer_of, move_at}
-use Rattle.net_model.specs.Fields.{WordFitsTerm, WordFitsMove}
+use Rattle.net_model.specs.Transfers.{IsClean, same_reg, array_transfer, storage_transfer, transfer_of, transfer_at}
+use Rattle.net_model.specs.Fields.{WordFitsExpr, WordFitsTransfer}
 
-pick : (b : Bool) (a c : Term) (i : ℕ) → WordFitsTerm a i → WordFitsTerm c i → WordFitsTerm (cond b a c) i
+pick : (b : Bool) (a c : ExprModel) (i : ℕ) → WordFitsExpr a i → WordFitsExpr c i → WordFitsExpr (cond b a c) i
 pick true a c i h k = h
 pick false a c i h k = k
 
-sliced_fits : (a : Term) (hi lo i : ℕ) → WordFitsTerm a i → WordFitsTerm (sliced a hi lo) i
+sliced_fits : (a : ExprModel) (hi lo i : ℕ) → WordFitsExpr a i → WordFitsExpr (sliced a hi lo) i
 sliced_fits (slice a h l) hi lo i f = f
 sliced_fits (word w) hi lo i f = pick ((lo == 0) && (hi + 1 == w)) (word w) (slice (word w) hi lo) i f f
 sliced_fits (reg r w) hi lo i f = pick ((lo == 0) && (hi + 1 == w)) (reg r w) (slice (reg r w) hi lo) i f f
 sliced_fits (const w v) hi lo i f = pick ((lo == 0) && (hi + 1 == w)) (const w v) (slice (const w v) hi lo) i f f
 sliced_fits (read space a w) hi lo i f = pick ((lo == 0) && (hi + 1 == w)) (read space a w) (slice (read space a w) hi lo) i f f
-sliced_fits (un o a) hi lo i f = pick ((lo == 0) && (hi + 1 == term_width (un o a))) (un o a) (slice (un o a) hi lo) i f f
-sliced_fits (bin o a b) hi lo i f = pick ((lo == 0) && (hi + 1 == term_width (bin o a b))) (bin o a b) (slice (bin o a b) hi lo) i f f
-sliced_fits (cat a b) hi lo i f = pick ((lo == 0) && (hi + 1 == term_width (cat a b))) (cat a b) (slice (cat a b) hi lo) i f f
+sliced_fits (un o a) hi lo i f = pick ((lo == 0) && (hi + 1 == expr_width (un o a))) (un o a) (slice (un o a) hi lo) i f f
+sliced_fits (bin o a b) hi lo i f = pick ((lo == 0) && (hi + 1 == expr_width (bin o a b))) (bin o a b) (slice (bin o a b) hi lo) i f f
+sliced_fits (cat a b) hi lo i f = pick ((lo == 0) && (hi + 1 == expr_width (cat a b))) (cat a b) (slice (cat a b) hi lo) i f f
 sliced_fits (zext a w) hi lo i f = pick ((lo == 0) && (hi + 1 == w)) (zext a w) (slice (zext a w) hi lo) i f f
 sliced_fits (sext a w) hi lo i f = pick ((lo == 0) && (hi + 1 == w)) (sext a w) (slice (sext a w) hi lo) i f f
-sliced_fits (select c a b) hi lo i f = pick ((lo == 0) && (hi + 1 == term_width (select c a b))) (select c a b) (slice (select c a b) hi lo) i f f
+sliced_fits (select c a b) hi lo i f = pick ((lo == 0) && (hi + 1 == expr_width (select c a b))) (select c a b) (slice (select c a b) hi lo) i f f
 
-module _ (netlist : Netlist) (i : ℕ) (fits : WordFits netlist i) (t : ℕ → Term) (u : ℕ → ℕ) (f : ℕ → Bool) (h : (m : ℕ) → WordFitsTerm (t m) i) where
-  case_fits : (width key : ℕ) (rows : List (ℕ × ℕ)) (rest : Option ℕ) → WordFitsTerm (case_term t width key rows rest) i
+module _ (netlist : Netlist) (i : ℕ) (fits : WordFits netlist i) (t : ℕ → ExprModel) (u : ℕ → ℕ) (f : ℕ → Bool) (h : (m : ℕ) → WordFitsExpr (t m) i) where
+  case_fits : (width key : ℕ) (rows : List (ℕ × ℕ)) (rest : Option ℕ) → WordFitsExpr (case_expr t width key rows rest) i
   case_fits width key [] None = tt
   case_fits width key [] (Some n) = h n
   case_fits width key (row ∷ rows) rest = pick (row.0 == key) _ _ i (h row.1) (case_fits width key rows rest)
 
-  bus_fits : (width : ℕ) (drivers : List (ℕ × ℕ)) → WordFitsTerm (bus_term t u width drivers) i
+  bus_fits : (width : ℕ) (drivers : List (ℕ × ℕ)) → WordFitsExpr (bus_expr t u width drivers) i
   bus_fits width [] = tt
   bus_fits width (driver ∷ drivers) = pick (u driver.1 == 1) _ _ i (h driver.0) (bus_fits width drivers)
 
-  gate_fits : (width : ℕ) (gate : Gate) → 1 ≤ width → GateFits netlist width gate → WordFitsTerm (gate_term t u f netlist width gate) i
+  gate_fits : (width : ℕ) (gate : Gate) → 1 ≤ width → GateFits netlist width gate → WordFitsExpr (gate_expr t u f netlist width gate) i
   gate_fits width (Word code) p g = subst (λ n. i < 2 ^ n) g (fits.fits code (omega (arith, g, p)))
   gate_fits width (Reg id) p g = tt
   gate_fits width (Read memory addr) p g = h addr
@@ -62,37 +62,37 @@ module _ (netlist : Netlist) (i : ℕ) (fits : WordFits netlist i) (t : ℕ → 
       pick (f sel) _ _ i (case_fits width (u sel) rows rest) ((h sel, case_fits width 1 rows rest, case_fits width 0 rows rest))
   gate_fits width (Bus drivers) p g = bus_fits width drivers
 
-  net_fits : (net : Option Net) → NetFits netlist net → WordFitsTerm (net_term t u f netlist net) i
+  net_fits : (net : Option Net) → NetFits netlist net → WordFitsExpr (net_expr t u f netlist net) i
   net_fits None p = tt
   net_fits (Some net) p = gate_fits net.width net.gate p.0 p.2
 
 -- and so does a symbolic value
-pub sym_fits : (netlist : Netlist) (i : ℕ) → WordFits netlist i → IsTyped netlist → (k n : ℕ) → WordFitsTerm (sym_within k netlist i n) i
+pub sym_fits : (netlist : Netlist) (i : ℕ) → WordFits netlist i → IsTyped netlist → (k n : ℕ) → WordFitsExpr (sym_within k netlist i n) i
 sym_fits netlist i w t zero n = tt
 sym_fits netlist i w t (suc k) n =
     net_fits netlist i w (sym_within k netlist i) (value_within k netlist no_state i) (is_static netlist) (sym_fits netlist i w t k) (slice_get netlist.nets n) (t.nets n)
 
 -- ---- transfers
 
-choose : (b : Bool) (m n : Move) (i : ℕ) → WordFitsMove m i → WordFitsMove n i → WordFitsMove (cond b m n) i
+choose : (b : Bool) (m n : TransferModel) (i : ℕ) → WordFitsTransfer m i → WordFitsTransfer n i → WordFitsTransfer (cond b m n) i
 choose true m n i h k = h
 choose false m n i h k = k
 
-array_fits : (t : ℕ → Term) (u : ℕ → ℕ) (i : ℕ) → ((m : ℕ) → WordFitsTerm (t m) i) → (cells : Cells) → WordFitsMove (array_move t u cells) i
+array_fits : (t : ℕ → ExprModel) (u : ℕ → ℕ) (i : ℕ) → ((m : ℕ) → WordFitsExpr (t m) i) → (cells : Cells) → WordFitsTransfer (array_transfer t u cells) i
 array_fits t u i h cells =
     choose (is_enabled u cells.when) (write_at (t cells.addr) (t cells.value)) keep i (h cells.addr, h cells.value) tt
 
-storage_fits : (t : ℕ → Term) (u : ℕ → ℕ) (i id : ℕ) → ((m : ℕ) → WordFitsTerm (t m) i) → (storage : Storage) → WordFitsMove (storage_move t u id storage) i
+storage_fits : (t : ℕ → ExprModel) (u : ℕ → ℕ) (i id : ℕ) → ((m : ℕ) → WordFitsExpr (t m) i) → (storage : Storage) → WordFitsTransfer (storage_transfer t u id storage) i
 storage_fits t u i id h (Register name width input when) =
     choose (is_enabled u when) _ keep i (choose (same_reg (t input) id) keep (write (t input)) i tt (h input)) tt
 storage_fits t u i id h (Memory cells) = array_fits t u i h cells
 storage_fits t u i id h (File cells) = array_fits t u i h cells
 
 -- a transfer of a netlist of these widths names the word with its width
-pub move_fits : (netlist : Netlist) (i : ℕ) → WordFits netlist i → IsTyped netlist → (id : ℕ) → WordFitsMove (move_at netlist i id) i
+pub move_fits : (netlist : Netlist) (i : ℕ) → WordFits netlist i → IsTyped netlist → (id : ℕ) → WordFitsTransfer (transfer_at netlist i id) i
 move_fits netlist i w t id = by (slice_get netlist.storages id)
   where
-    by : (o : Option Storage) → WordFitsMove (transfer_of netlist i id o) i
+    by : (o : Option Storage) → WordFitsTransfer (transfer_of netlist i id o) i
     by None = tt
     by (Some storage) = storage_fits (sym_of netlist i) (value_of netlist no_state i) i id (sym_fits netlist i w t (length netlist.nets)) storage
 
@@ -126,7 +126,7 @@ clean_below netlist order kept i clean = clean.fits.fits 0 (has_bits netlist ord
 
 -- ---- smaller words
 
-pub less_fits : (t : Term) (i j : ℕ) → j ≤ i → WordFitsTerm t i → WordFitsTerm t j
+pub less_fits : (t : ExprModel) (i j : ℕ) → j ≤ i → WordFitsExpr t i → WordFitsExpr t j
 less_fits (word w) i j h f = omega (arith, h, f)
 less_fits (reg r w) i j h f = tt
 less_fits (const w v) i j h f = tt
@@ -139,7 +139,7 @@ less_fits (zext a w) i j h f = less_fits a i j h f
 less_fits (sext a w) i j h f = less_fits a i j h f
 less_fits (select c a b) i j h f = (less_fits c i j h f.0, less_fits a i j h f.1, less_fits b i j h f.2)
 
-pub less_fits_move : (move : Move) (i j : ℕ) → j ≤ i → WordFitsMove move i → WordFitsMove move j
-less_fits_move keep i j h f = tt
-less_fits_move (write e) i j h f = less_fits e i j h f
-less_fits_move (write_at a e) i j h f = (less_fits a i j h f.0, less_fits e i j h f.1)
+pub less_fits_transfer : (move : TransferModel) (i j : ℕ) → j ≤ i → WordFitsTransfer move i → WordFitsTransfer move j
+less_fits_transfer keep i j h f = tt
+less_fits_transfer (write e) i j h f = less_fits e i j h f
+less_fits_transfer (write_at a e) i j h f = (less_fits a i j h f.0, less_fits e i j h f.1)

@@ -1,5 +1,9 @@
 -- The rules that a checked netlist keeps, each said of the netlist alone. The rules N10, N12 and
--- N13 speak of all instruction words and are asked later.
+-- N13 speak of all instruction words and are asked later. A mode is a register of 2 bits at most.
+-- What is *special* in a netlist is its mode or its bank, by its edition, and none where N6 lacks
+-- it. A bank is beside the memory (`HasBankBeside`) where it is the only file, has the memory's
+-- widths and at most as many cells as an address reaches, the memory has a cell for each address,
+-- and an address has 15 bits at most and a cell 2 more. N14 isn't asked of it.
 use Rattle.std.specs.Prelude.{ℕ, zero, suc, ◌+◌, ◌==◌, if◌then◌else◌, ◌^◌, ◌<◌, ◌≤◌, ◌≡◌, ◌++◌, ◌&&◌, ◌||◌, not, nat_eq, List, [], ◌∷◌, length, map, Option, Some, None, slice_get, Bool, true, false, IsTrue, is_some}
 use Rattle.std.specs.List.{AllByRecursion, IsDistinct, list_any}
 use Rattle.std.specs.Cmp.Lexicographic.{pointwise}

@@ -1,4 +1,8 @@
--- One clock edge: all storages change together, from the old values. One equation for each storage.
+-- One clock edge: all storages change together, from the old values. One equation for each
+-- storage. The word is the one at the program counter, and 0 past the words. Where a bus has two
+-- enabled drivers the clock clashes, with the first such bus. Otherwise each register without a
+-- `when`, or with one of value 1, gets its input's value, each space's cell at the written address
+-- likewise, and all else stays: all from the old state. `run` is many clocks.
 use Rattle.std.specs.Prelude.{ℕ, zero, suc, ◌+◌, ◌==◌, nat_lt, if◌then◌else◌, List, [], ◌∷◌, Option, Some, None, slice_index, slice_set, position, Bool, true, false}
 use Rattle.net_model.specs.declared.hardware.Netlist.{Netlist}
 use Rattle.net_model.specs.declared.hardware.Net.{Net}

@@ -1,4 +1,5 @@
--- What a net depends on without a register between.
+-- What a net depends on without a register between. A net depends on those that its gate names and
+-- on what they depend on; a register's output names none, a memory's read its address.
 use Rattle.std.specs.Prelude.{ℕ, ◌<◌, ◌≡◌, ◌⊎◌, List, [], ◌∷◌, slice_get}
 use Rattle.net_model.specs.declared.hardware.Netlist.{Netlist}
 use Rattle.net_model.specs.Nets.{nets_of}

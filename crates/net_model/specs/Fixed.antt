@@ -1,4 +1,8 @@
--- A netlist with a mode register, and what it is while the mode stands at one number.
+-- A netlist with a mode register, and what it is while the mode stands at one number. The *mode*
+-- of a state is what the mode register holds, and 0 in a netlist without one. What a netlist is in
+-- a mode v: the output of the mode register is the constant v, every other gate and all storages
+-- and codes stay, and it is of the first edition and has no mode; a netlist without a mode
+-- register is itself.
 use Rattle.std.specs.Prelude.{ℕ, ◌==◌, ◌^◌, if◌then◌else◌, map, Option, Some, None, slice_get, slice_index}
 use Rattle.net_model.specs.declared.hardware.Netlist.{Netlist}
 use Rattle.net_model.specs.declared.hardware.Net.{Net}

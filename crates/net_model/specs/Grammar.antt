@@ -17,7 +17,7 @@ use Rattle.net_model.specs.declared.words.Operator.{Operator}
 use Rattle.net_model.specs.declared.words.Operator.TheVariants.{Unary, Binary, Cat, Slice, Zext, Sext, Read, Case}
 use Rattle.net_model.specs.declared.words.Symbol.{Symbol}
 use Rattle.net_model.specs.declared.words.Symbol.TheVariants.{Colon, Semicolon, Comma, Equals, Dot, Hash, LeftParen, RightParen, LeftBrace, RightBrace, LeftBracket, RightBracket, Size, At, In, Out, When, Addr, Write, Else, Version}
-use Rattle.net_model.specs.Written.{Phrase, named, const, un, bin, cat, slice, zext, sext, read, case, rows_of, rest_of, Text, Entry, code, register, memory, net, bus, module_item, part}
+use Rattle.net_model.specs.Written.{NetExprModel, named, const, un, bin, cat, slice, zext, sext, read, case, case_rows_of, case_rest_of, UnitsModel, UnitModel, code, register, memory, net, bus, module_item, part}
 
 -- { ',' X }
 abbrev pub Others : {V : Type 0} → (List Lexed → V → Type 0) → List Lexed → List V → Type 0
@@ -45,7 +45,7 @@ abbrev pub IsBits : List Lexed → Option (ℕ × ℕ) → Type 0
 IsBits = Maybe (Behind LeftBracket (Before IsRange RightBracket))
 
 -- an expression without levels
-abbrev pub LeafBehind : Word → ℕ → List Lexed → Phrase → Type 0
+abbrev pub LeafBehind : Word → ℕ → List Lexed → NetExprModel → Type 0
 -- name [ '.' name ] [ '[' number [ ':' number ] ']' ]
 LeafBehind (Name n) at = do
   field ← IsField
@@ -58,7 +58,7 @@ LeafBehind (Number n) at = do
 LeafBehind _ at = IsNothing
 
 -- ':' Expr ';'
-abbrev pub IsArm : (List Lexed → Phrase → Type 0) → List Lexed → Phrase → Type 0
+abbrev pub IsArm : (List Lexed → NetExprModel → Type 0) → List Lexed → NetExprModel → Type 0
 IsArm E = Before (Behind Colon E) Semicolon
 
 -- { ',' number } behind the number n
@@ -68,33 +68,33 @@ NumbersBehind n = do
   Return (n ∷ others)
 
 -- { ',' number } ':' Expr ';' behind the number n
-abbrev pub RowBehind : (List Lexed → Phrase → Type 0) → ℕ → List Lexed → List ℕ × Phrase → Type 0
+abbrev pub RowBehind : (List Lexed → NetExprModel → Type 0) → ℕ → List Lexed → List ℕ × NetExprModel → Type 0
 RowBehind E n = do
   numbers ← NumbersBehind n
   a ← IsArm E
   Return (numbers, a)
 
 -- number { ',' number } ':' Expr ';'
-abbrev pub IsRow : (List Lexed → Phrase → Type 0) → List Lexed → List ℕ × Phrase → Type 0
+abbrev pub IsRow : (List Lexed → NetExprModel → Type 0) → List Lexed → List ℕ × NetExprModel → Type 0
 IsRow E = do
   n ← IsNumber
   RowBehind E n
 
 -- the other rows behind a first one
-abbrev pub RowsBehind : (List Lexed → Phrase → Type 0) → List ℕ × Phrase → List Lexed → List (List ℕ × Phrase) → Type 0
+abbrev pub RowsBehind : (List Lexed → NetExprModel → Type 0) → List ℕ × NetExprModel → List Lexed → List (List ℕ × NetExprModel) → Type 0
 RowsBehind E first = do
   others ← ListOf (IsRow E)
   Return (first ∷ others)
 
 -- [ 'else' ':' Expr ';' ]
-abbrev pub IsElse : (List Lexed → Phrase → Type 0) → List Lexed → Option Phrase → Type 0
+abbrev pub IsElse : (List Lexed → NetExprModel → Type 0) → List Lexed → Option NetExprModel → Type 0
 IsElse E = Maybe (Behind Else (IsArm E))
 
 abbrev pub Arms : Type 0
-Arms = List (List ℕ × Phrase) × Option Phrase
+Arms = List (List ℕ × NetExprModel) × Option NetExprModel
 
 -- at least one row and maybe an else, or an else alone, by the first word
-abbrev pub ArmsBehind : (List Lexed → Phrase → Type 0) → Word → ℕ → List Lexed → Arms → Type 0
+abbrev pub ArmsBehind : (List Lexed → NetExprModel → Type 0) → Word → ℕ → List Lexed → Arms → Type 0
 ArmsBehind E (Number n) at = do
   first ← RowBehind E n
   rows ← RowsBehind E first
@@ -106,25 +106,25 @@ ArmsBehind E (Shows Else) at = do
 ArmsBehind E _ at = IsNothing
 
 -- '(' Expr ')'
-abbrev pub IsSingle : (List Lexed → Phrase → Type 0) → List Lexed → Phrase → Type 0
+abbrev pub IsSingle : (List Lexed → NetExprModel → Type 0) → List Lexed → NetExprModel → Type 0
 IsSingle E = Before (Behind LeftParen E) RightParen
 
 -- '(' Expr ',' Expr ')'
-abbrev pub IsPair : (List Lexed → Phrase → Type 0) → List Lexed → Phrase × Phrase → Type 0
+abbrev pub IsPair : (List Lexed → NetExprModel → Type 0) → List Lexed → NetExprModel × NetExprModel → Type 0
 IsPair E = do
   a ← Behind LeftParen E
   b ← Before (Behind Comma E) RightParen
   Return (a, b)
 
 -- '(' Expr ',' number ')'
-abbrev pub IsWidened : (List Lexed → Phrase → Type 0) → List Lexed → Phrase × ℕ → Type 0
+abbrev pub IsWidened : (List Lexed → NetExprModel → Type 0) → List Lexed → NetExprModel × ℕ → Type 0
 IsWidened E = do
   a ← Behind LeftParen E
   width ← Before (Behind Comma IsNumber) RightParen
   Return (a, width)
 
 -- '(' Expr ',' number ',' number ')'
-abbrev pub IsSliced : (List Lexed → Phrase → Type 0) → List Lexed → Phrase × ℕ × ℕ → Type 0
+abbrev pub IsSliced : (List Lexed → NetExprModel → Type 0) → List Lexed → NetExprModel × ℕ × ℕ → Type 0
 IsSliced E = do
   a ← Behind LeftParen E
   hi ← Behind Comma IsNumber
@@ -132,18 +132,18 @@ IsSliced E = do
   Return (a, hi, lo)
 
 -- '(' name ',' Expr ')'
-abbrev pub IsReading : (List Lexed → Phrase → Type 0) → List Lexed → Ident × Phrase → Type 0
+abbrev pub IsReading : (List Lexed → NetExprModel → Type 0) → List Lexed → Ident × NetExprModel → Type 0
 IsReading E = do
   name ← Behind LeftParen IsName
   a ← Before (Behind Comma E) RightParen
   Return (name, a)
 
 -- '{' rows and else '}'
-abbrev pub IsArms : (List Lexed → Phrase → Type 0) → List Lexed → Arms → Type 0
+abbrev pub IsArms : (List Lexed → NetExprModel → Type 0) → List Lexed → Arms → Type 0
 IsArms E = Behind LeftBrace (Before (ByWord (ArmsBehind E)) RightBrace)
 
 -- what stands behind the word of an operator, with E for the expressions in it
-abbrev pub IsOperated : (List Lexed → Phrase → Type 0) → Operator → List Lexed → Phrase → Type 0
+abbrev pub IsOperated : (List Lexed → NetExprModel → Type 0) → Operator → List Lexed → NetExprModel → Type 0
 -- ( 'not' | 'neg' ) '(' Expr ')'
 IsOperated E (Unary op) = do
   a ← IsSingle E
@@ -175,23 +175,23 @@ IsOperated E Read = do
 IsOperated E Case = do
   sel ← E
   arms ← IsArms E
-  Return (case sel (rows_of arms.0) (rest_of arms.1))
+  Return (case sel (case_rows_of arms.0) (case_rest_of arms.1))
 
-abbrev pub ExprBehind : (List Lexed → Phrase → Type 0) → Word → ℕ → List Lexed → Phrase → Type 0
+abbrev pub ExprBehind : (List Lexed → NetExprModel → Type 0) → Word → ℕ → List Lexed → NetExprModel → Type 0
 ExprBehind E (Keyed (Operates o)) at = IsOperated E o
 ExprBehind E w at = LeafBehind w at
 
-abbrev pub IsLeaf : List Lexed → Phrase → Type 0
+abbrev pub IsLeaf : List Lexed → NetExprModel → Type 0
 IsLeaf = ByWord LeafBehind
 
 -- an expression of at most so many levels
-unfoldable pub IsExpr : ℕ → List Lexed → Phrase → Type 0
+unfoldable pub IsExpr : ℕ → List Lexed → NetExprModel → Type 0
 IsExpr zero = IsLeaf
 IsExpr (suc d) = ByWord (ExprBehind (IsExpr d))
 
 -- ---- items
 
-abbrev pub IsOuter : List Lexed → Phrase → Type 0
+abbrev pub IsOuter : List Lexed → NetExprModel → Type 0
 IsOuter = IsExpr 64
 
 -- name ':' number
@@ -202,43 +202,43 @@ IsSized = do
   Return (name, width)
 
 -- [ 'when' Expr ]
-abbrev pub IsWhen : List Lexed → Option Phrase → Type 0
+abbrev pub IsWhen : List Lexed → Option NetExprModel → Type 0
 IsWhen = Maybe (Behind When IsOuter)
 
 -- Expr [ 'when' Expr ] ';' behind a symbol: what a storage takes, or where, and when
-abbrev pub IsFed : Symbol → List Lexed → Phrase × Option Phrase → Type 0
+abbrev pub IsFed : Symbol → List Lexed → NetExprModel × Option NetExprModel → Type 0
 IsFed symbol = do
   input ← Behind symbol IsOuter
   when ← Before IsWhen Semicolon
   Return (input, when)
 
 -- Expr 'at' Expr [ 'when' Expr ] ';'
-abbrev pub IsWritten : List Lexed → Phrase × (Phrase × Option Phrase) → Type 0
+abbrev pub IsWritten : List Lexed → NetExprModel × (NetExprModel × Option NetExprModel) → Type 0
 IsWritten = do
   value ← IsOuter
   fed ← IsFed At
   Return (value, fed)
 
 -- 'write' Expr 'at' Expr [ 'when' Expr ] ';'
-abbrev pub IsWrite : List Lexed → Phrase × (Phrase × Option Phrase) → Type 0
+abbrev pub IsWrite : List Lexed → NetExprModel × (NetExprModel × Option NetExprModel) → Type 0
 IsWrite = Behind Write IsWritten
 
 -- Expr 'when' Expr ';'
-abbrev pub IsDriver : List Lexed → Phrase × Phrase → Type 0
+abbrev pub IsDriver : List Lexed → NetExprModel × NetExprModel → Type 0
 IsDriver = do
   value ← IsOuter
   enable ← Before (Behind When IsOuter) Semicolon
   Return (value, enable)
 
 -- Driver { Driver }
-abbrev pub IsDrivers : List Lexed → List (Phrase × Phrase) → Type 0
+abbrev pub IsDrivers : List Lexed → List (NetExprModel × NetExprModel) → Type 0
 IsDrivers = do
   first ← IsDriver
   others ← ListOf IsDriver
   Return (first ∷ others)
 
 -- name '=' Expr
-abbrev pub IsBinding : List Lexed → Ident × Phrase → Type 0
+abbrev pub IsBinding : List Lexed → Ident × NetExprModel → Type 0
 IsBinding = do
   name ← IsName
   value ← Behind Equals IsOuter
@@ -267,11 +267,11 @@ IsPorts = do
   Return (first ∷ others)
 
 -- name '=' Expr ';'
-abbrev pub IsEquation : List Lexed → Ident × Phrase → Type 0
+abbrev pub IsEquation : List Lexed → Ident × NetExprModel → Type 0
 IsEquation = Before IsBinding Semicolon
 
 -- name '=' Expr { ',' name '=' Expr }
-abbrev pub IsBindings : List Lexed → List (Ident × Phrase) → Type 0
+abbrev pub IsBindings : List Lexed → List (Ident × NetExprModel) → Type 0
 IsBindings = do
   first ← IsBinding
   others ← Others IsBinding
@@ -282,20 +282,20 @@ or_none None = []
 or_none (Some vs) = vs
 
 -- [ name '=' Expr { ',' name '=' Expr } ]
-abbrev pub IsLinks : List Lexed → List (Ident × Phrase) → Type 0
+abbrev pub IsLinks : List Lexed → List (Ident × NetExprModel) → Type 0
 IsLinks = do
   links ← Maybe IsBindings
   Return (or_none links)
 
 -- name ':' number 'in' Expr [ 'when' Expr ] ';'
-abbrev pub IsLatch : RegisterKind → List Lexed → Entry → Type 0
+abbrev pub IsLatch : RegisterKind → List Lexed → UnitModel → Type 0
 IsLatch kind = do
   sized ← IsSized
   fed ← IsFed In
   Return (register kind sized.0 sized.1 fed.0 fed.1)
 
 -- name ':' number 'size' number 'addr' number 'write' Expr 'at' Expr [ 'when' Expr ] ';'
-abbrev pub IsCells : Space → List Lexed → Entry → Type 0
+abbrev pub IsCells : Space → List Lexed → UnitModel → Type 0
 IsCells space = do
   sized ← IsSized
   size ← Behind Size IsNumber
@@ -304,17 +304,17 @@ IsCells space = do
   Return (memory space sized.0 sized.1 size addr_width write.0 write.1.0 write.1.1)
 
 -- three constants of value 0 in place of what a bank writes: it never changes
-abbrev pub no_write : ℕ → ℕ → Phrase × (Phrase × Option Phrase)
+abbrev pub no_write : ℕ → ℕ → NetExprModel × (NetExprModel × Option NetExprModel)
 no_write width addr_width = (const 0 width, (const 0 addr_width, Some (const 0 1)))
 
 -- behind the sizes of a bank: a write, or the end of the item
-abbrev pub WriteBehind : Phrase × (Phrase × Option Phrase) → Word → ℕ → List Lexed → Phrase × (Phrase × Option Phrase) → Type 0
+abbrev pub WriteBehind : NetExprModel × (NetExprModel × Option NetExprModel) → Word → ℕ → List Lexed → NetExprModel × (NetExprModel × Option NetExprModel) → Type 0
 WriteBehind none (Shows Semicolon) at = Return none
 WriteBehind none (Shows Write) at = IsWritten
 WriteBehind none _ at = IsNothing
 
 -- name ':' number 'size' number 'addr' number [ 'write' Expr 'at' Expr [ 'when' Expr ] ] ';'
-abbrev pub IsBank : List Lexed → Entry → Type 0
+abbrev pub IsBank : List Lexed → UnitModel → Type 0
 IsBank = do
   sized ← IsSized
   size ← Behind Size IsNumber
@@ -323,7 +323,7 @@ IsBank = do
   Return (memory InFile sized.0 sized.1 size addr_width write.0 write.1.0 write.1.1)
 
 -- what stands behind the word of an item
-abbrev pub ItemBehind : ItemWord → List Lexed → Entry → Type 0
+abbrev pub ItemBehind : ItemWord → List Lexed → UnitModel → Type 0
 -- 'code' name ':' number 'size' number 'at' name ';'
 ItemBehind Code = do
   sized ← IsSized
@@ -364,15 +364,15 @@ ItemBehind Part = do
   u ← Sign Semicolon
   Return (part name of links)
 
-abbrev pub ItemByWord : Word → ℕ → List Lexed → Entry → Type 0
+abbrev pub ItemByWord : Word → ℕ → List Lexed → UnitModel → Type 0
 ItemByWord (Keyed (Item w)) at = ItemBehind w
 ItemByWord _ at = IsNothing
 
-abbrev pub IsItem : List Lexed → Entry → Type 0
+abbrev pub IsItem : List Lexed → UnitModel → Type 0
 IsItem = ByWord ItemByWord
 
 -- Item { Item }
-abbrev pub IsItems : List Lexed → List Entry → Type 0
+abbrev pub IsItems : List Lexed → List UnitModel → Type 0
 IsItems = do
   first ← IsItem
   others ← ListOf IsItem
@@ -394,7 +394,7 @@ or_first None = 1
 or_first (Some edition) = edition
 
 -- [ 'version' number ';' ] Item { Item }
-abbrev pub IsText : List Lexed → Text → Type 0
+abbrev pub IsText : List Lexed → UnitsModel → Type 0
 IsText = do
   head ← IsHead
   items ← IsItems

@@ -1,5 +1,5 @@
 pub mod Nets
-pub mod Terms
+pub mod Exprs
 pub mod Value
 pub mod Widths
 pub mod Clock

@@ -1,7 +1,12 @@
 -- What a memory text says of a netlist's state. Each line is REGISTER VALUE, or MEMORY ADDRESS
 -- VALUE or FILE ADDRESS VALUE, decimal without leading zeros; a later line for the same place
 -- counts. What isn't named is 0, and nothing names the program counter, nor the register `still`,
--- where there is one.
+-- where there is one. A line *sets* a register's entry or a cell of the memory or of the register
+-- file to a value where it is the line that is written of it: the name, a space, for a cell its
+-- address and a space, the value, LF. The register is neither the program counter nor the one that
+-- the caller takes out, the mode for `go` and none for `run`; the address lies below the size, and
+-- the value below 2 to its width. The lines lead, one after the other, from a state of zeros to
+-- the one that bytes say; otherwise the fault is at the first line that sets nothing.
 use Rattle.std.specs.Prelude.{ℕ, ◌^◌, ◌≡◌, ◌≢◌, ◌<◌, ◌⊎◌, List, [], ◌∷◌, ◌++◌, Option, Some, length, codes, slice_get, slice_set}
 use Rattle.std.proofs.Math.ListN.{replicate}
 use Rattle.std.specs.Fmt.{decimal}

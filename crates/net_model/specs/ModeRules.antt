@@ -43,7 +43,7 @@ pub record KeepsModes (netlist : Netlist) : Type 0 where
   pub each : (v : ℕ) → v < modes_in netlist → KeepsInOrder (base_at netlist v)
 
 -- these are what the netlist is in its modes, and each was checked
-pub record AreModesOf (netlist : Netlist) (bases : List Ordered) : Type 0 where
+pub record AreModesOfNetlist (netlist : Netlist) (bases : List Ordered) : Type 0 where
   pub special : IsMode netlist netlist.special
   pub are : map (λ (base : Ordered). base.netlist) bases ≡ bases_of netlist
   pub rules : AllByRecursion (λ (base : Ordered). KeepsRules base.netlist base.order) bases
@@ -64,7 +64,7 @@ whole_of None [] = no_netlist
 
 -- the netlist itself, with what it is in its modes, in each of which it keeps the rules
 abbrev pub AcceptsModes : Netlist → Moded → Type 0
-AcceptsModes netlist moded = (moded.netlist ≡ netlist) × AreModesOf netlist moded.bases
+AcceptsModes netlist moded = (moded.netlist ≡ netlist) × AreModesOfNetlist netlist moded.bases
 
 -- ---- the first rule that is broken
 

@@ -1,5 +1,9 @@
 -- The fault of a netlist that keeps N1 to N4 and N11: the first rule of N5 to N9 and N14 that it
--- breaks, and the least offset at which it does.
+-- breaks, and the least offset at which it does. N5: the name of the least-numbered net on a
+-- cycle. N6: the first part that is lacking, of code, memory, program counter, sizes, address, and
+-- the register file, the mode or the bank of the text's edition. N7 to N9: the least offset among
+-- the nets in control places that fail the rule's test; N14: among the addresses of the register
+-- file; the rule is kept where all of them pass it.
 use Rattle.std.specs.Prelude.{ℕ, ◌≡◌, if◌then◌else◌, List, [], ◌∷◌, Option, Some, None, slice_get, Bool}
 use Rattle.rec_bits.specs.Faults.{least}
 use Rattle.net_model.specs.declared.hardware.Netlist.{Netlist}

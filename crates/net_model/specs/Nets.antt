@@ -1,4 +1,8 @@
--- Nets, storages and codes by their numbers.
+-- Nets, storages and codes by their numbers. Widths, sizes and numbers; the data memory is the
+-- first memory, the program counter the register that the first code names. A *space* is the data
+-- memory or the register file, the first of a netlist: what is said of cells is said once, of a
+-- space. Where the text's edition has a bank, the file is the bank (`is_banked`), and nothing that
+-- is said of values and clocks asks which.
 use Rattle.std.specs.Prelude.{ℕ, suc, nat_lt, if◌then◌else◌, List, [], ◌∷◌, length, Option, Some, None, slice_get, option_map, Bool, true, false}
 use Rattle.net_model.specs.declared.hardware.Netlist.{Netlist}
 use Rattle.net_model.specs.declared.hardware.Net.{Net}

@@ -1,19 +1,19 @@
 -- The patterns of a netlist: what its instruction words do, each with the words that do it.
 use Rattle.std.specs.Prelude.{ℕ, ◌≡◌, ◌≢◌, ◌<◌, ◌⊎◌, List, [], ◌∷◌, All, AllPairs, Contains}
 use Rattle.net_model.specs.declared.hardware.Netlist.{Netlist}
-use Rattle.net_model.specs.Terms.{Move, keep}
-use Rattle.net_model.specs.Transfers.{IsClean, move_at}
-use Rattle.net_model.specs.Texts.{move_text}
+use Rattle.net_model.specs.Exprs.{TransferModel, keep}
+use Rattle.net_model.specs.Transfers.{IsClean, transfer_at}
+use Rattle.net_model.specs.Texts.{text_of_transfer}
 
 -- a storage with a transfer
 pub record Pattern : Type 0 where
   pub storage : ℕ
-  pub move : Move
+  pub move : TransferModel
 
 -- the word is one of the pattern's set: it doesn't clash, and gives the storage this transfer
 pub record IsWordOf (netlist : Netlist) (pattern : Pattern) (i : ℕ) : Type 0 where
   pub clean : IsClean netlist i
-  pub gives : move_at netlist i pattern.storage ≡ pattern.move
+  pub gives : transfer_at netlist i pattern.storage ≡ pattern.move
 
 -- a pattern of the netlist: a transfer other than to keep, which some word gives
 pub record IsPattern (netlist : Netlist) (pattern : Pattern) : Type 0 where
@@ -32,7 +32,7 @@ IsTextBefore (x ∷ xs) (y ∷ ys) = (x < y) ⊎ ((x ≡ y) × IsTextBefore xs y
 abbrev pub IsPatternBefore : Netlist → Pattern → Pattern → Type 0
 IsPatternBefore netlist p q =
     (p.storage < q.storage)
-    ⊎ ((p.storage ≡ q.storage) × IsTextBefore (move_text netlist p.storage p.move) (move_text netlist q.storage q.move))
+    ⊎ ((p.storage ≡ q.storage) × IsTextBefore (text_of_transfer netlist p.storage p.move) (text_of_transfer netlist q.storage q.move))
 
 -- all patterns of the netlist in their order; a pattern's number is its place
 pub record ArePatterns (netlist : Netlist) (patterns : List Pattern) : Type 0 where

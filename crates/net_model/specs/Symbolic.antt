@@ -1,12 +1,14 @@
--- The symbolic value of a net under one instruction word: an expression over registers, the memory,
--- the register file, constants and the word.
+-- The symbolic value of a net under one instruction word: an expression over registers, the
+-- memory, the register file, constants and the word. Static selectors and bus enables are decided
+-- by the word; a selector of one bit that isn't static becomes a choice; a slice of a slice is one
+-- slice, one of the whole width its operand; nothing else is simplified.
 use Rattle.std.specs.Prelude.{ℕ, zero, suc, ◌+◌, ◌==◌, ◌&&◌, if◌then◌else◌, List, [], ◌∷◌, length, Option, Some, None, slice_get, Bool, true, false}
 use Rattle.net_model.specs.declared.hardware.Netlist.{Netlist}
 use Rattle.net_model.specs.declared.hardware.Net.{Net}
 use Rattle.net_model.specs.declared.hardware.Gate.{Gate}
 use Rattle.net_model.specs.declared.hardware.Gate.TheVariants.{Word, Reg, Read, Const, Wire, Un, Bin, Slice, Cat, Zext, Sext, Case, Bus}
 use Rattle.net_model.specs.declared.states.State.{State}
-use Rattle.net_model.specs.Terms.{Term, word, reg, const, read, un, bin, slice, cat, zext, sext, select, term_width}
+use Rattle.net_model.specs.Exprs.{ExprModel, word, reg, const, read, un, bin, slice, cat, zext, sext, select, expr_width}
 use Rattle.net_model.specs.Nets.{width_at, gate_nets, space_at}
 use Rattle.net_model.specs.Value.{value_within}
 
@@ -43,49 +45,49 @@ no_state = record { regs = []; cells = []; file = [] }
 -- ---- symbolic values
 
 -- a slice, where a slice of a slice is one slice and a slice of the full width is its operand
-abbrev pub sliced : Term → ℕ → ℕ → Term
+abbrev pub sliced : ExprModel → ℕ → ℕ → ExprModel
 sliced (slice a h l) hi lo = slice a (l + hi) (l + lo)
-sliced a hi lo = if (lo == 0) && (hi + 1 == term_width a) then a else slice a hi lo
+sliced a hi lo = if (lo == 0) && (hi + 1 == expr_width a) then a else slice a hi lo
 
 -- the row that a case takes at this number
-abbrev pub case_term : (ℕ → Term) → ℕ → ℕ → List (ℕ × ℕ) → Option ℕ → Term
-case_term t width key [] None = const width 0
-case_term t width key [] (Some rest) = t rest
-case_term t width key (row ∷ rows) rest = if row.0 == key then t row.1 else case_term t width key rows rest
+abbrev pub case_expr : (ℕ → ExprModel) → ℕ → ℕ → List (ℕ × ℕ) → Option ℕ → ExprModel
+case_expr t width key [] None = const width 0
+case_expr t width key [] (Some rest) = t rest
+case_expr t width key (row ∷ rows) rest = if row.0 == key then t row.1 else case_expr t width key rows rest
 
 -- the first driver whose enable is 1, and the constant 0 where there is none
-abbrev pub bus_term : (ℕ → Term) → (ℕ → ℕ) → ℕ → List (ℕ × ℕ) → Term
-bus_term t u width [] = const width 0
-bus_term t u width (driver ∷ drivers) = if u driver.1 == 1 then t driver.0 else bus_term t u width drivers
+abbrev pub bus_expr : (ℕ → ExprModel) → (ℕ → ℕ) → ℕ → List (ℕ × ℕ) → ExprModel
+bus_expr t u width [] = const width 0
+bus_expr t u width (driver ∷ drivers) = if u driver.1 == 1 then t driver.0 else bus_expr t u width drivers
 
 -- a gate of this width: t gives the symbolic values of the nets that it names, u the values of
 -- static ones, f which are static
-abbrev pub gate_term : (ℕ → Term) → (ℕ → ℕ) → (ℕ → Bool) → Netlist → ℕ → Gate → Term
-gate_term t u f netlist width (Word code) = word width
-gate_term t u f netlist width (Reg id) = reg id width
-gate_term t u f netlist width (Read memory addr) = read (space_at netlist memory) (t addr) width
-gate_term t u f netlist width (Const c) = const width c
-gate_term t u f netlist width (Wire a) = t a
-gate_term t u f netlist width (Un op a) = un op (t a)
-gate_term t u f netlist width (Bin op a b) = bin op (t a) (t b)
-gate_term t u f netlist width (Slice of hi lo) = sliced (t of) hi lo
-gate_term t u f netlist width (Cat a b) = cat (t a) (t b)
-gate_term t u f netlist width (Zext a) = zext (t a) width
-gate_term t u f netlist width (Sext a) = sext (t a) width
-gate_term t u f netlist width (Case sel rows rest) =
-    if f sel then case_term t width (u sel) rows rest
-    else select (t sel) (case_term t width 1 rows rest) (case_term t width 0 rows rest)
-gate_term t u f netlist width (Bus drivers) = bus_term t u width drivers
+abbrev pub gate_expr : (ℕ → ExprModel) → (ℕ → ℕ) → (ℕ → Bool) → Netlist → ℕ → Gate → ExprModel
+gate_expr t u f netlist width (Word code) = word width
+gate_expr t u f netlist width (Reg id) = reg id width
+gate_expr t u f netlist width (Read memory addr) = read (space_at netlist memory) (t addr) width
+gate_expr t u f netlist width (Const c) = const width c
+gate_expr t u f netlist width (Wire a) = t a
+gate_expr t u f netlist width (Un op a) = un op (t a)
+gate_expr t u f netlist width (Bin op a b) = bin op (t a) (t b)
+gate_expr t u f netlist width (Slice of hi lo) = sliced (t of) hi lo
+gate_expr t u f netlist width (Cat a b) = cat (t a) (t b)
+gate_expr t u f netlist width (Zext a) = zext (t a) width
+gate_expr t u f netlist width (Sext a) = sext (t a) width
+gate_expr t u f netlist width (Case sel rows rest) =
+    if f sel then case_expr t width (u sel) rows rest
+    else select (t sel) (case_expr t width 1 rows rest) (case_expr t width 0 rows rest)
+gate_expr t u f netlist width (Bus drivers) = bus_expr t u width drivers
 
-abbrev pub net_term : (ℕ → Term) → (ℕ → ℕ) → (ℕ → Bool) → Netlist → Option Net → Term
-net_term t u f netlist None = const 0 0
-net_term t u f netlist (Some net) = gate_term t u f netlist net.width net.gate
+abbrev pub net_expr : (ℕ → ExprModel) → (ℕ → ℕ) → (ℕ → Bool) → Netlist → Option Net → ExprModel
+net_expr t u f netlist None = const 0 0
+net_expr t u f netlist (Some net) = gate_expr t u f netlist net.width net.gate
 
-abbrev pub sym_within : ℕ → Netlist → ℕ → ℕ → Term
+abbrev pub sym_within : ℕ → Netlist → ℕ → ℕ → ExprModel
 sym_within zero netlist i n = const (width_at netlist n) 0
 sym_within (suc k) netlist i n =
-    net_term (sym_within k netlist i) (value_within k netlist no_state i) (is_static netlist) netlist (slice_get netlist.nets n)
+    net_expr (sym_within k netlist i) (value_within k netlist no_state i) (is_static netlist) netlist (slice_get netlist.nets n)
 
 -- the symbolic value of net n under the word i
-abbrev pub sym_of : Netlist → ℕ → ℕ → Term
+abbrev pub sym_of : Netlist → ℕ → ℕ → ExprModel
 sym_of netlist i n = sym_within (length netlist.nets) netlist i n

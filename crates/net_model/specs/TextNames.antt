@@ -3,12 +3,12 @@
 use Rattle.std.specs.Prelude.{ℕ, ◌+◌, ◌&&◌, if◌then◌else◌, List, [], ◌∷◌, Option, Some, None, slice_get, Bool, true, false}
 use Rattle.grammar.specs.declared.words.Ident.{Ident}
 use Rattle.net_model.specs.declared.units.Port.{Port}
-use Rattle.net_model.specs.Written.{Entry, code, register, memory, net, bus, module_item, part}
+use Rattle.net_model.specs.Written.{UnitModel, code, register, memory, net, bus, module_item, part}
 use Rattle.rec_bits.specs.Faults.{same_name}
 
 -- ---- items
 
-abbrev pub own_name : Entry → Ident
+abbrev pub own_name : UnitModel → Ident
 own_name (code name bits size counter) = name
 own_name (register kind name width input when) = name
 own_name (memory space name width size addr_width value addr when) = name
@@ -18,12 +18,12 @@ own_name (module_item name ports equations) = name
 own_name (part name of links) = name
 
 -- the place of the first item of a name, and the number of items where there is none
-abbrev pub place_named : List Entry → List ℕ → ℕ
+abbrev pub place_named : List UnitModel → List ℕ → ℕ
 place_named [] name = 0
 place_named (e ∷ entries) name = if same_name (own_name e).name name then 0 else place_named entries name + 1
 
 -- the first item of a name
-abbrev pub item_named : List Entry → List ℕ → Option Entry
+abbrev pub item_named : List UnitModel → List ℕ → Option UnitModel
 item_named entries name = slice_get entries (place_named entries name)
 
 -- ---- ports
@@ -39,6 +39,6 @@ port_named output [] name = None
 port_named output (p ∷ ports) name = if is_port output name p then Some p else port_named output ports name
 
 -- ---- where an expression stands: among the items of the text, or in a module with these ports
-pub data Scope : Type 0 where
-  in_text : List Entry → Scope
-  in_module : List Port → Scope
+pub data ScopeModel : Type 0 where
+  in_text : List UnitModel → ScopeModel
+  in_module : List Port → ScopeModel

@@ -3,7 +3,7 @@ use Rattle.std.specs.Prelude.{ℕ, List, Option}
 use Rattle.rec_bits.specs.Faults.{least}
 use Rattle.net_model.specs.declared.fault.NetFault.{NetFault}
 use Rattle.net_model.specs.declared.fault.NetFault.TheVariants.{Duplicate, Unknown, Width, Driver}
-use Rattle.net_model.specs.Written.{Entry}
+use Rattle.net_model.specs.Written.{UnitModel}
 use Rattle.net_model.specs.NameRules.{duplicates, unknowns}
 use Rattle.net_model.specs.WidthRules.{misfits}
 use Rattle.net_model.specs.DriverRules.{undrivens}
@@ -12,7 +12,7 @@ use Rattle.rec_bits.specs.Faults.{or_else}
 use Rattle.rec_bits.specs.Faults.{fault_at}
 
 -- the first of the rules N1 to N4 and N11 that items of an edition break
-abbrev pub first_fault : ℕ → List Entry → Option NetFault
+abbrev pub first_fault : ℕ → List UnitModel → Option NetFault
 first_fault edition text =
     or_else (fault_at Duplicate (least (duplicates text)))
     (or_else (fault_at Unknown (least (unknowns text)))

@@ -11,7 +11,7 @@ use Rattle.net_model.specs.declared.hardware.Code.{Code}
 use Rattle.net_model.specs.declared.hardware.Storage.{Storage}
 use Rattle.net_model.specs.declared.hardware.Space.{Space}
 use Rattle.net_model.specs.declared.hardware.Space.TheVariants.{Memory as InMemory}
-use Rattle.net_model.specs.Terms.{Term, word, reg, const, read, un, bin, slice, cat, zext, sext, select, Move, keep, write, write_at}
+use Rattle.net_model.specs.Exprs.{ExprModel, word, reg, const, read, un, bin, slice, cat, zext, sext, select, TransferModel, keep, write, write_at}
 use Rattle.net_model.specs.Nets.{storage_name, place_in}
 
 abbrev pub name_in : Option Storage → List ℕ
@@ -52,28 +52,28 @@ op2_text Ltu = codes "ltu"
 op2_text Lts = codes "lts"
 
 -- an expression
-abbrev pub term_text : Netlist → Term → List ℕ
-term_text netlist (word w) = first_name netlist.codes
-term_text netlist (reg r w) = name_of netlist r
-term_text netlist (const w v) = concat (decimal v ∷ codes "#" ∷ decimal w ∷ [])
-term_text netlist (read space a w) =
-    concat (codes "read(" ∷ space_name netlist space ∷ codes "," ∷ term_text netlist a ∷ codes ")" ∷ [])
-term_text netlist (un op a) = concat (op1_text op ∷ codes "(" ∷ term_text netlist a ∷ codes ")" ∷ [])
-term_text netlist (bin op a b) =
-    concat (op2_text op ∷ codes "(" ∷ term_text netlist a ∷ codes "," ∷ term_text netlist b ∷ codes ")" ∷ [])
-term_text netlist (slice a hi lo) =
-    concat (codes "slice(" ∷ term_text netlist a ∷ codes "," ∷ decimal hi ∷ codes "," ∷ decimal lo ∷ codes ")" ∷ [])
-term_text netlist (cat a b) =
-    concat (codes "cat(" ∷ term_text netlist a ∷ codes "," ∷ term_text netlist b ∷ codes ")" ∷ [])
-term_text netlist (zext a w) = concat (codes "zext(" ∷ term_text netlist a ∷ codes "," ∷ decimal w ∷ codes ")" ∷ [])
-term_text netlist (sext a w) = concat (codes "sext(" ∷ term_text netlist a ∷ codes "," ∷ decimal w ∷ codes ")" ∷ [])
-term_text netlist (select c a b) =
-    concat (codes "select(" ∷ term_text netlist c ∷ codes "," ∷ term_text netlist a ∷ codes ","
-    ∷ term_text netlist b ∷ codes ")" ∷ [])
+abbrev pub expr_text : Netlist → ExprModel → List ℕ
+expr_text netlist (word w) = first_name netlist.codes
+expr_text netlist (reg r w) = name_of netlist r
+expr_text netlist (const w v) = concat (decimal v ∷ codes "#" ∷ decimal w ∷ [])
+expr_text netlist (read space a w) =
+    concat (codes "read(" ∷ space_name netlist space ∷ codes "," ∷ expr_text netlist a ∷ codes ")" ∷ [])
+expr_text netlist (un op a) = concat (op1_text op ∷ codes "(" ∷ expr_text netlist a ∷ codes ")" ∷ [])
+expr_text netlist (bin op a b) =
+    concat (op2_text op ∷ codes "(" ∷ expr_text netlist a ∷ codes "," ∷ expr_text netlist b ∷ codes ")" ∷ [])
+expr_text netlist (slice a hi lo) =
+    concat (codes "slice(" ∷ expr_text netlist a ∷ codes "," ∷ decimal hi ∷ codes "," ∷ decimal lo ∷ codes ")" ∷ [])
+expr_text netlist (cat a b) =
+    concat (codes "cat(" ∷ expr_text netlist a ∷ codes "," ∷ expr_text netlist b ∷ codes ")" ∷ [])
+expr_text netlist (zext a w) = concat (codes "zext(" ∷ expr_text netlist a ∷ codes "," ∷ decimal w ∷ codes ")" ∷ [])
+expr_text netlist (sext a w) = concat (codes "sext(" ∷ expr_text netlist a ∷ codes "," ∷ decimal w ∷ codes ")" ∷ [])
+expr_text netlist (select c a b) =
+    concat (codes "select(" ∷ expr_text netlist c ∷ codes "," ∷ expr_text netlist a ∷ codes ","
+    ∷ expr_text netlist b ∷ codes ")" ∷ [])
 
 -- a transfer of the storage of this number
-abbrev pub move_text : Netlist → ℕ → Move → List ℕ
-move_text netlist id keep = []
-move_text netlist id (write e) = concat (name_of netlist id ∷ codes " := " ∷ term_text netlist e ∷ [])
-move_text netlist id (write_at a e) =
-    concat (name_of netlist id ∷ codes "[" ∷ term_text netlist a ∷ codes "] := " ∷ term_text netlist e ∷ [])
+abbrev pub text_of_transfer : Netlist → ℕ → TransferModel → List ℕ
+text_of_transfer netlist id keep = []
+text_of_transfer netlist id (write e) = concat (name_of netlist id ∷ codes " := " ∷ expr_text netlist e ∷ [])
+text_of_transfer netlist id (write_at a e) =
+    concat (name_of netlist id ∷ codes "[" ∷ expr_text netlist a ∷ codes "] := " ∷ expr_text netlist e ∷ [])

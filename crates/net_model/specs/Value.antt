@@ -1,5 +1,8 @@
 -- The value of a net in a state under an instruction word, by recursion over the nets that it
--- depends on.
+-- depends on. A register gives its entry, a read the cell at its address or 0 past the size, a
+-- case the row of its selector's value or its rest, a bus its first enabled driver or 0. The
+-- recursion counts down from the number of nets, so it has a value even where nets depend on
+-- themselves.
 use Rattle.std.specs.Prelude.{ℕ, zero, suc, ◌==◌, if◌then◌else◌, List, [], ◌∷◌, length, Option, Some, None, slice_get, slice_index}
 use Rattle.rec_bits.specs.Operators.{apply1_of, apply2_of, slice_of, cat_of, sext_of}
 use Rattle.net_model.specs.declared.hardware.Netlist.{Netlist}

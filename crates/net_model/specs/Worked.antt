@@ -9,12 +9,12 @@ use Rattle.net_model.specs.declared.hardware.Storage.TheVariants.{Register, Memo
 use Rattle.net_model.specs.declared.hardware.Gate.{Gate}
 use Rattle.net_model.specs.declared.hardware.Gate.TheVariants.{Word, Reg, Read, Const, Wire, Un, Bin, Slice, Zext, Case, Bus}
 use Rattle.net_model.specs.declared.states.State.{State}
-use Rattle.net_model.specs.Terms.{word, reg, const, read, bin, slice, select, keep, write, write_at}
+use Rattle.net_model.specs.Exprs.{word, reg, const, read, bin, slice, select, keep, write, write_at}
 use Rattle.net_model.specs.Value.{value_of}
 use Rattle.net_model.specs.Clock.{clock, step, run, Next, Clash, Reached, Clashed}
 use Rattle.net_model.specs.Symbolic.{no_state, sym_of}
 use Rattle.net_model.specs.Meaning.{mean}
-use Rattle.net_model.specs.Transfers.{move_at, counter_move, memory_move}
+use Rattle.net_model.specs.Transfers.{transfer_at, counter_transfer, memory_transfer}
 
 abbrev net : ℕ → Gate → Net
 net width gate = record { width = width; name_at = 0; gate = gate }
@@ -161,30 +161,30 @@ b2_runs_on = refl
 -- ---- transfers
 
 -- under the word 3f the memory of s8 takes one field at another, and the program counter steps
-pub s8_writes : memory_move s8 63 ≡ write_at (slice (word 8) 6 5) (slice (word 8) 4 0)
+pub s8_writes : memory_transfer s8 63 ≡ write_at (slice (word 8) 6 5) (slice (word 8) 4 0)
 s8_writes = refl
 
-pub s8_steps : counter_move s8 63 ≡ write (bin Add (reg 0 4) (const 4 1))
+pub s8_steps : counter_transfer s8 63 ≡ write (bin Add (reg 0 4) (const 4 1))
 s8_steps = refl
 
-pub s8_keeps : memory_move s8 130 ≡ keep
+pub s8_keeps : memory_transfer s8 130 ≡ keep
 s8_keeps = refl
 
-pub s8_goes : counter_move s8 130 ≡ write (slice (word 8) 3 0)
+pub s8_goes : counter_transfer s8 130 ≡ write (slice (word 8) 3 0)
 s8_goes = refl
 
 -- a subtraction of z16 writes the accumulator and the flag, and keeps the memory
-pub z16_subtracts : move_at z16 771 1 ≡ write (bin Sub (reg 1 16) (read InMemory (slice (word 12) 7 0) 16))
+pub z16_subtracts : transfer_at z16 771 1 ≡ write (bin Sub (reg 1 16) (read InMemory (slice (word 12) 7 0) 16))
 z16_subtracts = refl
 
-pub z16_flags : move_at z16 771 2 ≡ write (bin Eq (bin Sub (reg 1 16) (read InMemory (slice (word 12) 7 0) 16)) (const 16 0))
+pub z16_flags : transfer_at z16 771 2 ≡ write (bin Eq (bin Sub (reg 1 16) (read InMemory (slice (word 12) 7 0) 16)) (const 16 0))
 z16_flags = refl
 
-pub z16_keeps : memory_move z16 771 ≡ keep
+pub z16_keeps : memory_transfer z16 771 ≡ keep
 z16_keeps = refl
 
 -- a selector of one bit that isn't static becomes a choice
-pub z16_branches : counter_move z16 1795
+pub z16_branches : counter_transfer z16 1795
     ≡ write (select (reg 2 1) (slice (word 12) 7 0) (bin Add (reg 0 8) (const 8 1)))
 z16_branches = refl
 

@@ -16,7 +16,7 @@ use Rattle.net_model.specs.Elaborated.{files_from, lone_bank, netlist_in, specia
 use Rattle.net_model.specs.Grammar.{no_write}
 use Rattle.net_model.specs.LimitRules.{limit_fault}
 use Rattle.net_model.specs.CheckedRules.{HasBank, file_addrs}
-use Rattle.net_model.specs.Written.{Entry, Phrase, case, code, const, memory, named, no_rest, no_rows, read, register, row}
+use Rattle.net_model.specs.Written.{UnitModel, NetExprModel, case, code, const, memory, named, no_rest, no_rows, read, register, row}
 use Rattle.net_model.specs.Written.{bin as sum_of}
 
 abbrev tokens : List Spelled → List Lexed
@@ -30,14 +30,14 @@ fourth_words = refl
 abbrev ident : List ℕ → ℕ → Ident
 ident name at = record { name = name; at = at }
 
-abbrev of : List ℕ → Phrase
+abbrev of : List ℕ → NetExprModel
 of name = named (ident name 0) None None
 
-abbrev bits : ℕ → ℕ → Phrase
+abbrev bits : ℕ → ℕ → NetExprModel
 bits hi lo = named (ident (codes "I") 0) None (Some (hi, lo))
 
 -- a bank without `write`, at this offset
-abbrev bank : ℕ → ℕ → Entry
+abbrev bank : ℕ → ℕ → UnitModel
 bank at size =
     memory InFile (ident (codes "Y") at) 16 size 8 (no_write 16 8).0 (no_write 16 8).1.0 (no_write 16 8).1.1
 
@@ -49,7 +49,7 @@ bank at size =
 -- register T : 16 in read(Y, I[15:8]) when I[17];
 -- memory M : 16 size 256 addr 8 write A at I[7:0] when I[20];
 -- bank Y : 16 size 256 addr 8;
-abbrev pub y2_items : ℕ → List Entry
+abbrev pub y2_items : ℕ → List UnitModel
 y2_items size =
     code (ident (codes "I") 17) 21 256 (ident (codes "PC") 0)
     ∷ register Plain (ident (codes "PC") 48) 8

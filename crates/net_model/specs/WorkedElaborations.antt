@@ -10,7 +10,7 @@ use Rattle.net_model.specs.declared.hardware.Gate.TheVariants.{Word, Reg, Const,
 use Rattle.grammar.specs.declared.words.Ident.{Ident}
 use Rattle.net_model.specs.declared.units.Port.{Port}
 use Rattle.net_model.specs.declared.units.RegisterKind.TheVariants.{Plain}
-use Rattle.net_model.specs.Written.{Entry, code, register, memory, net, bus, module_item, part, Phrase, named, const, un, bin, zext, read, case, no_rows, row, no_rest, rest}
+use Rattle.net_model.specs.Written.{UnitModel, code, register, memory, net, bus, module_item, part, NetExprModel, named, const, un, bin, zext, read, case, no_rows, row, no_rest, rest}
 use Rattle.net_model.specs.Elaborated.{netlist_in}
 use Rattle.net_model.specs.Worked.{s8, a16, b2}
 
@@ -22,18 +22,18 @@ gate_net width gate = record { width = width; name_at = 0; gate = gate }
 abbrev ident : List ℕ → Ident
 ident name = record { name = name; at = 0 }
 
-abbrev of : List ℕ → Phrase
+abbrev of : List ℕ → NetExprModel
 of name = named (ident name) None None
 
 -- the bits of a name
-abbrev bits : List ℕ → ℕ → ℕ → Phrase
+abbrev bits : List ℕ → ℕ → ℕ → NetExprModel
 bits name hi lo = named (ident name) None (Some (hi, lo))
 
-abbrev bit : List ℕ → ℕ → Phrase
+abbrev bit : List ℕ → ℕ → NetExprModel
 bit name n = bits name n n
 
 -- an output of a part
-abbrev output : List ℕ → List ℕ → Phrase
+abbrev output : List ℕ → List ℕ → NetExprModel
 output name field = named (ident name) (Some (ident field)) None
 
 abbrev input_port : List ℕ → ℕ → Port
@@ -42,7 +42,7 @@ input_port name width = record { output = false; name = ident name; width = widt
 abbrev output_port : List ℕ → ℕ → Port
 output_port name width = record { output = true; name = ident name; width = width }
 
-abbrev pub s8_items : List Entry
+abbrev pub s8_items : List UnitModel
 s8_items =
     code (ident (codes "I")) 8 16 (ident (codes "PC"))
     ∷ register Plain (ident (codes "PC")) 4
@@ -54,7 +54,7 @@ s8_items =
 pub s8_elaborated : netlist_in 1 s8_items ≡ s8
 s8_elaborated = refl
 
-abbrev pub a16_items : List Entry
+abbrev pub a16_items : List UnitModel
 a16_items =
     code (ident (codes "I")) 12 256 (ident (codes "PC"))
     ∷ module_item (ident (codes "ALU"))
@@ -92,7 +92,7 @@ a16_items =
 pub a16_elaborated : netlist_in 1 a16_items ≡ a16
 a16_elaborated = refl
 
-abbrev pub b2_items : List Entry
+abbrev pub b2_items : List UnitModel
 b2_items =
     code (ident (codes "I")) 4 4 (ident (codes "PC"))
     ∷ register Plain (ident (codes "PC")) 2 (bin Add (of (codes "PC")) (const 1 2)) None
@@ -112,7 +112,7 @@ b2_elaborated = refl
 abbrev at : List ℕ → ℕ → Ident
 at name offset = record { name = name; at = offset }
 
-abbrev pub part_items : List Entry
+abbrev pub part_items : List UnitModel
 part_items =
     code (at (codes "I") 5) 4 2 (at (codes "R") 21)
     ∷ module_item (at (codes "M") 31)
@@ -144,7 +144,7 @@ part_elaborated = refl
 -- part p : M (a = I);
 -- register R : 1 in p.y;
 -- register Q : 4 in p.z;
-abbrev pub outputs_items : List Entry
+abbrev pub outputs_items : List UnitModel
 outputs_items =
     code (ident (codes "I")) 4 2 (ident (codes "R"))
     ∷ module_item (ident (codes "M"))

@@ -6,19 +6,19 @@ use Rattle.net_model.specs.declared.hardware.Space.TheVariants.{Memory as InMemo
 use Rattle.net_model.specs.declared.fault.NetFault.TheVariants.{Duplicate, Unknown, Width, Driver, Limit}
 use Rattle.net_model.specs.declared.fault.NetKind.TheVariants.{Cells, Words}
 use Rattle.net_model.specs.declared.units.RegisterKind.TheVariants.{Plain}
-use Rattle.net_model.specs.Written.{Entry, code, register, memory, net, module_item, part, Phrase, named, const, bin, cat, read, case, no_rows, row, no_rest}
+use Rattle.net_model.specs.Written.{UnitModel, code, register, memory, net, module_item, part, NetExprModel, named, const, bin, cat, read, case, no_rows, row, no_rest}
 use Rattle.net_model.specs.TextRules.{first_fault}
 
 abbrev ident : List ℕ → ℕ → Ident
 ident name at = record { name = name; at = at }
 
-abbrev use_of : List ℕ → ℕ → Phrase
+abbrev use_of : List ℕ → ℕ → NetExprModel
 use_of name at = named (ident name at) None None
 
 -- code I : 8 size 16 at PC;
 -- register PC : 4 in case I[7] { 0: add(PC, 1#4); 1: I[3:0]; };
 -- memory M : 5 size 4 addr 2 write I[4:0] at I[6:5];
-abbrev control : ℕ → Entry
+abbrev control : ℕ → UnitModel
 control number =
     register Plain (ident (codes "PC") 35) 4
     (case (named (ident (codes "I") 50) None (Some (7, 7)))
@@ -27,12 +27,12 @@ control number =
     no_rest)
     None
 
-abbrev cells : ℕ → ℕ → Entry
+abbrev cells : ℕ → ℕ → UnitModel
 cells size top =
     memory InMemory (ident (codes "M") 97) 5 size 2 (named (ident (codes "I") 121) None (Some (top, 0)))
     (named (ident (codes "I") 131) None (Some (6, 5))) None
 
-abbrev s8 : List Entry
+abbrev s8 : List UnitModel
 s8 = code (ident (codes "I") 5) 8 16 (ident (codes "PC") 22) ∷ control 1 ∷ cells 4 4 ∷ []
 
 kept : first_fault 1 s8 ≡ None
@@ -63,22 +63,22 @@ reads_register : first_fault 1 (s8 ++ net (ident (codes "R") 152) 4 (read (ident
 reads_register = refl
 
 -- module D (in a : 1, out y : 2) { y = cat(a, a); }
-abbrev doubled : Phrase → Entry
+abbrev doubled : NetExprModel → UnitModel
 doubled value =
     module_item (ident (codes "D") 7)
     (record { output = false; name = ident (codes "a") 13; width = 1 }
     ∷ record { output = true; name = ident (codes "y") 24; width = 2 } ∷ [])
     ((ident (codes "y") 33, value) ∷ [])
 
-abbrev both : Phrase
+abbrev both : NetExprModel
 both = cat (use_of (codes "a") 41) (use_of (codes "a") 44)
 
-abbrev linked : List ℕ → List (Ident × Phrase) → List Entry
+abbrev linked : List ℕ → List (Ident × NetExprModel) → List UnitModel
 linked output links =
     doubled both ∷ part (ident (codes "p") 55) (ident (codes "D") 59) links
     ∷ net (ident (codes "n") 80) 2 (named (ident (codes "p") 88) (Some (ident output 90)) None) ∷ []
 
-abbrev link : Ident × Phrase
+abbrev link : Ident × NetExprModel
 link = (ident (codes "a") 62, const 1 1)
 
 part_kept : first_fault 1 (linked (codes "y") (link ∷ [])) ≡ None

@@ -25,11 +25,11 @@ use Rattle.net_model.specs.LimitRules.{limit_fault}
 use Rattle.net_model.specs.Meaning.{mean}
 use Rattle.net_model.specs.NetFaults.{file_addr_offsets}
 use Rattle.net_model.specs.Symbolic.{sym_of}
-use Rattle.net_model.specs.Terms.{cell, word, const, bin, slice, write_at}
-use Rattle.net_model.specs.Transfers.{move_at, space_move}
+use Rattle.net_model.specs.Exprs.{cell, word, const, bin, slice, write_at}
+use Rattle.net_model.specs.Transfers.{transfer_at, space_transfer}
 use Rattle.net_model.specs.Value.{value_of}
 use Rattle.net_model.specs.declared.units.RegisterKind.TheVariants.{Plain}
-use Rattle.net_model.specs.Written.{Entry, Phrase, code, register, memory, named}
+use Rattle.net_model.specs.Written.{UnitModel, NetExprModel, code, register, memory, named}
 use Rattle.net_model.specs.Written.{bin as sum_of, const as number, read as read_of}
 
 -- a net of an item at this place of the text
@@ -39,13 +39,13 @@ net_at at width gate = record { width = width; name_at = at; gate = gate }
 abbrev ident : List ℕ → ℕ → Ident
 ident name at = record { name = name; at = at }
 
-abbrev of : List ℕ → Phrase
+abbrev of : List ℕ → NetExprModel
 of name = named (ident name 0) None None
 
-abbrev of_range : List ℕ → ℕ → ℕ → Phrase
+abbrev of_range : List ℕ → ℕ → ℕ → NetExprModel
 of_range name hi lo = named (ident name 0) None (Some (hi, lo))
 
-abbrev bits : ℕ → ℕ → Phrase
+abbrev bits : ℕ → ℕ → NetExprModel
 bits = of_range (codes "I")
 
 -- version 2;
@@ -53,7 +53,7 @@ bits = of_range (codes "I")
 -- register PC : 2 in add(PC, 1#2);
 -- file R : 4 size 3 addr 2 write add(read(R, I[3:2]), 1#4) at I[1:0];
 -- memory M : 4 size 1 addr 1 write read(R, I[1:0]) at 0#1 when I[4];
-abbrev f4_items : ℕ → Phrase → Phrase → List Entry
+abbrev f4_items : ℕ → NetExprModel → NetExprModel → List UnitModel
 f4_items size at from =
     code (ident (codes "I") 16) 5 4 (ident (codes "PC") 0)
     ∷ register Plain (ident (codes "PC") 46) 2 (sum_of Add (of (codes "PC")) (number 1 2)) None
@@ -158,8 +158,8 @@ f4_reads = refl
 pub f4_means : mean (cell (slice (word 5) 3 2) 4) (state 0 (7 ∷ 8 ∷ 9 ∷ []) 5) 6 ≡ 8
 f4_means = refl
 
-pub f4_moves : space_move f4 InFile 6 ≡ write_at (slice (word 5) 1 0) (bin Add (cell (slice (word 5) 3 2) 4) (const 4 1))
+pub f4_moves : space_transfer f4 InFile 6 ≡ write_at (slice (word 5) 1 0) (bin Add (cell (slice (word 5) 3 2) 4) (const 4 1))
 f4_moves = refl
 
-pub f4_loads : move_at f4 22 2 ≡ write_at (const 1 0) (cell (slice (word 5) 1 0) 4)
+pub f4_loads : transfer_at f4 22 2 ≡ write_at (const 1 0) (cell (slice (word 5) 1 0) 4)
 f4_loads = refl

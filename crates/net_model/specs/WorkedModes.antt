@@ -9,9 +9,9 @@ use Rattle.net_model.specs.declared.hardware.Gate.{Gate}
 use Rattle.net_model.specs.declared.hardware.Gate.TheVariants.{Word, Reg, Read, Const, Wire, Bin, Slice, Zext, Case}
 use Rattle.net_model.specs.declared.hardware.Space.TheVariants.{Memory as InMemory}
 use Rattle.net_model.specs.declared.states.State.{State}
-use Rattle.net_model.specs.Terms.{Term, word, reg, read, bin, slice, select, keep, write}
+use Rattle.net_model.specs.Exprs.{ExprModel, word, reg, read, bin, slice, select, keep, write}
 use Rattle.net_model.specs.Clock.{clock, run, Next, Reached}
-use Rattle.net_model.specs.Transfers.{move_at}
+use Rattle.net_model.specs.Transfers.{transfer_at}
 use Rattle.net_model.specs.CheckedRules.{HasMode}
 use Rattle.net_model.specs.Editions.{Lexed, edited, Word as Spelled}
 use Rattle.net_model.specs.Elaborated.{lone_mode}
@@ -58,33 +58,33 @@ s16 = record {
 abbrev state : List ℕ → List ℕ → State
 state regs cells = record { regs = regs; cells = cells; file = [] }
 
-abbrev f : Term
+abbrev f : ExprModel
 f = slice (word 12) 7 0
 
-abbrev acc : Term
+abbrev acc : ExprModel
 acc = reg 1 16
 
 -- ---- transfers
 
 -- the word 201 adds in mode 0 and subtracts in mode 1; of the netlist itself its transfer is a
 -- choice by the mode
-s16_adds : move_at (fixed_of 2 0 s16) 513 1 ≡ write (bin Add acc (read InMemory f 16))
+s16_adds : transfer_at (fixed_of 2 0 s16) 513 1 ≡ write (bin Add acc (read InMemory f 16))
 s16_adds = refl
 
-s16_subtracts : move_at (fixed_of 2 1 s16) 513 1 ≡ write (bin Sub acc (read InMemory f 16))
+s16_subtracts : transfer_at (fixed_of 2 1 s16) 513 1 ≡ write (bin Sub acc (read InMemory f 16))
 s16_subtracts = refl
 
-s16_chooses : move_at s16 513 1 ≡ write (select (reg 2 1) (bin Sub acc (read InMemory f 16)) (bin Add acc (read InMemory f 16)))
+s16_chooses : transfer_at s16 513 1 ≡ write (select (reg 2 1) (bin Sub acc (read InMemory f 16)) (bin Add acc (read InMemory f 16)))
 s16_chooses = refl
 
 -- the word 301 puts 1 into the mode, in either mode, and the word 201 keeps the mode
-s16_puts : move_at (fixed_of 2 0 s16) 769 2 ≡ write (slice (word 12) 0 0)
+s16_puts : transfer_at (fixed_of 2 0 s16) 769 2 ≡ write (slice (word 12) 0 0)
 s16_puts = refl
 
-s16_puts_back : move_at (fixed_of 2 1 s16) 768 2 ≡ write (slice (word 12) 0 0)
+s16_puts_back : transfer_at (fixed_of 2 1 s16) 768 2 ≡ write (slice (word 12) 0 0)
 s16_puts_back = refl
 
-s16_keeps : move_at (fixed_of 2 1 s16) 513 2 ≡ keep
+s16_keeps : transfer_at (fixed_of 2 1 s16) 513 2 ≡ keep
 s16_keeps = refl
 
 -- ---- clocks

@@ -9,12 +9,12 @@ use Rattle.net_model.specs.declared.hardware.Net.{Net}
 use Rattle.net_model.specs.declared.hardware.Storage.TheVariants.{Register}
 use Rattle.net_model.specs.declared.hardware.Gate.{Gate}
 use Rattle.net_model.specs.declared.hardware.Gate.TheVariants.{Word, Reg, Const, Bin, Slice, Cat, Sext}
-use Rattle.net_model.specs.Terms.{Term, word, reg, const, read, bin, slice, cat, sext, keep, write, write_at}
+use Rattle.net_model.specs.Exprs.{ExprModel, word, reg, const, read, bin, slice, cat, sext, keep, write, write_at}
 use Rattle.net_model.specs.Value.{value_of}
 use Rattle.net_model.specs.Symbolic.{no_state, sliced, sym_of}
-use Rattle.net_model.specs.Fields.{fields, move_fields}
-use Rattle.net_model.specs.Occurs.{occurs, has_read, register_uses, bit_uses, move_bit_uses, registers}
-use Rattle.net_model.specs.Transfers.{clash_at, counter_move, move_at, Steps}
+use Rattle.net_model.specs.Fields.{fields, transfer_fields}
+use Rattle.net_model.specs.Occurs.{occurs, has_read, register_uses, bit_uses, transfer_bit_uses, registers}
+use Rattle.net_model.specs.Transfers.{clash_at, counter_transfer, transfer_at, Steps}
 use Rattle.net_model.specs.Worked.{b2}
 
 abbrev net : ℕ → Gate → Net
@@ -75,10 +75,10 @@ clash_of_one = refl
 -- ---- transfers
 
 -- a register that would take its own value keeps
-pub own_value : move_at k8 0 1 ≡ keep
+pub own_value : transfer_at k8 0 1 ≡ keep
 own_value = refl
 
-pub joined : move_at k8 0 2 ≡ write (cat (reg 1 4) (sext (slice (word 8) 4 3) 4))
+pub joined : transfer_at k8 0 2 ≡ write (cat (reg 1 4) (sext (slice (word 8) 4 3) 4))
 joined = refl
 
 -- the word 24 has ones in bits 4 and 3, and the extension repeats bit 4
@@ -86,7 +86,7 @@ pub joined_value : value_of k8 (record { regs = 0 ∷ 5 ∷ 0 ∷ []; cells = []
 joined_value = refl
 
 -- the counter plus 1 steps, and so does 1 plus the counter
-pub k8_next : counter_move k8 0 ≡ write (bin Add (const 2 1) (reg 0 2))
+pub k8_next : counter_transfer k8 0 ≡ write (bin Add (const 2 1) (reg 0 2))
 k8_next = refl
 
 pub k8_steps : Steps k8 0
@@ -98,7 +98,7 @@ b2_steps = record { step = inl refl }
 -- ---- what occurs
 
 -- add(X, cat(X[1:0], I[3:2])) takes four bits of X twice, and two bits of the word once
-abbrev pub sum : Term
+abbrev pub sum : ExprModel
 sum = bin Add (reg 1 4) (cat (slice (reg 1 4) 1 0) (slice (word 8) 3 2))
 
 pub sum_fields : fields sum ≡ 12
@@ -130,9 +130,9 @@ pub deep_read : has_read (slice (read InMemory (slice (word 8) 6 5) 5) 1 0) ≡ 
 deep_read = refl
 
 -- a store has the bits of its address and of its value
-pub store_fields : move_fields (write_at (slice (word 8) 6 5) (slice (word 8) 4 0)) ≡ 127
+pub store_fields : transfer_fields (write_at (slice (word 8) 6 5) (slice (word 8) 4 0)) ≡ 127
 store_fields = refl
 
 -- address and value are counted together
-pub store_twice : move_bit_uses 5 (write_at (slice (word 8) 6 5) (slice (word 8) 5 0)) ≡ 2
+pub store_twice : transfer_bit_uses 5 (write_at (slice (word 8) 6 5) (slice (word 8) 5 0)) ≡ 2
 store_twice = refl

@@ -29,7 +29,7 @@
 //! - `editions`: which editions add what.
 //! - `modes`: `Modes`, a netlist with what it is in each of its modes, all checked.
 //! - `laws`: the three laws above.
-//! - `specs/` of meaning, cited publicly: `Nets`, `Value`, `Clock`, `Symbolic`, `Terms`, `Meaning`,
+//! - `specs/` of meaning, cited publicly: `Nets`, `Value`, `Clock`, `Symbolic`, `Exprs`, `Meaning`,
 //!   `Transfers`, `Patterns`, `Texts`, `Fields`, `Occurs`, `Widths`, `Control`, `MemoryText`; of
 //!   rules and texts, likewise: `Written`, `Editions`, `Grammar`, `TextNames`, `Numbering`,
 //!   `Elaborated`, `Elaborable`, `NameRules`, `TextWidths`, `WidthRules`, `DriverRules`,

@@ -2,7 +2,7 @@
 
 ghost use Rattle.std.specs.Prelude.{◌≡◌, None, Some, slice_get};
 ghost use Rattle.net_model.specs.CheckedRules.{KeepsRules};
-ghost use Rattle.net_model.specs.ModeRules.{AreModesOf, base_at, whole_of};
+ghost use Rattle.net_model.specs.ModeRules.{AreModesOfNetlist, base_at, whole_of};
 
 use crate::{Checked, Netlist};
 use rec_bits::Items;
@@ -18,19 +18,19 @@ pub struct Modes {
 }
 
 impl Model for Modes {
-    ghost use Rattle.net_model.specs.ModeRules.{AreModesOf, Moded, whole_of};
+    ghost use Rattle.net_model.specs.ModeRules.{AreModesOfNetlist, Moded, whole_of};
 
     ghost Value = { Moded };
 
     ghost view = { λ modes. record { netlist = whole_of modes.moded modes.bases; bases = modes.bases } };
 
-    ghost invariant = { λ modes. AreModesOf (whole_of modes.moded modes.bases) modes.bases };
+    ghost invariant = { λ modes. AreModesOfNetlist (whole_of modes.moded modes.bases) modes.bases };
 }
 
 impl Modes {
     /// A netlist with a mode, and what it is in each.
     pub fn new(netlist: Netlist, bases: Items<Checked>) -> Modes
-        requires { AreModesOf netlist bases }
+        requires { AreModesOfNetlist netlist bases }
         ensures netlist { result.netlist ≡ netlist }
         ensures bases { result.bases ≡ bases }
     {
@@ -42,7 +42,7 @@ impl Modes {
 
     /// The list of a netlist without a mode.
     pub fn alone(bases: Items<Checked>) -> Modes
-        requires { AreModesOf (whole_of None bases) bases }
+        requires { AreModesOfNetlist (whole_of None bases) bases }
         ensures netlist { result.netlist ≡ whole_of None bases }
         ensures bases { result.bases ≡ bases }
     {
@@ -52,7 +52,7 @@ impl Modes {
     /// What the netlist is in its modes.
     pub fn bases(&self) -> &[Checked]
         ensures value { result.now ≡ self.now.bases }
-        ensures kept { AreModesOf self.now.netlist self.now.bases }
+        ensures kept { AreModesOfNetlist self.now.netlist self.now.bases }
     {
         self.bases.as_slice()
     }
@@ -61,7 +61,7 @@ impl Modes {
     pub fn first(&self) -> &Checked
         ensures value { slice_get self.now.bases 0 ≡ Some result.now }
         ensures base { result.now.netlist ≡ base_at self.now.netlist 0 }
-        ensures kept { AreModesOf self.now.netlist self.now.bases }
+        ensures kept { AreModesOfNetlist self.now.netlist self.now.bases }
     {
         match self.bases.get(0) {
             Some(base) => base,
@@ -83,7 +83,7 @@ impl Modes {
     /// The netlist.
     pub fn netlist(&self) -> &Netlist
         ensures value { result.now ≡ self.now.netlist }
-        ensures kept { AreModesOf self.now.netlist self.now.bases }
+        ensures kept { AreModesOfNetlist self.now.netlist self.now.bases }
     {
         match &self.moded {
             Some(netlist) => netlist,

@@ -7,7 +7,7 @@ use Rattle.std.proofs.lemmas.Option.{slice_get-map, slice_get_past}
 use Rattle.grammar.specs.declared.words.Ident.{Ident}
 use Rattle.net_model.specs.declared.units.NetExpr.{NetExpr}
 use Rattle.net_model.specs.declared.units.Port.{Port}
-use Rattle.net_model.specs.Written.{Phrase, phrase_of, binding_of}
+use Rattle.net_model.specs.Written.{NetExprModel, model_of_net_expr, binding_of}
 use Rattle.net_model.specs.TextNames.{is_port, port_named}
 use Rattle.rec_bits.specs.Faults.{same_name}
 use Rattle.net_model.specs.Numbering.{port_place, bound}
@@ -65,23 +65,23 @@ port_found output table ports name h =
 
 -- ---- what is bound
 
-bound_head : (same : Bool) (b : Ident × Phrase) (bindings : List (Ident × Phrase)) (n : ℕ) (found : Option Phrase) → found ≡ option_map (λ (x : Ident × Phrase). x.1) (slice_get bindings n)
-    → (if same then Some b.1 else found) ≡ option_map (λ (x : Ident × Phrase). x.1) (slice_get (b ∷ bindings) (if same then 0 else n + 1))
+bound_head : (same : Bool) (b : Ident × NetExprModel) (bindings : List (Ident × NetExprModel)) (n : ℕ) (found : Option NetExprModel) → found ≡ option_map (λ (x : Ident × NetExprModel). x.1) (slice_get bindings n)
+    → (if same then Some b.1 else found) ≡ option_map (λ (x : Ident × NetExprModel). x.1) (slice_get (b ∷ bindings) (if same then 0 else n + 1))
 bound_head true b bindings n found h = refl
 bound_head false b bindings n found h = rw add-one h
 
-bound_at : (bindings : List (Ident × Phrase)) (name : List ℕ) → bound bindings name ≡ option_map (λ (x : Ident × Phrase). x.1) (slice_get bindings (bound_place bindings name))
+bound_at : (bindings : List (Ident × NetExprModel)) (name : List ℕ) → bound bindings name ≡ option_map (λ (x : Ident × NetExprModel). x.1) (slice_get bindings (bound_place bindings name))
 bound_at [] name = refl
 bound_at (b ∷ bindings) name = bound_head (same_name b.0.name name) b bindings (bound_place bindings name) (bound bindings name) (bound_at bindings name)
 
-twice_seen : (found : Option (Ident × NetExpr)) → option_map (λ (x : Ident × Phrase). x.1) (option_map binding_of found) ≡ option_map (λ (b : Ident × NetExpr). phrase_of b.1) found
+twice_seen : (found : Option (Ident × NetExpr)) → option_map (λ (x : Ident × NetExprModel). x.1) (option_map binding_of found) ≡ option_map (λ (b : Ident × NetExpr). model_of_net_expr b.1) found
 twice_seen None = refl
 twice_seen (Some b) = refl
 
 pub bound_found : (table : List (List ℕ × ℕ)) (bindings : List (Ident × NetExpr)) (name : List ℕ) → HasPlaces table (length bindings) (bound_place []) (bound_place (map binding_of bindings))
-    → option_map (λ (b : Ident × NetExpr). phrase_of b.1) (item_at bindings (lookup (same_name name) table)) ≡ bound (map binding_of bindings) name
+    → option_map (λ (b : Ident × NetExpr). model_of_net_expr b.1) (item_at bindings (lookup (same_name name) table)) ≡ bound (map binding_of bindings) name
 bound_found table bindings name h =
-    ap (option_map (λ (b : Ident × NetExpr). phrase_of b.1)) (found_item bindings (lookup (same_name name) table) (bound_place (map binding_of bindings) name) (h.first name))
+    ap (option_map (λ (b : Ident × NetExpr). model_of_net_expr b.1)) (found_item bindings (lookup (same_name name) table) (bound_place (map binding_of bindings) name) (h.first name))
     ∙ sym (twice_seen (slice_get bindings (bound_place (map binding_of bindings) name)))
-    ∙ ap (option_map (λ (x : Ident × Phrase). x.1)) (sym (slice_get-map binding_of bindings (bound_place (map binding_of bindings) name)))
+    ∙ ap (option_map (λ (x : Ident × NetExprModel). x.1)) (sym (slice_get-map binding_of bindings (bound_place (map binding_of bindings) name)))
     ∙ sym (bound_at (map binding_of bindings) name)

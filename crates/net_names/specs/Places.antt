@@ -4,7 +4,7 @@ use Rattle.std.specs.Map.{lookup}
 use Rattle.std.proofs.Common.{Bor}
 use Rattle.grammar.specs.declared.words.Ident.{Ident}
 use Rattle.net_model.specs.declared.units.Port.{Port}
-use Rattle.net_model.specs.Written.{Phrase}
+use Rattle.net_model.specs.Written.{NetExprModel}
 use Rattle.rec_bits.specs.Faults.{same_name}
 use Rattle.net_model.specs.Numbering.{port_place}
 
@@ -34,7 +34,7 @@ pub record HasPlaces (table : List (List ℕ × ℕ)) (before : ℕ) (rest all :
   pub first : (name : List ℕ) → place_or (lookup (same_name name) table) before (rest name) ≡ all name
 
 -- the place of the first binding of a name, and the number of bindings where there is none
-abbrev pub bound_place : List (Ident × Phrase) → List ℕ → ℕ
+abbrev pub bound_place : List (Ident × NetExprModel) → List ℕ → ℕ
 bound_place [] name = 0
 bound_place (b ∷ bindings) name = if same_name b.0.name name then 0 else bound_place bindings name + 1
 

@@ -2,9 +2,9 @@
 
 ghost use Rattle.std.specs.Prelude.{◌≡◌, IfOk, map, option_copied, option_map};
 ghost use Rattle.net_model.specs.Numbering.{bound};
-ghost use Rattle.net_model.specs.Written.{binding_of, phrase_of};
+ghost use Rattle.net_model.specs.Written.{binding_of, model_of_net_expr};
 
-use crate::table::{Table, item_at};
+use crate::table::{SymbolTable, item_at};
 use net_model::{Ident, NetExpr};
 use rec_bits::{Name, NoMemory};
 use std::alloc::Global;
@@ -14,7 +14,7 @@ use std::marker::Model;
 #[derive(Drop)]
 pub struct Bindings<'a> {
     bindings: &'a [(Ident, NetExpr)],
-    table: Table<'a>,
+    table: SymbolTable<'a>,
 }
 
 impl<'a> Model for Bindings<'a> {
@@ -41,7 +41,7 @@ impl<'a> Bindings<'a> {
     pub fn new(alloc: Global, bindings: &'a [(Ident, NetExpr)]) -> Result<Bindings<'a>, NoMemory>
         ensures { IfOk result (λ b. b ≡ bindings.now) }
     {
-        let mut table = Table::new(alloc);
+        let mut table = SymbolTable::new(alloc);
         for (i, binding) in bindings.iter().enumerate() {
             table.enter(&binding.0.name, i)?;
         }
@@ -50,7 +50,7 @@ impl<'a> Bindings<'a> {
 
     /// What is bound to a name first, or None where nothing is.
     pub fn bound(&self, name: &Name) -> Option<&'a NetExpr>
-        ensures { option_map phrase_of (option_copied result) ≡ bound (map binding_of self.now) name.now }
+        ensures { option_map model_of_net_expr (option_copied result) ≡ bound (map binding_of self.now) name.now }
     {
         match item_at(self.bindings, self.table.place(name)) {
             Some(binding) => Some(&binding.1),

@@ -11,7 +11,7 @@
 //!
 //! Files:
 //!
-//! - `table`: `Table`, from names to the places where they stand first.
+//! - `table`: `SymbolTable`, from names to the places where they stand first.
 //! - `names`: the items of a text by their names.
 //! - `ports`: the ports of a module by their names, each direction for itself.
 //! - `bindings`: the links of a part and the equations of a module by their names.
@@ -29,4 +29,4 @@ mod table;
 pub use bindings::Bindings;
 pub use names::{Names, name_of};
 pub use ports::Ports;
-pub use table::Table;
+pub use table::SymbolTable;

@@ -2,9 +2,9 @@
 
 ghost use Rattle.std.specs.Prelude.{◌≡◌, IfOk, option_copied, option_map, map};
 ghost use Rattle.net_model.specs.TextNames.{own_name, place_named, item_named};
-ghost use Rattle.net_model.specs.Written.{entry_of};
+ghost use Rattle.net_model.specs.Written.{model_of_unit};
 
-use crate::table::Table;
+use crate::table::SymbolTable;
 use net_model::{Ident, Unit, Units};
 use rec_bits::{Name, NoMemory};
 use std::alloc::Global;
@@ -14,7 +14,7 @@ use std::marker::Model;
 #[derive(Drop)]
 pub struct Names<'a> {
     units: &'a Units,
-    table: Table<'a>,
+    table: SymbolTable<'a>,
 }
 
 impl<'a> Model for Names<'a> {
@@ -23,7 +23,7 @@ impl<'a> Model for Names<'a> {
     ghost use Rattle.net_model.specs.contracts.units.NetExpr as e;
     ghost use Rattle.net_model.specs.declared.units.Unit.{Unit as Item};
     ghost use Rattle.net_model.specs.TextNames.{place_named};
-    ghost use Rattle.net_model.specs.Written.{entry_of};
+    ghost use Rattle.net_model.specs.Written.{model_of_unit};
     ghost use Rattle.net_names.specs.Places.{HasPlaces};
 
     ghost Value = { List Item };
@@ -33,7 +33,7 @@ impl<'a> Model for Names<'a> {
     ghost view = { λ names. names.units.now.items };
 
     ghost invariant = { λ names. HasPlaces names.table (length names.units.now.items)
-        (place_named []) (place_named (map entry_of names.units.now.items)) };
+        (place_named []) (place_named (map model_of_unit names.units.now.items)) };
 }
 
 impl<'a> Names<'a> {
@@ -41,7 +41,7 @@ impl<'a> Names<'a> {
     pub fn new(alloc: Global, units: &'a Units) -> Result<Names<'a>, NoMemory>
         ensures { IfOk result (λ names. names ≡ units.now.items) }
     {
-        let mut table = Table::new(alloc);
+        let mut table = SymbolTable::new(alloc);
         for (i, unit) in units.items.as_slice().iter().enumerate() {
             table.enter(&name_of(unit).name, i)?;
         }
@@ -50,7 +50,7 @@ impl<'a> Names<'a> {
 
     /// The place of the first item of a name, and the number of items where there is none.
     pub fn place(&self, name: &Name) -> usize
-        ensures { result ≡ place_named (map entry_of self.now) name.now }
+        ensures { result ≡ place_named (map model_of_unit self.now) name.now }
     {
         match self.table.place(name) {
             Some(place) => place,
@@ -60,7 +60,7 @@ impl<'a> Names<'a> {
 
     /// The first item of a name, or None where there is none.
     pub fn item(&self, name: &Name) -> Option<&'a Unit>
-        ensures { option_map entry_of (option_copied result) ≡ item_named (map entry_of self.now) name.now }
+        ensures { option_map model_of_unit (option_copied result) ≡ item_named (map model_of_unit self.now) name.now }
     {
         self.units.items.get(self.place(name))
     }
@@ -68,7 +68,7 @@ impl<'a> Names<'a> {
 
 /// The name of an item.
 pub fn name_of(unit: &Unit) -> &Ident
-    ensures { result.now ≡ own_name (entry_of unit.now) }
+    ensures { result.now ≡ own_name (model_of_unit unit.now) }
 {
     match unit {
         Unit::Code { name, .. }

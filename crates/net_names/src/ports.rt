@@ -4,7 +4,7 @@ ghost use Rattle.std.specs.Prelude.{◌≡◌, [], IfOk, OnOk, length, map, opti
 ghost use Rattle.net_model.specs.TextNames.{port_named};
 ghost use Rattle.net_names.specs.Places.{HasPortPlaces, inputs_of, lent};
 
-use crate::table::{Table, item_at};
+use crate::table::{SymbolTable, item_at};
 use net_model::Port;
 use rec_bits::{Items, Name, NoMemory};
 use std::alloc::Global;
@@ -15,8 +15,8 @@ use std::marker::Model;
 pub struct Ports<'a> {
     ports: &'a [Port],
     input_ports: Items<&'a Port>,
-    inputs: Table<'a>,
-    outputs: Table<'a>,
+    inputs: SymbolTable<'a>,
+    outputs: SymbolTable<'a>,
 }
 
 impl<'a> Model for Ports<'a> {
@@ -35,8 +35,8 @@ impl<'a> Model for Ports<'a> {
 /// Gives the names of ports their first places, each in the table of its direction. The tables are
 /// empty before.
 fn enter_ports<'a>(
-    inputs: &mut Table<'a>,
-    outputs: &mut Table<'a>,
+    inputs: &mut SymbolTable<'a>,
+    outputs: &mut SymbolTable<'a>,
     ports: &'a [Port],
 ) -> Result<(), NoMemory>
     requires inputs { inputs.old ≡ [] }
@@ -72,8 +72,8 @@ impl<'a> Ports<'a> {
         ensures { IfOk result (λ table. table ≡ ports.now) }
     {
         let input_ports = inputs_of(alloc, ports)?;
-        let mut inputs = Table::new(alloc);
-        let mut outputs = Table::new(alloc);
+        let mut inputs = SymbolTable::new(alloc);
+        let mut outputs = SymbolTable::new(alloc);
         enter_ports(&mut inputs, &mut outputs, ports)?;
         Ok(Ports {
             ports,

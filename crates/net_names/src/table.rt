@@ -12,11 +12,11 @@ use std::marker::Model;
 
 /// Names with their places. Contracts see it as the list of the pairs.
 #[derive(Drop)]
-pub struct Table<'a> {
+pub struct SymbolTable<'a> {
     first: IndexMap<&'a [u8], usize>,
 }
 
-impl<'a> Model for Table<'a> {
+impl<'a> Model for SymbolTable<'a> {
     ghost use Rattle.std.specs.Prelude.{ℕ, List};
     ghost use Rattle.net_names.specs.Places.{name_pairs};
 
@@ -25,14 +25,14 @@ impl<'a> Model for Table<'a> {
     ghost view = { λ table. name_pairs table.first.entries };
 }
 
-impl<'a> Table<'a> {
+impl<'a> SymbolTable<'a> {
     ghost use Rattle.std.specs.Prelude.{[]};
 
     /// The table without names.
-    pub fn new(alloc: Global) -> Table<'a>
+    pub fn new(alloc: Global) -> SymbolTable<'a>
         ensures { result ≡ [] }
     {
-        Table {
+        SymbolTable {
             first: IndexMap::new(alloc),
         }
     }

@@ -11,7 +11,7 @@ use Rattle.net_model.specs.declared.words.Symbol.TheVariants.{Semicolon, Version
 use Rattle.net_model.specs.declared.words.ItemWord.TheVariants.{File, Mode, Bank}
 use Rattle.net_model.specs.Editions.{Lexed, added_by}
 use Rattle.net_model.specs.Grammar.{IsEditionNumber, IsHead, IsItems}
-use Rattle.net_model.specs.Written.{Entry}
+use Rattle.net_model.specs.Written.{UnitModel}
 use Rattle.net_parser.specs.Inner.Steps.{IsHeadNumber, version_word, after_head, after_items}
 use Rattle.net_parser.proofs.ItemParts.{there_item, itemed}
 
@@ -24,7 +24,7 @@ there_edition = there_behind (there_before there_edition_number)
 pub there_items : There IsItems
 there_items = there_bind there_item (λ f. there_bind there_many (λ o. there_return))
 
-pub head_apart : {W : Type 0} {make : Option ℕ → List Entry → W} → Apart after_head (λ head. Bind IsItems (λ _ items. Return (make head items))) after_items
+pub head_apart : {W : Type 0} {make : Option ℕ → List UnitModel → W} → Apart after_head (λ head. Bind IsItems (λ _ items. Return (make head items))) after_items
 head_apart = starts_apart (λ a. starts_inner (starts_inner itemed.starts)) (λ t h. ap version_word h.1)
 
 -- the number of a head is that of an edition

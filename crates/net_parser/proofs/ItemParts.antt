@@ -1,6 +1,6 @@
 -- Items and their parts.
 use Rattle.std.proofs.Common.{◌≡◌, ℕ, zero, suc, Bool, true, false, IsTrue, ◌↔◌, List, [], ◌∷◌, ◌++◌, length, Option, Some, map, refl, sym, ap, subst, ◌∙◌}
-use Rattle.grammar.specs.declared.stop.Stop.TheVariants.{At as StopsAt}
+use Rattle.grammar.specs.declared.stop.ParseStop.TheVariants.{At as StopsAt}
 use Rattle.grammar.specs.Reading.{Return, Bind, without, with_one, ListOf, head, Stops, never, Reads, FailsAs, Leads}
 use Rattle.grammar.proofs.Steps.{fails_here}
 use Rattle.grammar.proofs.Passing.{There, there_token, there_bind, there_return, there_maybe, there_many, Apart, Starts, starts_bind, starts_inner, starts_apart, stops_at, returned}
@@ -15,7 +15,7 @@ use Rattle.net_model.specs.declared.words.ItemWord.{ItemWord}
 use Rattle.net_model.specs.declared.words.ItemWord.TheVariants.{Code}
 use Rattle.net_model.specs.declared.words.Symbol.{Symbol}
 use Rattle.net_model.specs.declared.words.Symbol.TheVariants.{Semicolon, Comma, In, Out, When, Write}
-use Rattle.net_model.specs.Written.{Phrase, Entry}
+use Rattle.net_model.specs.Written.{NetExprModel, UnitModel}
 use Rattle.grammar.specs.Tokens.{Behind, Before, ByWord, IsName, BeginsSo}
 use Rattle.net_parser.specs.Inner.Steps.{HasNoItem, expr_word, first_word, name_word, when_word, link_word, item_word, after_expr, after_when, after_drivers, after_equations, after_links, after_list, after_items}
 use Rattle.grammar.proofs.Tokens.{Shown, begun, there_name, there_number, there_behind, there_before, there_word}
@@ -36,11 +36,11 @@ there_written = there_bind (there_expr 64) (λ v. there_bind there_fed (λ f. th
 pub there_write : There IsWrite
 there_write = there_behind there_written
 
-pub there_maybe_written : (none : Phrase × (Phrase × Option Phrase)) → There (ByWord (WriteBehind none))
+pub there_maybe_written : (none : NetExprModel × (NetExprModel × Option NetExprModel)) → There (ByWord (WriteBehind none))
 there_maybe_written none = there_word (WriteBehind none) (Shows Semicolon) 0 there_return
 
 -- behind the sizes of a bank there is a write or the end
-pub no_write_word : (none : Phrase × (Phrase × Option Phrase)) (w : Word) → (w ≡ Shows Semicolon → ⊥) → (w ≡ Shows Write → ⊥) → (at : ℕ) (x : List Lexed) (v : Phrase × (Phrase × Option Phrase)) → WriteBehind none w at x v → ⊥
+pub no_write_word : (none : NetExprModel × (NetExprModel × Option NetExprModel)) (w : Word) → (w ≡ Shows Semicolon → ⊥) → (w ≡ Shows Write → ⊥) → (at : ℕ) (x : List Lexed) (v : NetExprModel × (NetExprModel × Option NetExprModel)) → WriteBehind none w at x v → ⊥
 no_write_word none (Shows Semicolon) f g at x v h = f refl
 no_write_word none (Shows Write) f g at x v h = g refl
 no_write_word none _ f g at x v h = absurd h
@@ -79,15 +79,15 @@ starts_when = record {
   ];
 }
 
-pub when_apart : {U W : Type 0} {B : U → List Lexed → Option Phrase → List Lexed → W → Type 0} {more : Lexed → Bool} → Apart after_expr (λ a. Bind (Before IsWhen Semicolon) (B a)) more
+pub when_apart : {U W : Type 0} {B : U → List Lexed → Option NetExprModel → List Lexed → W → Type 0} {more : Lexed → Bool} → Apart after_expr (λ a. Bind (Before IsWhen Semicolon) (B a)) more
 when_apart = starts_apart (λ a. starts_inner starts_when) (λ t h. h)
 
-leaf_first : (w : Word) (at : ℕ) (x : List Lexed) (v : Phrase) → LeafBehind w at x v → first_word w ≡ true
+leaf_first : (w : Word) (at : ℕ) (x : List Lexed) (v : NetExprModel) → LeafBehind w at x v → first_word w ≡ true
 leaf_first (Name n) at x v h = refl
 leaf_first (Number n) at x v h = refl
 leaf_first _ at x v h = absurd h
 
-expr_first : (E : List Lexed → Phrase → Type 0) (w : Word) (at : ℕ) (x : List Lexed) (v : Phrase) → ExprBehind E w at x v → first_word w ≡ true
+expr_first : (E : List Lexed → NetExprModel → Type 0) (w : Word) (at : ℕ) (x : List Lexed) (v : NetExprModel) → ExprBehind E w at x v → first_word w ≡ true
 expr_first E (Keyed (Operates o)) at x v h = refl
 expr_first E (Name n) at x v h = refl
 expr_first E (Number n) at x v h = refl
@@ -144,7 +144,7 @@ when_narrow (t ∷ c) h = when_goes_on t.word h
 pub itemed : Repeated (λ t. (i : ItemWord) × (t.word ≡ Keyed (Begins i))) IsItem never after_items
 itemed = record { starts = item_starts; opens = λ t h. ap item_word h.1; apart = λ t h. refl; wider = λ t h. refl }
   where
-    item_words : (w : Word) (at : ℕ) (x : List Lexed) (v : Entry) → ItemByWord w at x v → (i : ItemWord) × (w ≡ Keyed (Begins i))
+    item_words : (w : Word) (at : ℕ) (x : List Lexed) (v : UnitModel) → ItemByWord w at x v → (i : ItemWord) × (w ≡ Keyed (Begins i))
     item_words (Keyed (Begins i)) at x v h = (i, refl)
     item_words _ at x v h = absurd h
 

@@ -7,7 +7,7 @@ use Rattle.net_model.specs.Editions.{Lexed, Word}
 use Rattle.net_model.specs.Grammar.{IsRange, IsBits, LeafBehind, IsLeaf}
 use Rattle.grammar.specs.declared.words.Word.TheVariants.{Name, Number, Symbol as Shows}
 use Rattle.net_model.specs.declared.words.Symbol.TheVariants.{Dot}
-use Rattle.net_model.specs.Written.{Phrase}
+use Rattle.net_model.specs.Written.{NetExprModel}
 use Rattle.net_parser.specs.Inner.Steps.{dot_word, expr_word, after_field, after_expr}
 use Rattle.grammar.proofs.Tokens.{there_number, there_behind, there_word, begun}
 
@@ -24,7 +24,7 @@ dot_goes_on _ e = refl
 pub field_apart : {W : Type 0} {make : Option Ident → Option (ℕ × ℕ) → W} → Apart after_field (λ f. Bind IsBits (λ _ b. Return (make f b))) after_expr
 field_apart = maybe_apart begun (λ t h. ap dot_word h) (λ t e. dot_goes_on t.word e) (λ a o x w r. r.empty)
 
-pub no_leaf : (w : Word) → ((n : List ℕ) → w ≡ Name n → ⊥) → ((n : ℕ) → w ≡ Number n → ⊥) → (at : ℕ) (x : List Lexed) (v : Phrase) → LeafBehind w at x v → ⊥
+pub no_leaf : (w : Word) → ((n : List ℕ) → w ≡ Name n → ⊥) → ((n : ℕ) → w ≡ Number n → ⊥) → (at : ℕ) (x : List Lexed) (v : NetExprModel) → LeafBehind w at x v → ⊥
 no_leaf (Name n) a b at x v h = a n refl
 no_leaf (Number n) a b at x v h = b n refl
 no_leaf _ a b at x v h = h

@@ -5,7 +5,7 @@ use Rattle.rec_bits.specs.declared.fault.ParseFault.TheVariants.{Text, Memory}
 use Rattle.net_lexer.specs.Netlists.{net_tokens}
 use Rattle.net_model.specs.Editions.{Lexed}
 use Rattle.net_model.specs.Grammar.{IsText}
-use Rattle.net_model.specs.Written.{Text as NetText}
+use Rattle.net_model.specs.Written.{UnitsModel as NetText}
 use Rattle.grammar.specs.Parses.{IsFaultAt}
 use Rattle.net_parser.specs.Words.{net_words}
 

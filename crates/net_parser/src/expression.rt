@@ -7,12 +7,12 @@ ghost use Rattle.grammar.specs.declared.words.Word.TheVariants.{Number, Symbol a
 ghost use Rattle.net_model.specs.declared.words.Symbol.TheVariants.{Comma, RightParen};
 ghost use Rattle.net_model.specs.Grammar.{ArmsBehind, IsArms, IsElse, IsExpr, IsOperated, IsPair, IsWidened, NumbersBehind, RowBehind, RowsBehind};
 ghost use Rattle.grammar.specs.Tokens.{Before, Behind, ByWord, IsNumber};
-ghost use Rattle.net_model.specs.Written.{other_of, phrase_of, row_of};
+ghost use Rattle.net_model.specs.Written.{other_of, model_of_net_expr, model_of_case_row};
 ghost use Rattle.net_parser.specs.Inner.Steps.{HasNoNumber, HasNoOperator, OpensNumber, OpensOperator, after_arms, after_expr, after_list, after_rows, expr_word};
 
 use crate::leaf::leaf;
 use grammar::{
-    Stop, begins_with, expect, front, keeping, name_behind, number_behind, number_between,
+    ParseStop, begins_with, expect, front, keeping, name_behind, number_behind, number_between,
 };
 use net_model::{Key, Lexed, NetExpr, Operator, Symbol, Word};
 use std::alloc::Global;
@@ -44,7 +44,7 @@ fn number_at(ts: &[Lexed]) -> Option<(u64, &[Lexed])>
 }
 
 /// The numbers of a row behind its first one.
-fn numbers(alloc: Global, first: u64, ts: &[Lexed]) -> Result<(Vec<u64>, &[Lexed]), Stop>
+fn numbers(alloc: Global, first: u64, ts: &[Lexed]) -> Result<(Vec<u64>, &[Lexed]), ParseStop>
     ensures { Gives (λ x. (x.0.items, x.1.now)) (NumbersBehind first) after_list ts.now result }
 {
     let mut numbers = Vec::new(alloc);
@@ -60,8 +60,8 @@ fn numbers(alloc: Global, first: u64, ts: &[Lexed]) -> Result<(Vec<u64>, &[Lexed
 
 /// An expression.
 #[cycle(expr)]
-pub fn expr(alloc: Global, depth: u8, ts: &[Lexed]) -> Result<(NetExpr, &[Lexed]), Stop>
-    ensures { Gives (λ x. (phrase_of x.0, x.1.now)) (IsExpr depth) after_expr ts.now result }
+pub fn expr(alloc: Global, depth: u8, ts: &[Lexed]) -> Result<(NetExpr, &[Lexed]), ParseStop>
+    ensures { Gives (λ x. (model_of_net_expr x.0, x.1.now)) (IsExpr depth) after_expr ts.now result }
 {
     let Some((operator, rest)) = operator_at(ts) else {
         return leaf(alloc, ts);
@@ -79,8 +79,8 @@ fn operated(
     operator: Operator,
     depth: u8,
     ts: &[Lexed],
-) -> Result<(NetExpr, &[Lexed]), Stop>
-    ensures { Gives (λ x. (phrase_of x.0, x.1.now)) (IsOperated (IsExpr depth) operator) after_expr ts.now result }
+) -> Result<(NetExpr, &[Lexed]), ParseStop>
+    ensures { Gives (λ x. (model_of_net_expr x.0, x.1.now)) (IsOperated (IsExpr depth) operator) after_expr ts.now result }
 {
     match operator {
         Operator::Unary(op) => {
@@ -116,8 +116,8 @@ pub fn expr_behind(
     symbol: Symbol,
     depth: u8,
     ts: &[Lexed],
-) -> Result<(NetExpr, &[Lexed]), Stop>
-    ensures { Gives (λ x. (phrase_of x.0, x.1.now)) (Behind symbol (IsExpr depth)) after_expr ts.now result }
+) -> Result<(NetExpr, &[Lexed]), ParseStop>
+    ensures { Gives (λ x. (model_of_net_expr x.0, x.1.now)) (Behind symbol (IsExpr depth)) after_expr ts.now result }
 {
     let rest = expect(symbol, ts)?;
     expr(alloc, depth, rest)
@@ -131,9 +131,9 @@ pub fn enclosed(
     last: Symbol,
     depth: u8,
     ts: &[Lexed],
-) -> Result<(NetExpr, &[Lexed]), Stop>
+) -> Result<(NetExpr, &[Lexed]), ParseStop>
     requires { expr_word (Shows last) ≡ false }
-    ensures { Gives (λ x. (phrase_of x.0, x.1.now)) (Before (Behind first (IsExpr depth)) last) never ts.now result }
+    ensures { Gives (λ x. (model_of_net_expr x.0, x.1.now)) (Before (Behind first (IsExpr depth)) last) never ts.now result }
 {
     let (a, rest) = expr_behind(alloc, first, depth, ts)?;
     keeping(a, expect(last, rest))
@@ -145,8 +145,8 @@ fn pair(
     alloc: Global,
     depth: u8,
     ts: &[Lexed],
-) -> Result<((Box<NetExpr>, Box<NetExpr>), &[Lexed]), Stop>
-    ensures { Gives (λ x. ((phrase_of x.0.0.value, phrase_of x.0.1.value), x.1.now))
+) -> Result<((Box<NetExpr>, Box<NetExpr>), &[Lexed]), ParseStop>
+    ensures { Gives (λ x. ((model_of_net_expr x.0.0.value, model_of_net_expr x.0.1.value), x.1.now))
         (IsPair (IsExpr depth)) never ts.now result }
 {
     let (a, rest) = expr_behind(alloc, Symbol::LeftParen, depth, ts)?;
@@ -158,8 +158,12 @@ fn pair(
 
 /// An operand and a width.
 #[cycle(expr)]
-fn widened(alloc: Global, depth: u8, ts: &[Lexed]) -> Result<((Box<NetExpr>, u64), &[Lexed]), Stop>
-    ensures { Gives (λ x. ((phrase_of x.0.0.value, x.0.1), x.1.now)) (IsWidened (IsExpr depth)) never ts.now result }
+fn widened(
+    alloc: Global,
+    depth: u8,
+    ts: &[Lexed],
+) -> Result<((Box<NetExpr>, u64), &[Lexed]), ParseStop>
+    ensures { Gives (λ x. ((model_of_net_expr x.0.0.value, x.0.1), x.1.now)) (IsWidened (IsExpr depth)) never ts.now result }
 {
     let (a, rest) = expr_behind(alloc, Symbol::LeftParen, depth, ts)?;
     let a = Box::new(alloc, a)?;
@@ -169,8 +173,8 @@ fn widened(alloc: Global, depth: u8, ts: &[Lexed]) -> Result<((Box<NetExpr>, u64
 
 /// A slice, behind its word.
 #[cycle(expr)]
-fn sliced(alloc: Global, depth: u8, ts: &[Lexed]) -> Result<(NetExpr, &[Lexed]), Stop>
-    ensures { Gives (λ x. (phrase_of x.0, x.1.now)) (IsOperated (IsExpr depth) Slice) after_expr ts.now result }
+fn sliced(alloc: Global, depth: u8, ts: &[Lexed]) -> Result<(NetExpr, &[Lexed]), ParseStop>
+    ensures { Gives (λ x. (model_of_net_expr x.0, x.1.now)) (IsOperated (IsExpr depth) Slice) after_expr ts.now result }
 {
     let (a, rest) = expr_behind(alloc, Symbol::LeftParen, depth, ts)?;
     let a = Box::new(alloc, a)?;
@@ -181,8 +185,8 @@ fn sliced(alloc: Global, depth: u8, ts: &[Lexed]) -> Result<(NetExpr, &[Lexed]),
 
 /// A read, behind its word.
 #[cycle(expr)]
-fn reading(alloc: Global, depth: u8, ts: &[Lexed]) -> Result<(NetExpr, &[Lexed]), Stop>
-    ensures { Gives (λ x. (phrase_of x.0, x.1.now)) (IsOperated (IsExpr depth) Read) after_expr ts.now result }
+fn reading(alloc: Global, depth: u8, ts: &[Lexed]) -> Result<(NetExpr, &[Lexed]), ParseStop>
+    ensures { Gives (λ x. (model_of_net_expr x.0, x.1.now)) (IsOperated (IsExpr depth) Read) after_expr ts.now result }
 {
     let (memory, rest) = name_behind(alloc, Symbol::LeftParen, ts)?;
     let (a, rest) = enclosed(alloc, Symbol::Comma, Symbol::RightParen, depth, rest)?;
@@ -192,8 +196,8 @@ fn reading(alloc: Global, depth: u8, ts: &[Lexed]) -> Result<(NetExpr, &[Lexed])
 
 /// A case, behind its word.
 #[cycle(expr)]
-fn choice(alloc: Global, depth: u8, ts: &[Lexed]) -> Result<(NetExpr, &[Lexed]), Stop>
-    ensures { Gives (λ x. (phrase_of x.0, x.1.now)) (IsOperated (IsExpr depth) Case) after_expr ts.now result }
+fn choice(alloc: Global, depth: u8, ts: &[Lexed]) -> Result<(NetExpr, &[Lexed]), ParseStop>
+    ensures { Gives (λ x. (model_of_net_expr x.0, x.1.now)) (IsOperated (IsExpr depth) Case) after_expr ts.now result }
 {
     let (sel, rest) = expr(alloc, depth, ts)?;
     let sel = Box::new(alloc, sel)?;
@@ -210,8 +214,8 @@ fn choice(alloc: Global, depth: u8, ts: &[Lexed]) -> Result<(NetExpr, &[Lexed]),
 
 /// The rows and the rest of a case, in braces.
 #[cycle(expr)]
-fn braced(alloc: Global, depth: u8, ts: &[Lexed]) -> Result<(Arms, &[Lexed]), Stop>
-    ensures { Gives (λ x. ((map row_of x.0.0.items, other_of x.0.1), x.1.now))
+fn braced(alloc: Global, depth: u8, ts: &[Lexed]) -> Result<(Arms, &[Lexed]), ParseStop>
+    ensures { Gives (λ x. ((map model_of_case_row x.0.0.items, other_of x.0.1), x.1.now))
         (IsArms (IsExpr depth)) never ts.now result }
 {
     let rest = expect(Symbol::LeftBrace, ts)?;
@@ -224,8 +228,8 @@ type Arms = (Vec<(Vec<u64>, NetExpr)>, Option<Box<NetExpr>>);
 
 /// Rows and a rest, of which at least one stands there.
 #[cycle(expr)]
-fn arms(alloc: Global, depth: u8, ts: &[Lexed]) -> Result<(Arms, &[Lexed]), Stop>
-    ensures { Gives (λ x. ((map row_of x.0.0.items, other_of x.0.1), x.1.now))
+fn arms(alloc: Global, depth: u8, ts: &[Lexed]) -> Result<(Arms, &[Lexed]), ParseStop>
+    ensures { Gives (λ x. ((map model_of_case_row x.0.0.items, other_of x.0.1), x.1.now))
         (ByWord (ArmsBehind (IsExpr depth))) after_arms ts.now result }
 {
     if let Some((number, rest)) = number_at(ts) {
@@ -244,8 +248,8 @@ fn rows_behind(
     number: u64,
     depth: u8,
     ts: &[Lexed],
-) -> Result<(Arms, &[Lexed]), Stop>
-    ensures { Gives (λ x. ((map row_of x.0.0.items, other_of x.0.1), x.1.now))
+) -> Result<(Arms, &[Lexed]), ParseStop>
+    ensures { Gives (λ x. ((map model_of_case_row x.0.0.items, other_of x.0.1), x.1.now))
         (ArmsBehind (IsExpr depth) (Number number) 0) after_arms ts.now result }
 {
     let (first, rest) = row(alloc, number, depth, ts)?;
@@ -261,8 +265,8 @@ fn row(
     number: u64,
     depth: u8,
     ts: &[Lexed],
-) -> Result<((Vec<u64>, NetExpr), &[Lexed]), Stop>
-    ensures { Gives (λ x. (row_of x.0, x.1.now)) (RowBehind (IsExpr depth) number) never ts.now result }
+) -> Result<((Vec<u64>, NetExpr), &[Lexed]), ParseStop>
+    ensures { Gives (λ x. (model_of_case_row x.0, x.1.now)) (RowBehind (IsExpr depth) number) never ts.now result }
 {
     let (numbers, rest) = numbers(alloc, number, ts)?;
     let (a, rest) = enclosed(alloc, Symbol::Colon, Symbol::Semicolon, depth, rest)?;
@@ -276,9 +280,9 @@ fn rows(
     first: (Vec<u64>, NetExpr),
     depth: u8,
     ts: &[Lexed],
-) -> Result<(Vec<(Vec<u64>, NetExpr)>, &[Lexed]), Stop>
-    ensures { Gives (λ x. (map row_of x.0.items, x.1.now))
-        (RowsBehind (IsExpr depth) (row_of first)) after_rows ts.now result }
+) -> Result<(Vec<(Vec<u64>, NetExpr)>, &[Lexed]), ParseStop>
+    ensures { Gives (λ x. (map model_of_case_row x.0.items, x.1.now))
+        (RowsBehind (IsExpr depth) (model_of_case_row first)) after_rows ts.now result }
 {
     let mut rows = Vec::new(alloc);
     rows.push(first)?;
@@ -297,7 +301,7 @@ fn otherwise(
     alloc: Global,
     depth: u8,
     ts: &[Lexed],
-) -> Result<(Option<Box<NetExpr>>, &[Lexed]), Stop>
+) -> Result<(Option<Box<NetExpr>>, &[Lexed]), ParseStop>
     ensures { Gives (λ x. (other_of x.0, x.1.now)) (IsElse (IsExpr depth)) after_arms ts.now result }
 {
     if begins_with(Symbol::Else, ts) {

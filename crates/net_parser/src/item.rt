@@ -6,14 +6,14 @@ ghost use Rattle.net_model.specs.declared.words.ItemWord.TheVariants.{Bus, Code,
 ghost use Rattle.net_model.specs.declared.words.Symbol.TheVariants.{At, Semicolon};
 ghost use Rattle.grammar.specs.Tokens.{Before, Behind, ByWord, IsName};
 ghost use Rattle.net_model.specs.Grammar.{IsBank, IsCells, IsFed, IsItem, IsItems, IsLatch, IsWrite, IsWritten, ItemBehind, WriteBehind, no_write};
-ghost use Rattle.net_model.specs.Written.{const, entry_of, phrase_of, when_of};
+ghost use Rattle.net_model.specs.Written.{const, model_of_unit, model_of_net_expr, when_of};
 ghost use Rattle.net_parser.specs.Inner.Steps.{HasNoItem, OpensItem, after_items};
 
 use crate::expression::{enclosed, expr, expr_behind};
 use crate::parts::{
     LEVELS, braced_drivers, braced_equations, enclosed_links, enclosed_ports, sized_name, when_end,
 };
-use grammar::{Stop, expect, front, is_symbol, keeping, name, name_behind, number_behind};
+use grammar::{ParseStop, expect, front, is_symbol, keeping, name, name_behind, number_behind};
 use net_model::{Ident, ItemWord, Key, Lexed, NetExpr, RegisterKind, Space, Symbol, Unit, Word};
 use rec_bits::Items;
 use std::alloc::Global;
@@ -32,7 +32,7 @@ fn item_at(ts: &[Lexed]) -> Option<(ItemWord, &[Lexed])>
 }
 
 /// The name of what counts through an instruction memory, and the end of the item.
-fn counter(alloc: Global, ts: &[Lexed]) -> Result<(Ident, &[Lexed]), Stop>
+fn counter(alloc: Global, ts: &[Lexed]) -> Result<(Ident, &[Lexed]), ParseStop>
     ensures { Gives (λ x. (x.0, x.1.now)) (Before (Behind At IsName) Semicolon) never ts.now result }
 {
     let (name, rest) = name_behind(alloc, Symbol::At, ts)?;
@@ -40,8 +40,8 @@ fn counter(alloc: Global, ts: &[Lexed]) -> Result<(Ident, &[Lexed]), Stop>
 }
 
 /// An instruction memory, behind its word.
-fn code(alloc: Global, ts: &[Lexed]) -> Result<(Unit, &[Lexed]), Stop>
-    ensures { Gives (λ x. (entry_of x.0, x.1.now)) (ItemBehind Code) never ts.now result }
+fn code(alloc: Global, ts: &[Lexed]) -> Result<(Unit, &[Lexed]), ParseStop>
+    ensures { Gives (λ x. (model_of_unit x.0, x.1.now)) (ItemBehind Code) never ts.now result }
 {
     let ((name, bits), rest) = sized_name(alloc, ts)?;
     let (size, rest) = number_behind(Symbol::Size, rest)?;
@@ -59,8 +59,8 @@ fn code(alloc: Global, ts: &[Lexed]) -> Result<(Unit, &[Lexed]), Stop>
 type Fed = (NetExpr, Option<NetExpr>);
 
 /// An expression behind a symbol, an enable, if there is one, and the end of the item.
-fn fed(alloc: Global, symbol: Symbol, ts: &[Lexed]) -> Result<(Fed, &[Lexed]), Stop>
-    ensures { Gives (λ x. ((phrase_of x.0.0, when_of x.0.1), x.1.now)) (IsFed symbol) never ts.now result }
+fn fed(alloc: Global, symbol: Symbol, ts: &[Lexed]) -> Result<(Fed, &[Lexed]), ParseStop>
+    ensures { Gives (λ x. ((model_of_net_expr x.0.0, when_of x.0.1), x.1.now)) (IsFed symbol) never ts.now result }
 {
     let (input, rest) = expr_behind(alloc, symbol, LEVELS, ts)?;
     let (input, (when, rest)) = keeping(input, when_end(alloc, rest))?;
@@ -71,21 +71,21 @@ fn fed(alloc: Global, symbol: Symbol, ts: &[Lexed]) -> Result<(Fed, &[Lexed]), S
 type Write = (NetExpr, Fed);
 
 fn zero(width: u64) -> NetExpr
-    ensures { phrase_of result ≡ const 0 width }
+    ensures { model_of_net_expr result ≡ const 0 width }
 {
     NetExpr::Const { value: 0, width }
 }
 
 /// Three constants of value 0 for what never writes.
 fn no_write(width: u64, addr_width: u64) -> Write
-    ensures { (phrase_of result.0, (phrase_of result.1.0, when_of result.1.1)) ≡ no_write width addr_width }
+    ensures { (model_of_net_expr result.0, (model_of_net_expr result.1.0, when_of result.1.1)) ≡ no_write width addr_width }
 {
     (zero(width), (zero(addr_width), Some(zero(1))))
 }
 
 /// A register or the mode, behind its word.
-fn register(alloc: Global, kind: RegisterKind, ts: &[Lexed]) -> Result<(Unit, &[Lexed]), Stop>
-    ensures { Gives (λ x. (entry_of x.0, x.1.now)) (IsLatch kind) never ts.now result }
+fn register(alloc: Global, kind: RegisterKind, ts: &[Lexed]) -> Result<(Unit, &[Lexed]), ParseStop>
+    ensures { Gives (λ x. (model_of_unit x.0, x.1.now)) (IsLatch kind) never ts.now result }
 {
     let ((name, width), rest) = sized_name(alloc, ts)?;
     let ((input, when), rest) = fed(alloc, Symbol::In, rest)?;
@@ -100,8 +100,8 @@ fn register(alloc: Global, kind: RegisterKind, ts: &[Lexed]) -> Result<(Unit, &[
 }
 
 /// What is written to cells, where and when, and the end of the item, behind `write`.
-fn stored(alloc: Global, ts: &[Lexed]) -> Result<(Write, &[Lexed]), Stop>
-    ensures { Gives (λ x. ((phrase_of x.0.0, (phrase_of x.0.1.0, when_of x.0.1.1)), x.1.now))
+fn stored(alloc: Global, ts: &[Lexed]) -> Result<(Write, &[Lexed]), ParseStop>
+    ensures { Gives (λ x. ((model_of_net_expr x.0.0, (model_of_net_expr x.0.1.0, when_of x.0.1.1)), x.1.now))
         IsWritten never ts.now result }
 {
     let (value, rest) = expr(alloc, LEVELS, ts)?;
@@ -110,8 +110,8 @@ fn stored(alloc: Global, ts: &[Lexed]) -> Result<(Write, &[Lexed]), Stop>
 }
 
 /// What is written to a memory or a file, where and when, and the end of the item.
-fn written(alloc: Global, ts: &[Lexed]) -> Result<(Write, &[Lexed]), Stop>
-    ensures { Gives (λ x. ((phrase_of x.0.0, (phrase_of x.0.1.0, when_of x.0.1.1)), x.1.now))
+fn written(alloc: Global, ts: &[Lexed]) -> Result<(Write, &[Lexed]), ParseStop>
+    ensures { Gives (λ x. ((model_of_net_expr x.0.0, (model_of_net_expr x.0.1.0, when_of x.0.1.1)), x.1.now))
         IsWrite never ts.now result }
 {
     let rest = expect(Symbol::Write, ts)?;
@@ -125,12 +125,12 @@ fn maybe_written(
     width: u64,
     addr_width: u64,
     ts: &[Lexed],
-) -> Result<(Write, &[Lexed]), Stop>
-    ensures { Gives (λ x. ((phrase_of x.0.0, (phrase_of x.0.1.0, when_of x.0.1.1)), x.1.now))
+) -> Result<(Write, &[Lexed]), ParseStop>
+    ensures { Gives (λ x. ((model_of_net_expr x.0.0, (model_of_net_expr x.0.1.0, when_of x.0.1.1)), x.1.now))
         (ByWord (WriteBehind (no_write width addr_width))) never ts.now result }
 {
     let Some((t, rest)) = front(ts) else {
-        return Err(Stop::At(0));
+        return Err(ParseStop::At(0));
     };
     if is_symbol(&t.word, Symbol::Semicolon) {
         return Ok((no_write(width, addr_width), rest));
@@ -138,12 +138,12 @@ fn maybe_written(
     if is_symbol(&t.word, Symbol::Write) {
         return stored(alloc, rest);
     }
-    Err(Stop::At(ts.len()))
+    Err(ParseStop::At(ts.len()))
 }
 
 /// A memory or a register file, behind its word.
-fn memory(alloc: Global, space: Space, ts: &[Lexed]) -> Result<(Unit, &[Lexed]), Stop>
-    ensures { Gives (λ x. (entry_of x.0, x.1.now)) (IsCells space) never ts.now result }
+fn memory(alloc: Global, space: Space, ts: &[Lexed]) -> Result<(Unit, &[Lexed]), ParseStop>
+    ensures { Gives (λ x. (model_of_unit x.0, x.1.now)) (IsCells space) never ts.now result }
 {
     let ((name, width), rest) = sized_name(alloc, ts)?;
     let (size, rest) = number_behind(Symbol::Size, rest)?;
@@ -163,8 +163,8 @@ fn memory(alloc: Global, space: Space, ts: &[Lexed]) -> Result<(Unit, &[Lexed]),
 }
 
 /// A bank, behind its word.
-fn bank(alloc: Global, ts: &[Lexed]) -> Result<(Unit, &[Lexed]), Stop>
-    ensures { Gives (λ x. (entry_of x.0, x.1.now)) IsBank never ts.now result }
+fn bank(alloc: Global, ts: &[Lexed]) -> Result<(Unit, &[Lexed]), ParseStop>
+    ensures { Gives (λ x. (model_of_unit x.0, x.1.now)) IsBank never ts.now result }
 {
     let ((name, width), rest) = sized_name(alloc, ts)?;
     let (size, rest) = number_behind(Symbol::Size, rest)?;
@@ -184,8 +184,8 @@ fn bank(alloc: Global, ts: &[Lexed]) -> Result<(Unit, &[Lexed]), Stop>
 }
 
 /// A net, behind its word.
-fn net(alloc: Global, ts: &[Lexed]) -> Result<(Unit, &[Lexed]), Stop>
-    ensures { Gives (λ x. (entry_of x.0, x.1.now)) (ItemBehind Net) never ts.now result }
+fn net(alloc: Global, ts: &[Lexed]) -> Result<(Unit, &[Lexed]), ParseStop>
+    ensures { Gives (λ x. (model_of_unit x.0, x.1.now)) (ItemBehind Net) never ts.now result }
 {
     let ((name, width), rest) = sized_name(alloc, ts)?;
     let (value, rest) = enclosed(alloc, Symbol::Equals, Symbol::Semicolon, LEVELS, rest)?;
@@ -193,8 +193,8 @@ fn net(alloc: Global, ts: &[Lexed]) -> Result<(Unit, &[Lexed]), Stop>
 }
 
 /// A bus, behind its word.
-fn bus(alloc: Global, ts: &[Lexed]) -> Result<(Unit, &[Lexed]), Stop>
-    ensures { Gives (λ x. (entry_of x.0, x.1.now)) (ItemBehind Bus) never ts.now result }
+fn bus(alloc: Global, ts: &[Lexed]) -> Result<(Unit, &[Lexed]), ParseStop>
+    ensures { Gives (λ x. (model_of_unit x.0, x.1.now)) (ItemBehind Bus) never ts.now result }
 {
     let ((name, width), rest) = sized_name(alloc, ts)?;
     let (drivers, rest) = braced_drivers(alloc, rest)?;
@@ -209,8 +209,8 @@ fn bus(alloc: Global, ts: &[Lexed]) -> Result<(Unit, &[Lexed]), Stop>
 }
 
 /// A module, behind its word.
-fn module(alloc: Global, ts: &[Lexed]) -> Result<(Unit, &[Lexed]), Stop>
-    ensures { Gives (λ x. (entry_of x.0, x.1.now)) (ItemBehind Module) never ts.now result }
+fn module(alloc: Global, ts: &[Lexed]) -> Result<(Unit, &[Lexed]), ParseStop>
+    ensures { Gives (λ x. (model_of_unit x.0, x.1.now)) (ItemBehind Module) never ts.now result }
 {
     let (name, rest) = name(alloc, ts)?;
     let (ports, rest) = enclosed_ports(alloc, rest)?;
@@ -226,8 +226,8 @@ fn module(alloc: Global, ts: &[Lexed]) -> Result<(Unit, &[Lexed]), Stop>
 }
 
 /// A part, behind its word.
-fn part(alloc: Global, ts: &[Lexed]) -> Result<(Unit, &[Lexed]), Stop>
-    ensures { Gives (λ x. (entry_of x.0, x.1.now)) (ItemBehind Part) never ts.now result }
+fn part(alloc: Global, ts: &[Lexed]) -> Result<(Unit, &[Lexed]), ParseStop>
+    ensures { Gives (λ x. (model_of_unit x.0, x.1.now)) (ItemBehind Part) never ts.now result }
 {
     let (name, rest) = name(alloc, ts)?;
     let (module, rest) = name_behind(alloc, Symbol::Colon, rest)?;
@@ -244,8 +244,8 @@ fn part(alloc: Global, ts: &[Lexed]) -> Result<(Unit, &[Lexed]), Stop>
 }
 
 /// An item behind its word.
-fn item_behind(alloc: Global, word: ItemWord, ts: &[Lexed]) -> Result<(Unit, &[Lexed]), Stop>
-    ensures { Gives (λ x. (entry_of x.0, x.1.now)) (ItemBehind word) never ts.now result }
+fn item_behind(alloc: Global, word: ItemWord, ts: &[Lexed]) -> Result<(Unit, &[Lexed]), ParseStop>
+    ensures { Gives (λ x. (model_of_unit x.0, x.1.now)) (ItemBehind word) never ts.now result }
 {
     match word {
         ItemWord::Code => code(alloc, ts),
@@ -262,18 +262,18 @@ fn item_behind(alloc: Global, word: ItemWord, ts: &[Lexed]) -> Result<(Unit, &[L
 }
 
 /// An item.
-fn item(alloc: Global, ts: &[Lexed]) -> Result<(Unit, &[Lexed]), Stop>
-    ensures { Gives (λ x. (entry_of x.0, x.1.now)) IsItem never ts.now result }
+fn item(alloc: Global, ts: &[Lexed]) -> Result<(Unit, &[Lexed]), ParseStop>
+    ensures { Gives (λ x. (model_of_unit x.0, x.1.now)) IsItem never ts.now result }
 {
     let Some((word, rest)) = item_at(ts) else {
-        return Err(Stop::At(ts.len()));
+        return Err(ParseStop::At(ts.len()));
     };
     item_behind(alloc, word, rest)
 }
 
 /// The items at the front, one at least.
-pub fn items(alloc: Global, ts: &[Lexed]) -> Result<(Items<Unit>, &[Lexed]), Stop>
-    ensures { Gives (λ x. (map entry_of x.0, x.1.now)) IsItems after_items ts.now result }
+pub fn items(alloc: Global, ts: &[Lexed]) -> Result<(Items<Unit>, &[Lexed]), ParseStop>
+    ensures { Gives (λ x. (map model_of_unit x.0, x.1.now)) IsItems after_items ts.now result }
 {
     let (first, rest) = item(alloc, ts)?;
     let mut items = Items::new(alloc);

@@ -5,11 +5,11 @@ ghost use Rattle.grammar.specs.Reading.{Gives, ListOf, never};
 ghost use Rattle.net_model.specs.declared.words.Symbol.TheVariants.{LeftBrace, LeftParen, RightBrace, RightParen, Semicolon};
 ghost use Rattle.grammar.specs.Tokens.{Before, Behind, BeginsSo};
 ghost use Rattle.net_model.specs.Grammar.{IsBinding, IsBindings, IsDirection, IsDriver, IsDrivers, IsEquation, IsLinks, IsPort, IsPorts, IsSized, IsWhen};
-ghost use Rattle.net_model.specs.Written.{binding_of, driver_of, phrase_of, when_of};
+ghost use Rattle.net_model.specs.Written.{binding_of, driver_of, model_of_net_expr, when_of};
 ghost use Rattle.net_parser.specs.Inner.Steps.{after_drivers, after_equations, after_expr, after_links, after_list, after_when, first_word, name_word};
 
 use crate::expression::{enclosed, expr, expr_behind};
-use grammar::{Stop, begins_with, expect, front, is_symbol, keeping, name, number_behind};
+use grammar::{ParseStop, begins_with, expect, front, is_symbol, keeping, name, number_behind};
 use net_model::{Ident, Key, Lexed, NetExpr, Port, Symbol, Word};
 use rec_bits::Items;
 use std::alloc::Global;
@@ -18,7 +18,7 @@ use std::alloc::Global;
 pub const LEVELS: u8 = 64;
 
 /// A name and its width.
-pub fn sized_name(alloc: Global, ts: &[Lexed]) -> Result<((Ident, u64), &[Lexed]), Stop>
+pub fn sized_name(alloc: Global, ts: &[Lexed]) -> Result<((Ident, u64), &[Lexed]), ParseStop>
     ensures { Gives (λ x. (x.0, x.1.now)) IsSized never ts.now result }
 {
     let (name, rest) = name(alloc, ts)?;
@@ -27,7 +27,7 @@ pub fn sized_name(alloc: Global, ts: &[Lexed]) -> Result<((Ident, u64), &[Lexed]
 }
 
 /// An enable, if there is one.
-fn when(alloc: Global, ts: &[Lexed]) -> Result<(Option<NetExpr>, &[Lexed]), Stop>
+fn when(alloc: Global, ts: &[Lexed]) -> Result<(Option<NetExpr>, &[Lexed]), ParseStop>
     ensures { Gives (λ x. (when_of x.0, x.1.now)) IsWhen after_when ts.now result }
 {
     if begins_with(Symbol::When, ts) {
@@ -39,7 +39,7 @@ fn when(alloc: Global, ts: &[Lexed]) -> Result<(Option<NetExpr>, &[Lexed]), Stop
 }
 
 /// An enable, if there is one, and the end of the item.
-pub fn when_end(alloc: Global, ts: &[Lexed]) -> Result<(Option<NetExpr>, &[Lexed]), Stop>
+pub fn when_end(alloc: Global, ts: &[Lexed]) -> Result<(Option<NetExpr>, &[Lexed]), ParseStop>
     ensures { Gives (λ x. (when_of x.0, x.1.now)) (Before IsWhen Semicolon) never ts.now result }
 {
     let (when, rest) = when(alloc, ts)?;
@@ -70,7 +70,7 @@ fn begins_name(ts: &[Lexed]) -> bool
 }
 
 /// A driver: its value and its enable.
-fn driver(alloc: Global, ts: &[Lexed]) -> Result<((NetExpr, NetExpr), &[Lexed]), Stop>
+fn driver(alloc: Global, ts: &[Lexed]) -> Result<((NetExpr, NetExpr), &[Lexed]), ParseStop>
     ensures { Gives (λ x. (driver_of x.0, x.1.now)) IsDriver never ts.now result }
 {
     let (value, rest) = expr(alloc, LEVELS, ts)?;
@@ -82,7 +82,7 @@ fn driver(alloc: Global, ts: &[Lexed]) -> Result<((NetExpr, NetExpr), &[Lexed]),
 }
 
 /// One driver or several.
-fn drivers(alloc: Global, ts: &[Lexed]) -> Result<(Items<(NetExpr, NetExpr)>, &[Lexed]), Stop>
+fn drivers(alloc: Global, ts: &[Lexed]) -> Result<(Items<(NetExpr, NetExpr)>, &[Lexed]), ParseStop>
     ensures { Gives (λ x. (map driver_of x.0, x.1.now)) IsDrivers after_drivers ts.now result }
 {
     let (first, rest) = driver(alloc, ts)?;
@@ -101,7 +101,7 @@ fn drivers(alloc: Global, ts: &[Lexed]) -> Result<(Items<(NetExpr, NetExpr)>, &[
 pub fn braced_drivers(
     alloc: Global,
     ts: &[Lexed],
-) -> Result<(Items<(NetExpr, NetExpr)>, &[Lexed]), Stop>
+) -> Result<(Items<(NetExpr, NetExpr)>, &[Lexed]), ParseStop>
     ensures { Gives (λ x. (map driver_of x.0, x.1.now))
         (Behind LeftBrace (Before IsDrivers RightBrace)) never ts.now result }
 {
@@ -111,7 +111,7 @@ pub fn braced_drivers(
 }
 
 /// A name and what it is given.
-fn binding(alloc: Global, ts: &[Lexed]) -> Result<((Ident, NetExpr), &[Lexed]), Stop>
+fn binding(alloc: Global, ts: &[Lexed]) -> Result<((Ident, NetExpr), &[Lexed]), ParseStop>
     ensures { Gives (λ x. (binding_of x.0, x.1.now)) IsBinding after_expr ts.now result }
 {
     let (name, rest) = name(alloc, ts)?;
@@ -120,7 +120,7 @@ fn binding(alloc: Global, ts: &[Lexed]) -> Result<((Ident, NetExpr), &[Lexed]), 
 }
 
 /// An equation of a module.
-fn equation(alloc: Global, ts: &[Lexed]) -> Result<((Ident, NetExpr), &[Lexed]), Stop>
+fn equation(alloc: Global, ts: &[Lexed]) -> Result<((Ident, NetExpr), &[Lexed]), ParseStop>
     ensures { Gives (λ x. (binding_of x.0, x.1.now)) IsEquation never ts.now result }
 {
     let (equation, rest) = binding(alloc, ts)?;
@@ -128,7 +128,7 @@ fn equation(alloc: Global, ts: &[Lexed]) -> Result<((Ident, NetExpr), &[Lexed]),
 }
 
 /// The equations of a module.
-fn equations(alloc: Global, ts: &[Lexed]) -> Result<(Items<(Ident, NetExpr)>, &[Lexed]), Stop>
+fn equations(alloc: Global, ts: &[Lexed]) -> Result<(Items<(Ident, NetExpr)>, &[Lexed]), ParseStop>
     ensures { Gives (λ x. (map binding_of x.0, x.1.now)) (ListOf IsEquation) after_equations ts.now result }
 {
     let mut equations = Items::new(alloc);
@@ -145,7 +145,7 @@ fn equations(alloc: Global, ts: &[Lexed]) -> Result<(Items<(Ident, NetExpr)>, &[
 pub fn braced_equations(
     alloc: Global,
     ts: &[Lexed],
-) -> Result<(Items<(Ident, NetExpr)>, &[Lexed]), Stop>
+) -> Result<(Items<(Ident, NetExpr)>, &[Lexed]), ParseStop>
     ensures { Gives (λ x. (map binding_of x.0, x.1.now))
         (Behind LeftBrace (Before (ListOf IsEquation) RightBrace)) never ts.now result }
 {
@@ -155,7 +155,7 @@ pub fn braced_equations(
 }
 
 /// One link or several.
-fn bindings(alloc: Global, ts: &[Lexed]) -> Result<(Items<(Ident, NetExpr)>, &[Lexed]), Stop>
+fn bindings(alloc: Global, ts: &[Lexed]) -> Result<(Items<(Ident, NetExpr)>, &[Lexed]), ParseStop>
     ensures { Gives (λ x. (map binding_of x.0, x.1.now)) IsBindings after_links ts.now result }
 {
     let (first, rest) = binding(alloc, ts)?;
@@ -172,7 +172,7 @@ fn bindings(alloc: Global, ts: &[Lexed]) -> Result<(Items<(Ident, NetExpr)>, &[L
 }
 
 /// The links of a part.
-fn links(alloc: Global, ts: &[Lexed]) -> Result<(Items<(Ident, NetExpr)>, &[Lexed]), Stop>
+fn links(alloc: Global, ts: &[Lexed]) -> Result<(Items<(Ident, NetExpr)>, &[Lexed]), ParseStop>
     ensures { Gives (λ x. (map binding_of x.0, x.1.now)) IsLinks after_links ts.now result }
 {
     if begins_name(ts) {
@@ -187,7 +187,7 @@ fn links(alloc: Global, ts: &[Lexed]) -> Result<(Items<(Ident, NetExpr)>, &[Lexe
 pub fn enclosed_links(
     alloc: Global,
     ts: &[Lexed],
-) -> Result<(Items<(Ident, NetExpr)>, &[Lexed]), Stop>
+) -> Result<(Items<(Ident, NetExpr)>, &[Lexed]), ParseStop>
     ensures { Gives (λ x. (map binding_of x.0, x.1.now))
         (Behind LeftParen (Before IsLinks RightParen)) never ts.now result }
 {
@@ -197,11 +197,11 @@ pub fn enclosed_links(
 }
 
 /// Whether a port is an output.
-fn direction(ts: &[Lexed]) -> Result<(bool, &[Lexed]), Stop>
+fn direction(ts: &[Lexed]) -> Result<(bool, &[Lexed]), ParseStop>
     ensures { Gives (λ x. (x.0, x.1.now)) IsDirection never ts.now result }
 {
     let Some((t, rest)) = front(ts) else {
-        return Err(Stop::At(0));
+        return Err(ParseStop::At(0));
     };
     if is_symbol(&t.word, Symbol::Out) {
         return Ok((true, rest));
@@ -209,11 +209,11 @@ fn direction(ts: &[Lexed]) -> Result<(bool, &[Lexed]), Stop>
     if is_symbol(&t.word, Symbol::In) {
         return Ok((false, rest));
     }
-    Err(Stop::At(ts.len()))
+    Err(ParseStop::At(ts.len()))
 }
 
 /// A port.
-fn port(alloc: Global, ts: &[Lexed]) -> Result<(Port, &[Lexed]), Stop>
+fn port(alloc: Global, ts: &[Lexed]) -> Result<(Port, &[Lexed]), ParseStop>
     ensures { Gives (λ x. (x.0, x.1.now)) IsPort never ts.now result }
 {
     let (output, rest) = direction(ts)?;
@@ -229,7 +229,7 @@ fn port(alloc: Global, ts: &[Lexed]) -> Result<(Port, &[Lexed]), Stop>
 }
 
 /// One port or several.
-fn ports(alloc: Global, ts: &[Lexed]) -> Result<(Items<Port>, &[Lexed]), Stop>
+fn ports(alloc: Global, ts: &[Lexed]) -> Result<(Items<Port>, &[Lexed]), ParseStop>
     ensures { Gives (λ x. (x.0, x.1.now)) IsPorts after_list ts.now result }
 {
     let (first, rest) = port(alloc, ts)?;
@@ -246,7 +246,7 @@ fn ports(alloc: Global, ts: &[Lexed]) -> Result<(Items<Port>, &[Lexed]), Stop>
 }
 
 /// The ports of a module, in parentheses.
-pub fn enclosed_ports(alloc: Global, ts: &[Lexed]) -> Result<(Items<Port>, &[Lexed]), Stop>
+pub fn enclosed_ports(alloc: Global, ts: &[Lexed]) -> Result<(Items<Port>, &[Lexed]), ParseStop>
     ensures { Gives (λ x. (x.0, x.1.now)) (Behind LeftParen (Before IsPorts RightParen)) never ts.now result }
 {
     let rest = expect(Symbol::LeftParen, ts)?;

@@ -2,7 +2,7 @@
 
 ghost use Rattle.std.specs.Prelude.{◌≡◌, ◌^◌, ◌<◌, length, IfOk, IfErr, MatchResult};
 ghost use Rattle.rec_bits.specs.declared.fault.ParseFault.{ParseFault};
-ghost use Rattle.net_model.specs.Written.{Text as NetText, text_of};
+ghost use Rattle.net_model.specs.Written.{UnitsModel as NetText, model_of_units};
 ghost use Rattle.net_parser.specs.Texts.{IsNetText, IsNetTextFault};
 
 use crate::whole::parse;
@@ -17,11 +17,11 @@ use std::alloc::Global;
 pub fn read(alloc: Global, bytes: &[u8]) -> Result<Units, ParseFault>
     requires { length bytes.now < 2 ^ 32 }
     // What is answered is what the bytes say.
-    ensures found { IfOk result (λ units. IsNetText bytes.now (text_of units)) }
+    ensures found { IfOk result (λ units. IsNetText bytes.now (model_of_units units)) }
 
     // Whatever they say is answered, and nothing else, unless memory runs out.
     ensures only { (text : NetText) → IsNetText bytes.now text →
-        MatchResult result (λ units. text_of units ≡ text) (λ fault. fault ≡ ParseFault.Memory) }
+        MatchResult result (λ units. model_of_units units ≡ text) (λ fault. fault ≡ ParseFault.Memory) }
 
     // Where they are no text, the fault is at the first token that shows it.
     ensures fault { IfErr result (IsNetTextFault bytes.now) }

@@ -3,7 +3,7 @@ use Rattle.std.proofs.Common.{◌≡◌, ℕ, List, Option, Some, None, Result, 
 use Rattle.rec_bits.specs.Faults.{least}
 use Rattle.net_model.specs.declared.fault.NetFault.{NetFault}
 use Rattle.net_model.specs.declared.fault.NetFault.TheVariants.{Duplicate, Unknown, Width, Driver}
-use Rattle.net_model.specs.Written.{Entry}
+use Rattle.net_model.specs.Written.{UnitModel}
 use Rattle.net_model.specs.NameRules.{duplicates, unknowns}
 use Rattle.net_model.specs.WidthRules.{misfits}
 use Rattle.net_model.specs.DriverRules.{undrivens}
@@ -15,7 +15,7 @@ use Rattle.rec_bits.specs.Faults.{fault_at}
 abbrev chain : Option ℕ → Option ℕ → Option ℕ → Option ℕ → Option NetFault → Option NetFault
 chain d u m v l = or_else (fault_at Duplicate d) (or_else (fault_at Unknown u) (or_else (fault_at Width m) (or_else (fault_at Driver v) l)))
 
-module _ (edition : ℕ) (text : List Entry) (known : None ≡ least (duplicates text)) where
+module _ (edition : ℕ) (text : List UnitModel) (known : None ≡ least (duplicates text)) where
   pub unknown_first : (at : ℕ) → Some at ≡ least (unknowns text) → Some (Unknown at) ≡ first_fault edition text
   unknown_first at h = λ j. chain (known j) (h j) (least (misfits text)) (least (undrivens text)) (limit_fault edition text)
 

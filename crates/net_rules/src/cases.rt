@@ -2,12 +2,12 @@
 
 ghost use Rattle.std.specs.Prelude.{◌≡◌, ◌&&◌, Bool, IfOk, [], map};
 ghost use Rattle.net_model.specs.DriverRules.{are_all, covers, covers_rest, covers_rows, is_covered, case_numbers};
-ghost use Rattle.net_model.specs.Written.{other_of, phrase_of, rest_of, row_of, rows_of};
+ghost use Rattle.net_model.specs.Written.{other_of, model_of_net_expr, case_rest_of, model_of_case_row, case_rows_of};
 ghost use Rattle.net_rules.specs.Inner.Cases.{is_all};
-ghost use Rattle.net_rules.specs.Inner.Scopes.{scope_of};
+ghost use Rattle.net_rules.specs.Inner.Scopes.{model_of_scope};
 
 use crate::numbers::{Numbers, add_all};
-use crate::text::Place;
+use crate::text::Scope;
 use crate::widths::wide;
 use net_model::NetExpr;
 use rec_bits::NoMemory;
@@ -30,7 +30,7 @@ fn is_covered(
     other: &Option<Box<NetExpr>>,
 ) -> Result<bool, NoMemory>
     ensures { IfOk result (λ covered.
-        covered ≡ is_covered selector (rows_of (map row_of rows.now)) (rest_of (other_of other.now))) }
+        covered ≡ is_covered selector (case_rows_of (map model_of_case_row rows.now)) (case_rest_of (other_of other.now))) }
 {
     let mut seen = Numbers::new(alloc);
     covers_values(&mut seen, selector, rows, other)
@@ -45,7 +45,7 @@ fn covers_values(
 ) -> Result<bool, NoMemory>
     requires { seen.old ≡ [] }
     ensures { IfOk result (λ covered.
-        covered ≡ is_covered selector (rows_of (map row_of rows.now)) (rest_of (other_of other.now))) }
+        covered ≡ is_covered selector (case_rows_of (map model_of_case_row rows.now)) (case_rest_of (other_of other.now))) }
 {
     for row in rows {
         if !add_all(seen, row.0.as_slice())? {
@@ -67,8 +67,8 @@ pub(crate) fn both(
 
 /// Whether each case in an expression has no number twice, and a rest or every number.
 #[cycle(covers)]
-pub(crate) fn covers(alloc: Global, place: &Place, e: &NetExpr) -> Result<bool, NoMemory>
-    ensures { IfOk result (λ covered. covered ≡ covers (scope_of place.now) (phrase_of e.now)) }
+pub(crate) fn covers(alloc: Global, place: &Scope, e: &NetExpr) -> Result<bool, NoMemory>
+    ensures { IfOk result (λ covered. covered ≡ covers (model_of_scope place.now) (model_of_net_expr e.now)) }
 {
     match e {
         NetExpr::Named { .. } | NetExpr::Const { .. } => Ok(true),
@@ -89,9 +89,9 @@ pub(crate) fn covers(alloc: Global, place: &Place, e: &NetExpr) -> Result<bool, 
 }
 
 #[cycle(covers)]
-fn covers_rows(alloc: Global, place: &Place, rows: &[(Vec<u64>, NetExpr)]) -> Result<bool, NoMemory>
+fn covers_rows(alloc: Global, place: &Scope, rows: &[(Vec<u64>, NetExpr)]) -> Result<bool, NoMemory>
     ensures { IfOk result (λ covered.
-        covered ≡ covers_rows (scope_of place.now) (rows_of (map row_of rows.now))) }
+        covered ≡ covers_rows (model_of_scope place.now) (case_rows_of (map model_of_case_row rows.now))) }
 {
     for row in rows {
         if !covers(alloc, place, &row.1)? {
@@ -102,9 +102,9 @@ fn covers_rows(alloc: Global, place: &Place, rows: &[(Vec<u64>, NetExpr)]) -> Re
 }
 
 #[cycle(covers)]
-fn covers_rest(alloc: Global, place: &Place, other: &Option<Box<NetExpr>>) -> Result<bool, NoMemory>
+fn covers_rest(alloc: Global, place: &Scope, other: &Option<Box<NetExpr>>) -> Result<bool, NoMemory>
     ensures { IfOk result (λ covered.
-        covered ≡ covers_rest (scope_of place.now) (rest_of (other_of other.now))) }
+        covered ≡ covers_rest (model_of_scope place.now) (case_rest_of (other_of other.now))) }
 {
     match other {
         Some(a) => covers(alloc, place, a),

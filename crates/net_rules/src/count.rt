@@ -5,7 +5,7 @@ ghost use Rattle.rec_bits.specs.Counts.{capped};
 ghost use Rattle.net_model.specs.Numbering.{count, count_drivers, count_equations, count_if, count_inputs, count_item, count_items, count_outputs, count_rest, count_rows};
 ghost use Rattle.net_model.specs.TextNames.{item_named};
 ghost use Rattle.net_model.specs.TextWidths.{ports_of};
-ghost use Rattle.net_model.specs.Written.{binding_of, driver_of, entry_of, other_of, phrase_of, rest_of, row_of, rows_of, when_of};
+ghost use Rattle.net_model.specs.Written.{binding_of, driver_of, model_of_unit, other_of, model_of_net_expr, case_rest_of, model_of_case_row, case_rows_of, when_of};
 ghost use Rattle.net_names.specs.Places.{lent};
 ghost use Rattle.net_rules.specs.Inner.Counts.{count_linked, count_part_of, capped_module};
 
@@ -20,7 +20,7 @@ use std::alloc::Global;
 #[cycle(count)]
 #[tactic(auto, using(crate::proofs::Counts::counts))]
 fn count(e: &NetExpr) -> u64
-    ensures { result ≡ capped (count (phrase_of e.now)) }
+    ensures { result ≡ capped (count (model_of_net_expr e.now)) }
 {
     match e {
         NetExpr::Named { bits, .. } => match bits {
@@ -45,7 +45,7 @@ fn count(e: &NetExpr) -> u64
 
 #[cycle(count)]
 fn count_rows(rows: &[(Vec<u64>, NetExpr)]) -> u64
-    ensures { result ≡ capped (count_rows (rows_of (map row_of rows.now))) }
+    ensures { result ≡ capped (count_rows (case_rows_of (map model_of_case_row rows.now))) }
 {
     let mut total: u64 = 0;
     for row in rows {
@@ -56,7 +56,7 @@ fn count_rows(rows: &[(Vec<u64>, NetExpr)]) -> u64
 
 #[cycle(count)]
 fn count_rest(other: &Option<Box<NetExpr>>) -> u64
-    ensures { result ≡ capped (count_rest (rest_of (other_of other.now))) }
+    ensures { result ≡ capped (count_rest (case_rest_of (other_of other.now))) }
 {
     match other {
         Some(a) => count(a),
@@ -65,7 +65,7 @@ fn count_rest(other: &Option<Box<NetExpr>>) -> u64
 }
 
 fn count_if(e: Option<&NetExpr>) -> u64
-    ensures { result ≡ capped (count_if (option_map phrase_of (option_copied e.entry))) }
+    ensures { result ≡ capped (count_if (option_map model_of_net_expr (option_copied e.entry))) }
 {
     match e {
         Some(e) => count(e),
@@ -100,7 +100,7 @@ fn count_linked(links: &Bindings, inputs: &[&Port]) -> u64
 // The nets that a part has for the inputs of its module. The module's outputs aren't looked at.
 fn count_inputs(text: &Text, owner: &Name, links: &Bindings) -> u64
     ensures { result ≡
-        capped (count_inputs (map binding_of links.now) (ports_of (item_named (map entry_of text.now) owner.now))) }
+        capped (count_inputs (map binding_of links.now) (ports_of (item_named (map model_of_unit text.now) owner.now))) }
 {
     match text.ports(owner) {
         Some(ports) => count_linked(links, ports.inputs()),
@@ -171,7 +171,7 @@ fn count_part(
 ) -> Result<u64, NoMemory>
     requires { modules.now ≡ map capped_module text.now }
     ensures { IfOk result (λ n.
-        n ≡ capped (count_part_of (map entry_of text.now) owner.now (map binding_of links.now))) }
+        n ≡ capped (count_part_of (map model_of_unit text.now) owner.now (map binding_of links.now))) }
 {
     let links = Bindings::new(alloc, links)?;
     let inputs = count_inputs(text, &owner.name, &links);
@@ -188,7 +188,7 @@ fn count_item(
     unit: &Unit,
 ) -> Result<u64, NoMemory>
     requires { modules.now ≡ map capped_module text.now }
-    ensures { IfOk result (λ n. n ≡ capped (count_item (map entry_of text.now) (entry_of unit.now))) }
+    ensures { IfOk result (λ n. n ≡ capped (count_item (map model_of_unit text.now) (model_of_unit unit.now))) }
 {
     match unit {
         Unit::Code { .. } => Ok(1),
@@ -221,7 +221,7 @@ fn count_item(
 /// How many nets the items of a text give.
 pub(crate) fn count_items(alloc: Global, text: &Text, units: &[Unit]) -> Result<u64, NoMemory>
     requires { text.now ≡ units.now }
-    ensures { IfOk result (λ n. n ≡ capped (count_items (map entry_of units.now) (map entry_of units.now))) }
+    ensures { IfOk result (λ n. n ≡ capped (count_items (map model_of_unit units.now) (map model_of_unit units.now))) }
 {
     let modules = count_modules(alloc, units)?;
     let mut total: u64 = 0;

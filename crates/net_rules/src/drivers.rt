@@ -6,16 +6,16 @@ ghost use Rattle.rec_bits.specs.Faults.{least};
 ghost use Rattle.net_model.specs.DriverRules.{binding_name, covers_binding, covers_driver, covers, covers_if, drives_once, is_driven, is_driven_item, names_new, undriven, undrivens};
 ghost use Rattle.net_model.specs.TextNames.{item_named, in_module, in_text};
 ghost use Rattle.net_model.specs.TextWidths.{ports_of};
-ghost use Rattle.net_model.specs.Written.{binding_of, driver_of, entry_of, phrase_of, when_of};
+ghost use Rattle.net_model.specs.Written.{binding_of, driver_of, model_of_unit, model_of_net_expr, when_of};
 ghost use Rattle.net_names.specs.Places.{lent};
 ghost use Rattle.net_rules.specs.Inner.Modules.{is_bound, item_ports};
-ghost use Rattle.net_rules.specs.Inner.Scopes.{scope_of};
+ghost use Rattle.net_rules.specs.Inner.Scopes.{model_of_scope};
 
 use crate::cases::{both, covers};
-use crate::text::{Place, Text};
+use crate::text::{Scope, Text};
 use net_model::{Ident, NetExpr, Port, Unit};
-use net_names::{Bindings, Ports, Table, name_of};
-use rec_bits::{Name, NoMemory, broken, sooner};
+use net_names::{Bindings, Ports, SymbolTable, name_of};
+use rec_bits::{Name, NoMemory, lesser_offset, offset_if};
 use std::alloc::Global;
 
 // ---- ports
@@ -59,7 +59,7 @@ fn are_bound(links: &Bindings, inputs: &[&Port]) -> bool
 fn are_inputs_driven(text: &Text, owner: &Name, links: &Bindings) -> bool
     ensures { result
         ≡ list_all (is_driven false (map binding_of links.now))
-        (ports_of (item_named (map entry_of text.now) owner.now)) }
+        (ports_of (item_named (map model_of_unit text.now) owner.now)) }
 {
     match text.ports(owner) {
         Some(ports) => are_bound(links, ports.inputs()),
@@ -70,12 +70,15 @@ fn are_inputs_driven(text: &Text, owner: &Name, links: &Bindings) -> bool
 fn are_names_new(alloc: Global, bindings: &[(Ident, NetExpr)]) -> Result<bool, NoMemory>
     ensures { IfOk result (λ new. new ≡ names_new [] (map binding_name (map binding_of bindings.now))) }
 {
-    let mut seen = Table::new(alloc);
+    let mut seen = SymbolTable::new(alloc);
     enter_new(&mut seen, bindings)
 }
 
 // Enters names until one is there already, and says whether all are new.
-fn enter_new<'a>(seen: &mut Table<'a>, bindings: &'a [(Ident, NetExpr)]) -> Result<bool, NoMemory>
+fn enter_new<'a>(
+    seen: &mut SymbolTable<'a>,
+    bindings: &'a [(Ident, NetExpr)],
+) -> Result<bool, NoMemory>
     requires { seen.old ≡ [] }
     ensures { IfOk result (λ new. new ≡ names_new [] (map binding_name (map binding_of bindings.now))) }
 {
@@ -107,7 +110,7 @@ fn drives_inputs(
     links: &[(Ident, NetExpr)],
 ) -> Result<bool, NoMemory>
     ensures { IfOk result (λ once.
-        once ≡ drives_once false (ports_of (item_named (map entry_of text.now) owner.now)) (map binding_of links.now)) }
+        once ≡ drives_once false (ports_of (item_named (map model_of_unit text.now) owner.now)) (map binding_of links.now)) }
 {
     let new = are_names_new(alloc, links)?;
     let table = Bindings::new(alloc, links)?;
@@ -116,8 +119,8 @@ fn drives_inputs(
 
 // ---- items
 
-fn covers_if(alloc: Global, place: &Place, when: &Option<NetExpr>) -> Result<bool, NoMemory>
-    ensures { IfOk result (λ covered. covered ≡ covers_if (scope_of place.now) (when_of when.now)) }
+fn covers_if(alloc: Global, place: &Scope, when: &Option<NetExpr>) -> Result<bool, NoMemory>
+    ensures { IfOk result (λ covered. covered ≡ covers_if (model_of_scope place.now) (when_of when.now)) }
 {
     match when {
         Some(e) => covers(alloc, place, e),
@@ -125,19 +128,19 @@ fn covers_if(alloc: Global, place: &Place, when: &Option<NetExpr>) -> Result<boo
     }
 }
 
-fn covers_two(alloc: Global, place: &Place, a: &NetExpr, b: &NetExpr) -> Result<bool, NoMemory>
-    ensures { IfOk result (λ covered. covered ≡ covers_driver (scope_of place.now) (driver_of (a.now, b.now))) }
+fn covers_two(alloc: Global, place: &Scope, a: &NetExpr, b: &NetExpr) -> Result<bool, NoMemory>
+    ensures { IfOk result (λ covered. covered ≡ covers_driver (model_of_scope place.now) (driver_of (a.now, b.now))) }
 {
     both(covers(alloc, place, a), covers(alloc, place, b))
 }
 
 fn covers_drivers(
     alloc: Global,
-    place: &Place,
+    place: &Scope,
     drivers: &[(NetExpr, NetExpr)],
 ) -> Result<bool, NoMemory>
     ensures { IfOk result (λ covered.
-        covered ≡ list_all (covers_driver (scope_of place.now)) (map driver_of drivers.now)) }
+        covered ≡ list_all (covers_driver (model_of_scope place.now)) (map driver_of drivers.now)) }
 {
     for driver in drivers {
         if !covers_two(alloc, place, &driver.0, &driver.1)? {
@@ -149,11 +152,11 @@ fn covers_drivers(
 
 fn covers_bindings(
     alloc: Global,
-    place: &Place,
+    place: &Scope,
     bindings: &[(Ident, NetExpr)],
 ) -> Result<bool, NoMemory>
     ensures { IfOk result (λ covered.
-        covered ≡ list_all (covers_binding (scope_of place.now)) (map binding_of bindings.now)) }
+        covered ≡ list_all (covers_binding (model_of_scope place.now)) (map binding_of bindings.now)) }
 {
     for binding in bindings {
         if !covers(alloc, place, &binding.1)? {
@@ -165,9 +168,9 @@ fn covers_bindings(
 
 fn is_driven_item(alloc: Global, text: &Text, ports: &Ports, unit: &Unit) -> Result<bool, NoMemory>
     requires { ports.now ≡ item_ports unit.now }
-    ensures { IfOk result (λ driven. driven ≡ is_driven_item (map entry_of text.now) (entry_of unit.now)) }
+    ensures { IfOk result (λ driven. driven ≡ is_driven_item (map model_of_unit text.now) (model_of_unit unit.now)) }
 {
-    let place = Place::Items(text);
+    let place = Scope::Items(text);
     match unit {
         Unit::Code { .. } => Ok(true),
         Unit::Register { input, when, .. } => {
@@ -189,7 +192,7 @@ fn is_driven_item(alloc: Global, text: &Text, ports: &Ports, unit: &Unit) -> Res
             let once = drives_outputs(alloc, ports.as_slice(), equations);
             both(
                 once,
-                covers_bindings(alloc, &Place::Ports(ports), equations),
+                covers_bindings(alloc, &Scope::Ports(ports), equations),
             )
         }
         Unit::Part { module, links, .. } => {
@@ -208,12 +211,12 @@ pub(crate) fn first_undriven(
     units: &[Unit],
 ) -> Result<Option<u64>, NoMemory>
     requires { text.now ≡ units.now }
-    ensures { IfOk result (λ found. found ≡ least (undrivens (map entry_of units.now))) }
+    ensures { IfOk result (λ found. found ≡ least (undrivens (map model_of_unit units.now))) }
 {
     let mut found = None;
     for (i, unit) in units.iter().enumerate() {
         let driven = is_driven_item(alloc, text, text.own_ports(i), unit)?;
-        found = sooner(found, broken(!driven, name_of(unit).at));
+        found = lesser_offset(found, offset_if(!driven, name_of(unit).at));
     }
     Ok(found)
 }

@@ -4,7 +4,7 @@ ghost use Rattle.std.specs.Prelude.{◌≡◌, IfOk, None, map};
 ghost use Rattle.rec_bits.specs.Faults.{least};
 ghost use Rattle.net_model.specs.NameRules.{duplicates};
 ghost use Rattle.net_model.specs.TextRules.{first_fault};
-ghost use Rattle.net_model.specs.Written.{entry_of};
+ghost use Rattle.net_model.specs.Written.{model_of_unit};
 
 use crate::drivers::first_undriven;
 use crate::duplicates::first_duplicate;
@@ -25,7 +25,7 @@ pub fn first_fault(
     names: &Names,
 ) -> Result<Option<NetFault>, NoMemory>
     requires { names.now ≡ units.now.items }
-    ensures { IfOk result (λ fault. fault ≡ first_fault units.now.edition (map entry_of units.now.items)) }
+    ensures { IfOk result (λ fault. fault ≡ first_fault units.now.edition (map model_of_unit units.now.items)) }
 {
     if let Some(at) = first_duplicate(alloc, units)? {
         return Ok(Some(NetFault::Duplicate(at)));
@@ -42,8 +42,8 @@ fn fault_behind_names(
     items: &[Unit],
 ) -> Result<Option<NetFault>, NoMemory>
     requires text { text.now ≡ items.now }
-    requires names { None ≡ least (duplicates (map entry_of items.now)) }
-    ensures { IfOk result (λ fault. fault ≡ first_fault edition (map entry_of items.now)) }
+    requires names { None ≡ least (duplicates (map model_of_unit items.now)) }
+    ensures { IfOk result (λ fault. fault ≡ first_fault edition (map model_of_unit items.now)) }
 {
     if let Some(at) = first_unknown(text, items) {
         return Ok(Some(NetFault::Unknown(at)));

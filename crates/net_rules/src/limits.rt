@@ -1,9 +1,9 @@
 //! N11: too much of something.
 
 ghost use Rattle.std.specs.Prelude.{◌≡◌, IfOk, map};
-ghost use Rattle.net_model.specs.LimitRules.{cells_of, count_register, count_registers, data_size, file_size, greatest, limit_fault, most_nets, over, words_of};
+ghost use Rattle.net_model.specs.LimitRules.{cells_of, count_register, count_registers, data_size, file_size, greatest, limit_fault, most_nets, over, words_of_unit};
 ghost use Rattle.rec_bits.specs.Counts.{capped};
-ghost use Rattle.net_model.specs.Written.{entry_of};
+ghost use Rattle.net_model.specs.Written.{model_of_unit};
 
 use crate::count::count_items;
 use crate::text::Text;
@@ -36,7 +36,7 @@ fn over(kind: NetKind, bound: u64, count: u64) -> Option<NetFault>
 }
 
 fn count_register(unit: &Unit) -> u64
-    ensures { result ≡ count_register (entry_of unit.now) }
+    ensures { result ≡ count_register (model_of_unit unit.now) }
 {
     match unit {
         Unit::Register { .. } => 1,
@@ -45,7 +45,7 @@ fn count_register(unit: &Unit) -> u64
 }
 
 fn count_registers(units: &[Unit]) -> u64
-    ensures { result ≡ capped (count_registers (map entry_of units.now)) }
+    ensures { result ≡ capped (count_registers (map model_of_unit units.now)) }
 {
     let mut total: u64 = 0;
     for unit in units {
@@ -55,7 +55,7 @@ fn count_registers(units: &[Unit]) -> u64
 }
 
 fn cells_of(space: Space, unit: &Unit) -> u64
-    ensures { result ≡ cells_of space (entry_of unit.now) }
+    ensures { result ≡ cells_of space (model_of_unit unit.now) }
 {
     match unit {
         Unit::Memory {
@@ -68,7 +68,7 @@ fn cells_of(space: Space, unit: &Unit) -> u64
 }
 
 fn greatest_cells(space: Space, units: &[Unit]) -> u64
-    ensures { result ≡ greatest (cells_of space) (map entry_of units.now) }
+    ensures { result ≡ greatest (cells_of space) (map model_of_unit units.now) }
 {
     let mut size = 0;
     for unit in units {
@@ -77,8 +77,8 @@ fn greatest_cells(space: Space, units: &[Unit]) -> u64
     size
 }
 
-fn words_of(unit: &Unit) -> u64
-    ensures { result ≡ words_of (entry_of unit.now) }
+fn words_of_unit(unit: &Unit) -> u64
+    ensures { result ≡ words_of_unit (model_of_unit unit.now) }
 {
     match unit {
         Unit::Code { size, .. } => *size,
@@ -87,11 +87,11 @@ fn words_of(unit: &Unit) -> u64
 }
 
 fn greatest_code(units: &[Unit]) -> u64
-    ensures { result ≡ greatest words_of (map entry_of units.now) }
+    ensures { result ≡ greatest words_of_unit (map model_of_unit units.now) }
 {
     let mut size = 0;
     for unit in units {
-        size = words_of(unit).max(size);
+        size = words_of_unit(unit).max(size);
     }
     size
 }
@@ -109,7 +109,7 @@ fn most_nets(edition: u8) -> u64
 
 // The greatest size of a register file: a bank is none.
 fn file_size(edition: u8, units: &[Unit]) -> u64
-    ensures { result ≡ file_size edition (map entry_of units.now) }
+    ensures { result ≡ file_size edition (map model_of_unit units.now) }
 {
     if is_banked(edition) {
         0
@@ -120,7 +120,7 @@ fn file_size(edition: u8, units: &[Unit]) -> u64
 
 // The greatest size of a memory or a bank.
 fn data_size(edition: u8, units: &[Unit]) -> u64
-    ensures { result ≡ data_size edition (map entry_of units.now) }
+    ensures { result ≡ data_size edition (map model_of_unit units.now) }
 {
     let size = greatest_cells(Space::Memory, units);
     if is_banked(edition) {
@@ -138,7 +138,7 @@ pub(crate) fn first_limit(
     units: &[Unit],
 ) -> Result<Option<NetFault>, NoMemory>
     requires { text.now ≡ units.now }
-    ensures { IfOk result (λ fault. fault ≡ limit_fault edition (map entry_of units.now)) }
+    ensures { IfOk result (λ fault. fault ≡ limit_fault edition (map model_of_unit units.now)) }
 {
     let nets = count_items(alloc, text, units)?;
     if let Some(fault) = over(NetKind::Nets, most_nets(edition), nets) {

@@ -4,7 +4,7 @@ ghost use Rattle.std.specs.Prelude.{◌≡◌, ◌<◌, IfOk, length, map, slice
 ghost use Rattle.net_model.specs.TextNames.{item_named, place_named, port_named};
 ghost use Rattle.net_model.specs.TextWidths.{ports_of};
 ghost use Rattle.net_rules.specs.Inner.Modules.{item_ports, ports_or_none};
-ghost use Rattle.net_model.specs.Written.{entry_of};
+ghost use Rattle.net_model.specs.Written.{model_of_unit};
 
 use net_model::{Port, Unit, Units};
 use net_names::{Names, Ports};
@@ -55,21 +55,21 @@ impl<'a> Text<'a> {
 
     /// The first item of a name.
     pub(crate) fn item(&self, name: &Name) -> Option<&'a Unit>
-        ensures { option_map entry_of (option_copied result) ≡ item_named (map entry_of self.now) name.now }
+        ensures { option_map model_of_unit (option_copied result) ≡ item_named (map model_of_unit self.now) name.now }
     {
         self.names.item(name)
     }
 
     /// The ports of the module of a name.
     pub(crate) fn ports(&self, name: &Name) -> Option<&Ports<'a>>
-        ensures { ports_or_none (option_copied result) ≡ ports_of (item_named (map entry_of self.now) name.now) }
+        ensures { ports_or_none (option_copied result) ≡ ports_of (item_named (map model_of_unit self.now) name.now) }
     {
         self.modules.get(self.names.place(name))
     }
 
     /// The place of the first item of a name, and the number of items where there is none.
     pub(crate) fn place(&self, name: &Name) -> usize
-        ensures { result ≡ place_named (map entry_of self.now) name.now }
+        ensures { result ≡ place_named (map model_of_unit self.now) name.now }
     {
         self.names.place(name)
     }
@@ -85,7 +85,7 @@ impl<'a> Text<'a> {
     /// The first input of a name that the module of a name has.
     pub(crate) fn input(&self, owner: &Name, name: &Name) -> Option<&'a Port>
         ensures { option_copied result
-            ≡ port_named false (ports_of (item_named (map entry_of self.now) owner.now)) name.now }
+            ≡ port_named false (ports_of (item_named (map model_of_unit self.now) owner.now)) name.now }
     {
         match self.ports(owner) {
             Some(ports) => ports.input(name),
@@ -96,7 +96,7 @@ impl<'a> Text<'a> {
     /// The first output of a name that the module of a name has.
     pub(crate) fn output(&self, owner: &Name, name: &Name) -> Option<&'a Port>
         ensures { option_copied result
-            ≡ port_named true (ports_of (item_named (map entry_of self.now) owner.now)) name.now }
+            ≡ port_named true (ports_of (item_named (map model_of_unit self.now) owner.now)) name.now }
     {
         match self.ports(owner) {
             Some(ports) => ports.output(name),
@@ -107,7 +107,7 @@ impl<'a> Text<'a> {
 
 /// Where an expression stands: among the items of a text, or in a module with these ports.
 #[derive(Clone, Copy)]
-pub(crate) enum Place<'a> {
+pub(crate) enum Scope<'a> {
     Items(&'a Text<'a>),
     Ports(&'a Ports<'a>),
 }

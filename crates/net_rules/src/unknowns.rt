@@ -5,19 +5,19 @@ ghost use Rattle.rec_bits.specs.Faults.{gather, least};
 ghost use Rattle.net_model.specs.NameRules.{has_value, is_register, is_memory, is_module, is_part, unknown, unknown_output, unknown_name, unknown_memory, unknown_in, unknown_rows, unknown_rest, unknown_if, unknown_driver, unknown_binding, unknown_in_item, unknowns};
 ghost use Rattle.net_model.specs.TextNames.{item_named, in_module, in_text};
 ghost use Rattle.net_model.specs.TextWidths.{ports_of};
-ghost use Rattle.net_model.specs.Written.{binding_of, driver_of, entry_of, other_of, phrase_of, rest_of, row_of, rows_of, when_of};
+ghost use Rattle.net_model.specs.Written.{binding_of, driver_of, model_of_unit, other_of, model_of_net_expr, case_rest_of, model_of_case_row, case_rows_of, when_of};
 ghost use Rattle.net_rules.specs.Inner.Modules.{item_ports};
-ghost use Rattle.net_rules.specs.Inner.Scopes.{scope_of};
+ghost use Rattle.net_rules.specs.Inner.Scopes.{model_of_scope};
 
-use crate::text::{Place, Text};
+use crate::text::{Scope, Text};
 use net_model::{Ident, NetExpr, Unit};
 use net_names::Ports;
-use rec_bits::{broken, sooner};
+use rec_bits::{lesser_offset, offset_if};
 
 // ---- what names stand for
 
 fn has_value(item: Option<&Unit>) -> bool
-    ensures { result ≡ has_value (option_map entry_of (option_copied item.entry)) }
+    ensures { result ≡ has_value (option_map model_of_unit (option_copied item.entry)) }
 {
     match item {
         Some(Unit::Code { .. } | Unit::Register { .. } | Unit::Net { .. } | Unit::Bus { .. }) =>
@@ -27,7 +27,7 @@ fn has_value(item: Option<&Unit>) -> bool
 }
 
 fn is_register(item: Option<&Unit>) -> bool
-    ensures { result ≡ is_register (option_map entry_of (option_copied item.entry)) }
+    ensures { result ≡ is_register (option_map model_of_unit (option_copied item.entry)) }
 {
     match item {
         Some(Unit::Register { .. }) => true,
@@ -36,7 +36,7 @@ fn is_register(item: Option<&Unit>) -> bool
 }
 
 fn is_memory(item: Option<&Unit>) -> bool
-    ensures { result ≡ is_memory (option_map entry_of (option_copied item.entry)) }
+    ensures { result ≡ is_memory (option_map model_of_unit (option_copied item.entry)) }
 {
     match item {
         Some(Unit::Memory { .. }) => true,
@@ -45,7 +45,7 @@ fn is_memory(item: Option<&Unit>) -> bool
 }
 
 fn is_module(item: Option<&Unit>) -> bool
-    ensures { result ≡ is_module (option_map entry_of (option_copied item.entry)) }
+    ensures { result ≡ is_module (option_map model_of_unit (option_copied item.entry)) }
 {
     match item {
         Some(Unit::Module { .. }) => true,
@@ -57,13 +57,13 @@ fn is_module(item: Option<&Unit>) -> bool
 fn unknown(is_known: bool, name: &Ident) -> Option<u64>
     ensures { result ≡ least (unknown is_known name.now) }
 {
-    broken(!is_known, name.at)
+    offset_if(!is_known, name.at)
 }
 
 // ---- expressions
 
 fn unknown_output(text: &Text, name: &Ident, field: &Ident) -> Option<u64>
-    ensures { result ≡ least (unknown_output (map entry_of text.now) name.now field.now) }
+    ensures { result ≡ least (unknown_output (map model_of_unit text.now) name.now field.now) }
 {
     match text.item(&name.name) {
         Some(Unit::Part { module, .. }) => {
@@ -73,30 +73,30 @@ fn unknown_output(text: &Text, name: &Ident, field: &Ident) -> Option<u64>
     }
 }
 
-fn unknown_name(place: &Place, name: &Ident, field: &Option<Ident>) -> Option<u64>
-    ensures { result ≡ least (unknown_name (scope_of place.now) name.now field.now) }
+fn unknown_name(place: &Scope, name: &Ident, field: &Option<Ident>) -> Option<u64>
+    ensures { result ≡ least (unknown_name (model_of_scope place.now) name.now field.now) }
 {
     match (place, field) {
-        (Place::Items(text), None) => unknown(has_value(text.item(&name.name)), name),
-        (Place::Items(text), Some(field)) => unknown_output(text, name, field),
-        (Place::Ports(ports), None) => unknown(ports.input(&name.name).is_some(), name),
-        (Place::Ports(_), Some(_)) => Some(name.at),
+        (Scope::Items(text), None) => unknown(has_value(text.item(&name.name)), name),
+        (Scope::Items(text), Some(field)) => unknown_output(text, name, field),
+        (Scope::Ports(ports), None) => unknown(ports.input(&name.name).is_some(), name),
+        (Scope::Ports(_), Some(_)) => Some(name.at),
     }
 }
 
-fn unknown_memory(place: &Place, name: &Ident) -> Option<u64>
-    ensures { result ≡ least (unknown_memory (scope_of place.now) name.now) }
+fn unknown_memory(place: &Scope, name: &Ident) -> Option<u64>
+    ensures { result ≡ least (unknown_memory (model_of_scope place.now) name.now) }
 {
     match place {
-        Place::Items(text) => unknown(is_memory(text.item(&name.name)), name),
-        Place::Ports(_) => Some(name.at),
+        Scope::Items(text) => unknown(is_memory(text.item(&name.name)), name),
+        Scope::Ports(_) => Some(name.at),
     }
 }
 
 #[cycle(unknown)]
 #[tactic(auto, using(rec_bits::proofs::Faults::least_rules))]
-fn unknown_in(place: &Place, e: &NetExpr) -> Option<u64>
-    ensures { result ≡ least (unknown_in (scope_of place.now) (phrase_of e.now)) }
+fn unknown_in(place: &Scope, e: &NetExpr) -> Option<u64>
+    ensures { result ≡ least (unknown_in (model_of_scope place.now) (model_of_net_expr e.now)) }
 {
     match e {
         NetExpr::Named { name, field, .. } => unknown_name(place, name, field),
@@ -104,31 +104,34 @@ fn unknown_in(place: &Place, e: &NetExpr) -> Option<u64>
         NetExpr::Un(_, a) | NetExpr::Slice(a, _, _) | NetExpr::Zext(a, _) | NetExpr::Sext(a, _) =>
             unknown_in(place, a),
         NetExpr::Bin(_, a, b) | NetExpr::Cat(a, b) => {
-            sooner(unknown_in(place, a), unknown_in(place, b))
+            lesser_offset(unknown_in(place, a), unknown_in(place, b))
         }
-        NetExpr::Read(memory, a) => sooner(unknown_memory(place, memory), unknown_in(place, a)),
+        NetExpr::Read(memory, a) => lesser_offset(
+            unknown_memory(place, memory),
+            unknown_in(place, a),
+        ),
         NetExpr::Case { sel, rows, rest } => {
-            let found = sooner(unknown_in(place, sel), unknown_rows(place, rows));
-            sooner(found, unknown_other(place, rest))
+            let found = lesser_offset(unknown_in(place, sel), unknown_rows(place, rows));
+            lesser_offset(found, unknown_other(place, rest))
         }
     }
 }
 
 #[cycle(unknown)]
 #[tactic(auto, using(rec_bits::proofs::Faults::least_rules))]
-fn unknown_rows(place: &Place, rows: &[(Vec<u64>, NetExpr)]) -> Option<u64>
-    ensures { result ≡ least (unknown_rows (scope_of place.now) (rows_of (map row_of rows.now))) }
+fn unknown_rows(place: &Scope, rows: &[(Vec<u64>, NetExpr)]) -> Option<u64>
+    ensures { result ≡ least (unknown_rows (model_of_scope place.now) (case_rows_of (map model_of_case_row rows.now))) }
 {
     let mut found = None;
     for row in rows {
-        found = sooner(found, unknown_in(place, &row.1));
+        found = lesser_offset(found, unknown_in(place, &row.1));
     }
     found
 }
 
 #[cycle(unknown)]
-fn unknown_other(place: &Place, other: &Option<Box<NetExpr>>) -> Option<u64>
-    ensures { result ≡ least (unknown_rest (scope_of place.now) (rest_of (other_of other.now))) }
+fn unknown_other(place: &Scope, other: &Option<Box<NetExpr>>) -> Option<u64>
+    ensures { result ≡ least (unknown_rest (model_of_scope place.now) (case_rest_of (other_of other.now))) }
 {
     match other {
         Some(a) => unknown_in(place, a),
@@ -136,8 +139,8 @@ fn unknown_other(place: &Place, other: &Option<Box<NetExpr>>) -> Option<u64>
     }
 }
 
-fn unknown_if(place: &Place, when: &Option<NetExpr>) -> Option<u64>
-    ensures { result ≡ least (unknown_if (scope_of place.now) (when_of when.now)) }
+fn unknown_if(place: &Scope, when: &Option<NetExpr>) -> Option<u64>
+    ensures { result ≡ least (unknown_if (model_of_scope place.now) (when_of when.now)) }
 {
     match when {
         Some(e) => unknown_in(place, e),
@@ -148,18 +151,18 @@ fn unknown_if(place: &Place, when: &Option<NetExpr>) -> Option<u64>
 // ---- items
 
 #[tactic(auto, using(rec_bits::proofs::Faults::least_rules))]
-fn unknown_driver(place: &Place, driver: &(NetExpr, NetExpr)) -> Option<u64>
-    ensures { result ≡ least (unknown_driver (scope_of place.now) (driver_of driver.now)) }
+fn unknown_driver(place: &Scope, driver: &(NetExpr, NetExpr)) -> Option<u64>
+    ensures { result ≡ least (unknown_driver (model_of_scope place.now) (driver_of driver.now)) }
 {
-    sooner(unknown_in(place, &driver.0), unknown_in(place, &driver.1))
+    lesser_offset(unknown_in(place, &driver.0), unknown_in(place, &driver.1))
 }
 
-fn unknown_in_drivers(place: &Place, drivers: &[(NetExpr, NetExpr)]) -> Option<u64>
-    ensures { result ≡ least (gather (unknown_driver (scope_of place.now)) (map driver_of drivers.now)) }
+fn unknown_in_drivers(place: &Scope, drivers: &[(NetExpr, NetExpr)]) -> Option<u64>
+    ensures { result ≡ least (gather (unknown_driver (model_of_scope place.now)) (map driver_of drivers.now)) }
 {
     let mut found = None;
     for driver in drivers {
-        found = sooner(found, unknown_driver(place, driver));
+        found = lesser_offset(found, unknown_driver(place, driver));
     }
     found
 }
@@ -171,7 +174,7 @@ fn unknown_in_equations(ports: &Ports, equations: &[(Ident, NetExpr)]) -> Option
 {
     let mut found = None;
     for equation in equations {
-        found = sooner(found, unknown_equation(ports, equation));
+        found = lesser_offset(found, unknown_equation(ports, equation));
     }
     found
 }
@@ -181,19 +184,19 @@ fn unknown_equation(ports: &Ports, equation: &(Ident, NetExpr)) -> Option<u64>
     ensures { result ≡ least (unknown_binding true ports.now (in_module ports.now) (binding_of equation.now)) }
 {
     let found = unknown(ports.output(&equation.0.name).is_some(), &equation.0);
-    sooner(found, unknown_in(&Place::Ports(ports), &equation.1))
+    lesser_offset(found, unknown_in(&Scope::Ports(ports), &equation.1))
 }
 
 // The links of a part are to the inputs of its module.
 fn unknown_in_links(text: &Text, owner: &Ident, links: &[(Ident, NetExpr)]) -> Option<u64>
     ensures { result ≡ least (gather (unknown_binding false
-        (ports_of (item_named (map entry_of text.now) owner.now.name))
-        (in_text (map entry_of text.now)))
+        (ports_of (item_named (map model_of_unit text.now) owner.now.name))
+        (in_text (map model_of_unit text.now)))
         (map binding_of links.now)) }
 {
     let mut found = None;
     for link in links {
-        found = sooner(found, unknown_link(text, owner, link));
+        found = lesser_offset(found, unknown_link(text, owner, link));
     }
     found
 }
@@ -201,23 +204,23 @@ fn unknown_in_links(text: &Text, owner: &Ident, links: &[(Ident, NetExpr)]) -> O
 #[tactic(auto, using(rec_bits::proofs::Faults::least_rules))]
 fn unknown_link(text: &Text, owner: &Ident, link: &(Ident, NetExpr)) -> Option<u64>
     ensures { result ≡ least (unknown_binding false
-        (ports_of (item_named (map entry_of text.now) owner.now.name))
-        (in_text (map entry_of text.now)) (binding_of link.now)) }
+        (ports_of (item_named (map model_of_unit text.now) owner.now.name))
+        (in_text (map model_of_unit text.now)) (binding_of link.now)) }
 {
     let found = unknown(text.input(&owner.name, &link.0.name).is_some(), &link.0);
-    sooner(found, unknown_in(&Place::Items(text), &link.1))
+    lesser_offset(found, unknown_in(&Scope::Items(text), &link.1))
 }
 
 #[tactic(auto, using(rec_bits::proofs::Faults::least_rules))]
 fn unknown_in_item(text: &Text, ports: &Ports, unit: &Unit) -> Option<u64>
     requires { ports.now ≡ item_ports unit.now }
-    ensures { result ≡ least (unknown_in_item (map entry_of text.now) (entry_of unit.now)) }
+    ensures { result ≡ least (unknown_in_item (map model_of_unit text.now) (model_of_unit unit.now)) }
 {
-    let place = Place::Items(text);
+    let place = Scope::Items(text);
     match unit {
         Unit::Code { counter, .. } => unknown(is_register(text.item(&counter.name)), counter),
         Unit::Register { input, when, .. } => {
-            sooner(unknown_in(&place, input), unknown_if(&place, when))
+            lesser_offset(unknown_in(&place, input), unknown_if(&place, when))
         }
         Unit::Memory {
             value,
@@ -225,15 +228,15 @@ fn unknown_in_item(text: &Text, ports: &Ports, unit: &Unit) -> Option<u64>
             when,
             ..
         } => {
-            let found = sooner(unknown_in(&place, value), unknown_in(&place, addr));
-            sooner(found, unknown_if(&place, when))
+            let found = lesser_offset(unknown_in(&place, value), unknown_in(&place, addr));
+            lesser_offset(found, unknown_if(&place, when))
         }
         Unit::Net { value, .. } => unknown_in(&place, value),
         Unit::Bus { drivers, .. } => unknown_in_drivers(&place, drivers.as_slice()),
         Unit::Module { equations, .. } => unknown_in_equations(ports, equations.as_slice()),
         Unit::Part { module, links, .. } => {
             let found = unknown(is_module(text.item(&module.name)), module);
-            sooner(found, unknown_in_links(text, module, links.as_slice()))
+            lesser_offset(found, unknown_in_links(text, module, links.as_slice()))
         }
     }
 }
@@ -241,11 +244,11 @@ fn unknown_in_item(text: &Text, ports: &Ports, unit: &Unit) -> Option<u64>
 /// The least offset of a name that stands for nothing in its place.
 pub(crate) fn first_unknown(text: &Text, units: &[Unit]) -> Option<u64>
     requires { text.now ≡ units.now }
-    ensures { result ≡ least (unknowns (map entry_of units.now)) }
+    ensures { result ≡ least (unknowns (map model_of_unit units.now)) }
 {
     let mut found = None;
     for (i, unit) in units.iter().enumerate() {
-        found = sooner(found, unknown_in_item(text, text.own_ports(i), unit));
+        found = lesser_offset(found, unknown_in_item(text, text.own_ports(i), unit));
     }
     found
 }

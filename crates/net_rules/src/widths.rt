@@ -6,15 +6,15 @@ ghost use Rattle.rec_bits.specs.Faults.{gather, least};
 ghost use Rattle.net_model.specs.TextNames.{item_named, in_module, in_text, port_named};
 ghost use Rattle.net_model.specs.TextWidths.{bits_of, extended, is_below, is_width, joined_width, memory_of, memory_widths, named_width, numbers_fit, paired, port_width, ports_of, read_width, row_seen, seen_first, seen_more, seen_rest, seen_rows, seen_width, sliced, value_width, wide};
 ghost use Rattle.net_model.specs.WidthRules.{binding_feeds, driver_feeds, enables, feeds, feeds_port, has_width, misfit, misfits, port_keeps, widths_fit};
-ghost use Rattle.net_model.specs.Written.{binding_of, driver_of, entry_of, other_of, phrase_of, rest_of, row_of, rows_of, when_of};
+ghost use Rattle.net_model.specs.Written.{binding_of, driver_of, model_of_unit, other_of, model_of_net_expr, case_rest_of, model_of_case_row, case_rows_of, when_of};
 ghost use Rattle.net_rules.specs.Inner.Modules.{item_ports};
-ghost use Rattle.net_rules.specs.Inner.Scopes.{scope_of};
-ghost use Rattle.net_rules.specs.Inner.Widths.{seen_of, widths_of};
+ghost use Rattle.net_rules.specs.Inner.Scopes.{model_of_scope};
+ghost use Rattle.net_rules.specs.Inner.Widths.{model_of_seen, model_of_memory_widths};
 
-use crate::text::{Place, Text};
+use crate::text::{Scope, Text};
 use net_model::{Ident, NetExpr, Port, Unit};
 use net_names::{Ports, name_of};
-use rec_bits::{Name, Op2, broken, sooner, written_result_width};
+use rec_bits::{Name, Op2, lesser_offset, offset_if, written_result_width};
 
 const LEAST_WIDTH: u64 = 1;
 
@@ -22,7 +22,7 @@ const GREATEST_WIDTH: u64 = 64;
 
 /// The widths of a memory or a file: of a cell, and of an address.
 #[derive(Clone, Copy)]
-struct Cells {
+struct MemoryWidths {
     cell: u64,
     address: u64,
 }
@@ -55,7 +55,7 @@ pub(crate) fn is_below(n: u64, width: u64) -> bool
 // ---- names
 
 fn value_width(item: Option<&Unit>) -> Option<u64>
-    ensures { result ≡ value_width (option_map entry_of (option_copied item.entry)) }
+    ensures { result ≡ value_width (option_map model_of_unit (option_copied item.entry)) }
 {
     match item {
         Some(Unit::Code { bits, .. }) => Some(*bits),
@@ -76,7 +76,7 @@ pub(crate) fn port_width(port: Option<&Port>) -> Option<u64>
 
 // The width of an output of a part.
 fn output_width(text: &Text, name: &Ident, field: &Ident) -> Option<u64>
-    ensures { result ≡ named_width (in_text (map entry_of text.now)) name.now.name (Some field.now) }
+    ensures { result ≡ named_width (in_text (map model_of_unit text.now)) name.now.name (Some field.now) }
 {
     match text.item(&name.name) {
         Some(Unit::Part { module, .. }) => port_width(text.output(&module.name, &field.name)),
@@ -84,19 +84,19 @@ fn output_width(text: &Text, name: &Ident, field: &Ident) -> Option<u64>
     }
 }
 
-fn named_width(place: &Place, name: &Ident, field: &Option<Ident>) -> Option<u64>
-    ensures { result ≡ named_width (scope_of place.now) name.now.name field.now }
+fn named_width(place: &Scope, name: &Ident, field: &Option<Ident>) -> Option<u64>
+    ensures { result ≡ named_width (model_of_scope place.now) name.now.name field.now }
 {
     match (place, field) {
-        (Place::Items(text), None) => value_width(text.item(&name.name)),
-        (Place::Items(text), Some(field)) => output_width(text, name, field),
-        (Place::Ports(ports), None) => port_width(ports.input(&name.name)),
-        (Place::Ports(_), Some(_)) => None,
+        (Scope::Items(text), None) => value_width(text.item(&name.name)),
+        (Scope::Items(text), Some(field)) => output_width(text, name, field),
+        (Scope::Ports(ports), None) => port_width(ports.input(&name.name)),
+        (Scope::Ports(_), Some(_)) => None,
     }
 }
 
-fn memory_of(item: Option<&Unit>) -> Option<Cells>
-    ensures { option_map widths_of result ≡ memory_of (option_map entry_of (option_copied item.entry)) }
+fn memory_of(item: Option<&Unit>) -> Option<MemoryWidths>
+    ensures { option_map model_of_memory_widths result ≡ memory_of (option_map model_of_unit (option_copied item.entry)) }
 {
     match item {
         Some(
@@ -105,7 +105,7 @@ fn memory_of(item: Option<&Unit>) -> Option<Cells>
                 addr_width,
                 ..
             },
-        ) => Some(Cells {
+        ) => Some(MemoryWidths {
             cell: *width,
             address: *addr_width,
         }),
@@ -113,12 +113,12 @@ fn memory_of(item: Option<&Unit>) -> Option<Cells>
     }
 }
 
-fn memory_widths(place: &Place, name: &Ident) -> Option<Cells>
-    ensures { option_map widths_of result ≡ memory_widths (scope_of place.now) name.now.name }
+fn memory_widths(place: &Scope, name: &Ident) -> Option<MemoryWidths>
+    ensures { option_map model_of_memory_widths result ≡ memory_widths (model_of_scope place.now) name.now.name }
 {
     match place {
-        Place::Items(text) => memory_of(text.item(&name.name)),
-        Place::Ports(_) => None,
+        Scope::Items(text) => memory_of(text.item(&name.name)),
+        Scope::Ports(_) => None,
     }
 }
 
@@ -169,8 +169,8 @@ fn extended(width: u64, a: Option<u64>) -> Option<u64>
     }
 }
 
-fn read_width(memory: Option<Cells>, address: Option<u64>) -> Option<u64>
-    ensures { result ≡ read_width (option_map widths_of memory) address }
+fn read_width(memory: Option<MemoryWidths>, address: Option<u64>) -> Option<u64>
+    ensures { result ≡ read_width (option_map model_of_memory_widths memory) address }
 {
     match (memory, address) {
         (Some(memory), Some(address)) if memory.address == address => Some(memory.cell),
@@ -202,7 +202,7 @@ fn numbers_fit(width: u64, numbers: &[u64]) -> bool
 }
 
 fn seen_more(before: Seen, width: Option<u64>) -> Seen
-    ensures { seen_of result ≡ seen_more (seen_of before) width }
+    ensures { model_of_seen result ≡ seen_more (model_of_seen before) width }
 {
     match (before, width) {
         (Seen::Nothing, Some(width)) => Seen::Width(width),
@@ -212,7 +212,7 @@ fn seen_more(before: Seen, width: Option<u64>) -> Seen
 }
 
 fn seen_first(selector: Option<u64>) -> Seen
-    ensures { seen_of result ≡ seen_first selector }
+    ensures { model_of_seen result ≡ seen_first selector }
 {
     match selector {
         Some(_) => Seen::Nothing,
@@ -221,7 +221,7 @@ fn seen_first(selector: Option<u64>) -> Seen
 }
 
 fn row_seen(selector: Option<u64>, before: Seen, numbers: &[u64], width: Option<u64>) -> Seen
-    ensures { seen_of result ≡ row_seen selector (seen_of before) numbers.now width }
+    ensures { model_of_seen result ≡ row_seen selector (model_of_seen before) numbers.now width }
 {
     match selector {
         Some(selector) if numbers_fit(selector, numbers) => seen_more(before, width),
@@ -230,7 +230,7 @@ fn row_seen(selector: Option<u64>, before: Seen, numbers: &[u64], width: Option<
 }
 
 fn seen_width(seen: Seen) -> Option<u64>
-    ensures { result ≡ seen_width (seen_of seen) }
+    ensures { result ≡ seen_width (model_of_seen seen) }
 {
     match seen {
         Seen::Width(width) => Some(width),
@@ -242,8 +242,8 @@ fn seen_width(seen: Seen) -> Option<u64>
 
 /// The width of an expression, or None where the rule of widths is broken in it.
 #[cycle(wide)]
-pub(crate) fn wide(place: &Place, e: &NetExpr) -> Option<u64>
-    ensures { result ≡ wide (scope_of place.now) (phrase_of e.now) }
+pub(crate) fn wide(place: &Scope, e: &NetExpr) -> Option<u64>
+    ensures { result ≡ wide (model_of_scope place.now) (model_of_net_expr e.now) }
 {
     match e {
         NetExpr::Named { name, field, bits } => bits_of(bits, named_width(place, name, field)),
@@ -263,9 +263,9 @@ pub(crate) fn wide(place: &Place, e: &NetExpr) -> Option<u64>
 }
 
 #[cycle(wide)]
-fn seen_rows(place: &Place, selector: Option<u64>, rows: &[(Vec<u64>, NetExpr)]) -> Seen
-    ensures { seen_of result ≡
-        seen_rows (scope_of place.now) selector (seen_first selector) (rows_of (map row_of rows.now)) }
+fn seen_rows(place: &Scope, selector: Option<u64>, rows: &[(Vec<u64>, NetExpr)]) -> Seen
+    ensures { model_of_seen result ≡
+        seen_rows (model_of_scope place.now) selector (seen_first selector) (case_rows_of (map model_of_case_row rows.now)) }
 {
     let mut seen = seen_first(selector);
     for row in rows {
@@ -275,8 +275,8 @@ fn seen_rows(place: &Place, selector: Option<u64>, rows: &[(Vec<u64>, NetExpr)])
 }
 
 #[cycle(wide)]
-fn seen_rest(place: &Place, before: Seen, other: &Option<Box<NetExpr>>) -> Seen
-    ensures { seen_of result ≡ seen_rest (scope_of place.now) (seen_of before) (rest_of (other_of other.now)) }
+fn seen_rest(place: &Scope, before: Seen, other: &Option<Box<NetExpr>>) -> Seen
+    ensures { model_of_seen result ≡ seen_rest (model_of_scope place.now) (model_of_seen before) (case_rest_of (other_of other.now)) }
 {
     match other {
         Some(a) => seen_more(before, wide(place, a)),
@@ -284,8 +284,8 @@ fn seen_rest(place: &Place, before: Seen, other: &Option<Box<NetExpr>>) -> Seen
     }
 }
 
-fn feeds(place: &Place, width: u64, e: &NetExpr) -> bool
-    ensures { result ≡ feeds (scope_of place.now) width (phrase_of e.now) }
+fn feeds(place: &Scope, width: u64, e: &NetExpr) -> bool
+    ensures { result ≡ feeds (model_of_scope place.now) width (model_of_net_expr e.now) }
 {
     match wide(place, e) {
         Some(found) => found == width,
@@ -293,8 +293,8 @@ fn feeds(place: &Place, width: u64, e: &NetExpr) -> bool
     }
 }
 
-fn enables(place: &Place, when: &Option<NetExpr>) -> bool
-    ensures { result ≡ enables (scope_of place.now) (when_of when.now) }
+fn enables(place: &Scope, when: &Option<NetExpr>) -> bool
+    ensures { result ≡ enables (model_of_scope place.now) (when_of when.now) }
 {
     match when {
         Some(e) => feeds(place, 1, e),
@@ -304,14 +304,14 @@ fn enables(place: &Place, when: &Option<NetExpr>) -> bool
 
 // ---- items
 
-fn driver_feeds(place: &Place, width: u64, driver: &(NetExpr, NetExpr)) -> bool
-    ensures { result ≡ driver_feeds (scope_of place.now) width (driver_of driver.now) }
+fn driver_feeds(place: &Scope, width: u64, driver: &(NetExpr, NetExpr)) -> bool
+    ensures { result ≡ driver_feeds (model_of_scope place.now) width (driver_of driver.now) }
 {
     feeds(place, width, &driver.0) && feeds(place, 1, &driver.1)
 }
 
-fn drivers_feed(place: &Place, width: u64, drivers: &[(NetExpr, NetExpr)]) -> bool
-    ensures { result ≡ list_all (driver_feeds (scope_of place.now) width) (map driver_of drivers.now) }
+fn drivers_feed(place: &Scope, width: u64, drivers: &[(NetExpr, NetExpr)]) -> bool
+    ensures { result ≡ list_all (driver_feeds (model_of_scope place.now) width) (map driver_of drivers.now) }
 {
     for driver in drivers {
         if !driver_feeds(place, width, driver) {
@@ -332,8 +332,8 @@ fn ports_keep(ports: &[Port]) -> bool
     true
 }
 
-fn feeds_port(place: &Place, width: Option<u64>, e: &NetExpr) -> bool
-    ensures { result ≡ feeds_port (scope_of place.now) width (phrase_of e.now) }
+fn feeds_port(place: &Scope, width: Option<u64>, e: &NetExpr) -> bool
+    ensures { result ≡ feeds_port (model_of_scope place.now) width (model_of_net_expr e.now) }
 {
     match width {
         Some(width) => feeds(place, width, e),
@@ -345,7 +345,7 @@ fn equation_feeds(ports: &Ports, equation: &(Ident, NetExpr)) -> bool
     ensures { result ≡ binding_feeds true ports.now (in_module ports.now) (binding_of equation.now) }
 {
     let width = port_width(ports.output(&equation.0.name));
-    feeds_port(&Place::Ports(ports), width, &equation.1)
+    feeds_port(&Scope::Ports(ports), width, &equation.1)
 }
 
 fn equations_feed(ports: &Ports, equations: &[(Ident, NetExpr)]) -> bool
@@ -362,18 +362,18 @@ fn equations_feed(ports: &Ports, equations: &[(Ident, NetExpr)]) -> bool
 
 fn link_feeds(text: &Text, owner: &Name, link: &(Ident, NetExpr)) -> bool
     ensures { result ≡
-        binding_feeds false (ports_of (item_named (map entry_of text.now) owner.now)) (in_text (map entry_of text.now))
+        binding_feeds false (ports_of (item_named (map model_of_unit text.now) owner.now)) (in_text (map model_of_unit text.now))
         (binding_of link.now) }
 {
     let width = port_width(text.input(owner, &link.0.name));
-    feeds_port(&Place::Items(text), width, &link.1)
+    feeds_port(&Scope::Items(text), width, &link.1)
 }
 
 fn links_feed(text: &Text, owner: &Name, links: &[(Ident, NetExpr)]) -> bool
     ensures { result
         ≡ list_all
-        (binding_feeds false (ports_of (item_named (map entry_of text.now) owner.now))
-        (in_text (map entry_of text.now)))
+        (binding_feeds false (ports_of (item_named (map model_of_unit text.now) owner.now))
+        (in_text (map model_of_unit text.now)))
         (map binding_of links.now) }
 {
     for link in links {
@@ -386,9 +386,9 @@ fn links_feed(text: &Text, owner: &Name, links: &[(Ident, NetExpr)]) -> bool
 
 fn widths_fit(text: &Text, ports: &Ports, unit: &Unit) -> bool
     requires { ports.now ≡ item_ports unit.now }
-    ensures { result ≡ widths_fit (map entry_of text.now) (entry_of unit.now) }
+    ensures { result ≡ widths_fit (map model_of_unit text.now) (model_of_unit unit.now) }
 {
-    let place = Place::Items(text);
+    let place = Scope::Items(text);
     match unit {
         Unit::Code { bits, .. } => is_width(*bits),
         Unit::Register {
@@ -425,12 +425,12 @@ fn widths_fit(text: &Text, ports: &Ports, unit: &Unit) -> bool
 /// The least offset of an item in which widths don't fit.
 pub(crate) fn first_misfit(text: &Text, units: &[Unit]) -> Option<u64>
     requires { text.now ≡ units.now }
-    ensures { result ≡ least (misfits (map entry_of units.now)) }
+    ensures { result ≡ least (misfits (map model_of_unit units.now)) }
 {
     let mut found = None;
     for (i, unit) in units.iter().enumerate() {
         let fits = widths_fit(text, text.own_ports(i), unit);
-        found = sooner(found, broken(!fits, name_of(unit).at));
+        found = lesser_offset(found, offset_if(!fits, name_of(unit).at));
     }
     found
 }

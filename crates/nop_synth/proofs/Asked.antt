@@ -11,14 +11,14 @@ use Rattle.net_model.specs.declared.hardware.Storage.{Storage}
 use Rattle.net_model.specs.declared.hardware.Storage.TheVariants.{Register, Memory, File}
 use Rattle.net_model.specs.CheckedRules.{KeepsRules, memory_count}
 use Rattle.net_model.specs.Nets.{IsRegister, file_place, memory_id, place_in}
-use Rattle.net_model.specs.Terms.{keep}
-use Rattle.net_model.specs.Transfers.{IsClean, space_move}
+use Rattle.net_model.specs.Exprs.{keep}
+use Rattle.net_model.specs.Transfers.{IsClean, space_transfer}
 use Rattle.net_model.proofs.Spaces.{by_space}
 use Rattle.net_model.proofs.KeptRules.{few_storages, one_each}
 use Rattle.net_model.proofs.Storages.{array_no_register, other_register, register_within}
 use Rattle.sym_expr.specs.declared.pool.Node.{Node}
 use Rattle.transfer_set.specs.Ready.{IsReady}
-use Rattle.transfer_set.specs.Tables.{Table}
+use Rattle.transfer_set.specs.Tables.{PatternTable}
 use Rattle.transfer_set.specs.declared.row.Row.{Row}
 use Rattle.transfer_set.proofs.ReadyLaws.{row_clean}
 use Rattle.form_model.specs.declared.forms.Step.{Step}
@@ -46,7 +46,7 @@ unnamed : (o : Option ℕ) (r : ℕ) → (o ≡ Some r → ⊥) → option_eq na
 unnamed None r e = refl
 unnamed (Some k) r e = ne_eqb k r (λ same. e (ap Some same))
 
-module _ (netlist : Netlist) (order : List ℕ) (keeps : KeepsRules netlist order) (book : Diagrams) (pool : List Node) (table : Table) (ready : IsReady netlist book pool table) (empty : (word : ℕ) → has_word book 0 word ≡ false) where
+module _ (netlist : Netlist) (order : List ℕ) (keeps : KeepsRules netlist order) (book : Diagrams) (pool : List Node) (table : PatternTable) (ready : IsReady netlist book pool table) (empty : (word : ℕ) → has_word book 0 word ≡ false) where
   -- ---- registers that are to be kept
 
   -- where a storage has cells
@@ -101,15 +101,15 @@ module _ (netlist : Netlist) (order : List ℕ) (keeps : KeepsRules netlist orde
   abbrev stored_by : List Step → Space → Bool
   stored_by g space = group_stores space (step_operation pool table) g
 
-  cells_kept : (stored : Space → Bool) (word : ℕ) → word < 2 ^ book.bits → all_hold book (cell_sets table stored) word ≡ true → (space : Space) → stored space ≡ false → space_move netlist space word ≡ keep
+  cells_kept : (stored : Space → Bool) (word : ℕ) → word < 2 ^ book.bits → all_hold book (cell_sets table stored) word ≡ true → (space : Space) → stored space ≡ false → space_transfer netlist space word ≡ keep
   cells_kept stored word lt h space e =
       let p = hold_parts book (space_sets table InMemory (stored InMemory)) (space_sets table InFile (stored InFile)) word h in
-      by_space (λ z. all_hold book (space_sets table z (stored z)) word ≡ true → stored z ≡ false → space_move netlist z word ≡ keep)
+      by_space (λ z. all_hold book (space_sets table z (stored z)) word ≡ true → stored z ≡ false → space_transfer netlist z word ≡ keep)
       (λ k. space_kept netlist book pool table ready InMemory (stored InMemory) word lt memory_within k)
       (λ k. space_kept netlist book pool table ready InFile (stored InFile) word lt memory_within k)
       space (by_space (λ z. all_hold book (space_sets table z (stored z)) word ≡ true) p.0 p.1 space) e
 
-  cells_held : (stored : Space → Bool) (word : ℕ) → word < 2 ^ book.bits → IsClean netlist word → ((space : Space) → stored space ≡ false → space_move netlist space word ≡ keep) → all_hold book (cell_sets table stored) word ≡ true
+  cells_held : (stored : Space → Bool) (word : ℕ) → word < 2 ^ book.bits → IsClean netlist word → ((space : Space) → stored space ≡ false → space_transfer netlist space word ≡ keep) → all_hold book (cell_sets table stored) word ≡ true
   cells_held stored word lt clean h =
       hold_both book (space_sets table InMemory (stored InMemory)) (space_sets table InFile (stored InFile)) word
       (space_held netlist book pool table ready InMemory (stored InMemory) word lt clean (h InMemory))

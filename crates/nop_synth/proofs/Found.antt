@@ -6,7 +6,7 @@ use Rattle.net_model.specs.declared.hardware.Netlist.{Netlist}
 use Rattle.net_model.specs.declared.hardware.Space.TheVariants.{Memory as InMemory}
 use Rattle.net_model.specs.CheckedRules.{KeepsRules}
 use Rattle.sym_expr.specs.declared.pool.Node.{Node}
-use Rattle.transfer_set.specs.Tables.{Table}
+use Rattle.transfer_set.specs.Tables.{PatternTable}
 use Rattle.form_model.specs.declared.forms.Step.{Step}
 use Rattle.form_model.specs.Live.{Regs, group_writes}
 use Rattle.word_fit.specs.Fits.{FitsGroup, FitsTurning, IsLeastFit, group_stores}
@@ -28,7 +28,7 @@ least_of : (P : ℕ → Type 0) (book : Diagrams) (id : ℕ) (o : Option ℕ) �
 least_of P book id None l f g = λ word p. true≢false (sym (g word p) ∙ l.none word)
 least_of P book id (Some word) l f g = record { is = f word l.within l.some; least = λ other p. l.least other (g other p) }
 
-module _ (netlist : Netlist) (order : List ℕ) (keeps : KeepsRules netlist order) (old new : Diagrams) (pool : List Node) (table : Table) (ready : IsReady netlist old pool table) (empty : (word : ℕ) → has_word old 0 word ≡ false) (grows : Extends old new) where
+module _ (netlist : Netlist) (order : List ℕ) (keeps : KeepsRules netlist order) (old new : Diagrams) (pool : List Node) (table : PatternTable) (ready : IsReady netlist old pool table) (empty : (word : ℕ) → has_word old 0 word ≡ false) (grows : Extends old new) where
   fits_old : (word : ℕ) → word < 2 ^ new.bits → word < 2 ^ old.bits
   fits_old word h = subst (λ n. word < 2 ^ n) grows.bits h
 

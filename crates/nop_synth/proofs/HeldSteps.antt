@@ -5,12 +5,12 @@ use Rattle.std.proofs.lemmas.Bool.{true≢false, eqb-true, eq-eqb, and_parts, an
 use Rattle.std.proofs.Math.Bool.{and_assoc}
 use Rattle.bit_bdd.specs.Diagrams.{Diagrams, has_word}
 use Rattle.net_model.specs.declared.hardware.Netlist.{Netlist}
-use Rattle.net_model.specs.Terms.{keep}
+use Rattle.net_model.specs.Exprs.{keep}
 use Rattle.net_model.specs.Transfers.{IsClean}
 use Rattle.sym_expr.specs.declared.pool.Node.{Node}
-use Rattle.transfer_set.specs.Entries.{ids_move}
+use Rattle.transfer_set.specs.Entries.{ids_transfer}
 use Rattle.transfer_set.specs.Ready.{IsReady}
-use Rattle.transfer_set.specs.Tables.{Table, IsRow}
+use Rattle.transfer_set.specs.Tables.{PatternTable, IsRow}
 use Rattle.transfer_set.specs.declared.row.Row.{Row}
 use Rattle.transfer_set.proofs.ReadyLaws.{row_at}
 use Rattle.form_model.specs.declared.forms.Step.{Step}
@@ -42,10 +42,10 @@ below-append book (x ∷ xs) ys h k = (h.0, below-append book xs ys h.1 k)
 pub one_hold : (book : Diagrams) (set word : ℕ) → all_hold book (set ∷ []) word ≡ true → has_word book set word ≡ true
 one_hold book set word h = (and_parts _ _ h).0
 
-module _ (netlist : Netlist) (book : Diagrams) (pool : List Node) (table : Table) (ready : IsReady netlist book pool table) (empty : (word : ℕ) → has_word book 0 word ≡ false) where
+module _ (netlist : Netlist) (book : Diagrams) (pool : List Node) (table : PatternTable) (ready : IsReady netlist book pool table) (empty : (word : ℕ) → has_word book 0 word ≡ false) where
   -- ---- steps
 
-  changes : (addr : Option ℕ) (value : ℕ) → ids_move pool addr value ≡ keep → ⊥
+  changes : (addr : Option ℕ) (value : ℕ) → ids_transfer pool addr value ≡ keep → ⊥
   changes None value e = cc
   changes (Some addr) value e = cc
 

@@ -7,7 +7,7 @@ use Rattle.std.specs.Int.{bit_at}
 use Rattle.std.proofs.lemmas.Bool.{eqb-true, eq-eqb, ne_eqb, and_parts, and_from, cases_lt}
 use Rattle.std.proofs.lemmas.Nat.Bits.{bit_at_and, bit_at-lt, same_from_bits, bit_at_above, shr_and_one}
 use Rattle.bit_bdd.specs.Diagrams.{Diagrams, has_word}
-use Rattle.transfer_set.specs.Tables.{Table}
+use Rattle.transfer_set.specs.Tables.{PatternTable}
 use Rattle.form_model.specs.Live.{Regs}
 use Rattle.nop_synth.specs.declared.meet.FieldValue.{FieldValue}
 use Rattle.nop_synth.specs.Wanted.{is_wanted, option_list, register_sets, all_hold, AllBelow, has_field, has_fields, bit_agrees, bits_agree}
@@ -123,7 +123,7 @@ narrowed_never n a mask value word bit en e v = en ∙ sym (false_and a) ∙ ap 
 
 -- ---- registers
 
-pub registers_more : (table : Table) (live written : Regs) (r : ℕ) (sets old new : List ℕ) (kept : Bool) → new ≡ old ++ (if kept then option_list (slice_get table.keeps r) else []) → old ≡ sets ++ register_sets table live written r → kept ≡ is_wanted table live written r → new ≡ sets ++ register_sets table live written (r + 1)
+pub registers_more : (table : PatternTable) (live written : Regs) (r : ℕ) (sets old new : List ℕ) (kept : Bool) → new ≡ old ++ (if kept then option_list (slice_get table.keeps r) else []) → old ≡ sets ++ register_sets table live written r → kept ≡ is_wanted table live written r → new ≡ sets ++ register_sets table live written (r + 1)
 unfolding register_sets
 registers_more table live written r sets old new kept en eo ek =
     rw (add-one r)

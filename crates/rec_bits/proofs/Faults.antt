@@ -3,13 +3,13 @@ use Rattle.std.proofs.Common.{ℕ, suc, ◌≡◌, ◌≤◌, ◌<◌, ◌+◌, 
 use Rattle.std.proofs.Math.Seq.{drop-cons}
 use Rattle.std.proofs.lemmas.List.{drop_all}
 use Rattle.std.proofs.lemmas.Bool.{cases_eq}
-use Rattle.rec_bits.specs.Faults.{sooner, least, gather}
+use Rattle.rec_bits.specs.Faults.{lesser_offset, least, gather}
 
-pub sooner_none : (a : Option ℕ) → sooner a None ≡ a
+pub sooner_none : (a : Option ℕ) → lesser_offset a None ≡ a
 sooner_none None = refl
 sooner_none (Some a) = refl
 
-pub sooner_assoc : (a b c : Option ℕ) → sooner (sooner a b) c ≡ sooner a (sooner b c)
+pub sooner_assoc : (a b c : Option ℕ) → lesser_offset (lesser_offset a b) c ≡ lesser_offset a (lesser_offset b c)
 sooner_assoc None b c = refl
 sooner_assoc (Some a) None c = refl
 sooner_assoc (Some a) (Some b) None = refl
@@ -18,9 +18,9 @@ sooner_assoc (Some a) (Some b) (Some c) = ap Some (min_assoc a b c)
     min_assoc : (x y z : ℕ) → min (min x y) z ≡ min x (min y z)
     min_assoc x y z = omega arith
 
-pub least_append : (xs ys : List ℕ) → least (xs ++ ys) ≡ sooner (least xs) (least ys)
+pub least_append : (xs ys : List ℕ) → least (xs ++ ys) ≡ lesser_offset (least xs) (least ys)
 least_append [] ys = refl
-least_append (x ∷ xs) ys = ap (sooner (Some x)) (least_append xs ys) ∙ sym (sooner_assoc (Some x) (least xs) (least ys))
+least_append (x ∷ xs) ys = ap (lesser_offset (Some x)) (least_append xs ys) ∙ sym (sooner_assoc (Some x) (least xs) (least ys))
 
 pub ruleset least_rules = (least_append, sooner_none, sooner_assoc)
 
@@ -29,15 +29,15 @@ drop_item xs i x h e = rw add-one (drop-cons xs i x h ∙ ap (λ (y : _). y ∷ 
 
 -- a scan that keeps the least offset so far, one item further and at the end
 pub gather_next : {A : Type 0} (f : A → List ℕ) (xs : List A) (i : ℕ) (x : A) (found all : Option ℕ) → i < length xs → x ≡ get_or xs i x
-    → sooner found (least (gather f (drop i xs))) ≡ all → sooner (sooner found (least (f x))) (least (gather f (drop (i + 1) xs))) ≡ all
+    → lesser_offset found (least (gather f (drop i xs))) ≡ all → lesser_offset (lesser_offset found (least (f x))) (least (gather f (drop (i + 1) xs))) ≡ all
 gather_next f xs i x found all h e k =
     sooner_assoc found (least (f x)) (least (gather f (drop (i + 1) xs)))
-    ∙ ap (sooner found) (sym (least_append (f x) (gather f (drop (i + 1) xs))))
-    ∙ ap (λ (l : List _). sooner found (least (gather f l))) (sym (drop_item xs i x h e)) ∙ k
+    ∙ ap (lesser_offset found) (sym (least_append (f x) (gather f (drop (i + 1) xs))))
+    ∙ ap (λ (l : List _). lesser_offset found (least (gather f l))) (sym (drop_item xs i x h e)) ∙ k
 
 pub gather_end : {A : Type 0} (f : A → List ℕ) (xs : List A) (i : ℕ) (found all : Option ℕ) → length xs ≤ i
-    → sooner found (least (gather f (drop i xs))) ≡ all → found ≡ all
-gather_end f xs i found all h k = sym (sooner_none found) ∙ ap (λ (l : List _). sooner found (least (gather f l))) (sym (drop_all i xs h)) ∙ k
+    → lesser_offset found (least (gather f (drop i xs))) ≡ all → found ≡ all
+gather_end f xs i found all h k = sym (sooner_none found) ∙ ap (λ (l : List _). lesser_offset found (least (gather f l))) (sym (drop_all i xs h)) ∙ k
 
 -- what the least is: nothing of an empty list alone, and otherwise an offset of the list that none
 -- lies below
@@ -49,11 +49,11 @@ pub least_none : (xs : List ℕ) → least xs ≡ None → xs ≡ []
 least_none [] h = refl
 least_none (x ∷ xs) h = absurd (never (least xs) h)
   where
-    never : (o : Option ℕ) → sooner (Some x) o ≡ None → ⊥
+    never : (o : Option ℕ) → lesser_offset (Some x) o ≡ None → ⊥
     never None e = cc e
     never (Some b) e = cc e
 
-least_le_at : (xs : List ℕ) (x n m : ℕ) → ((y : ℕ) → least xs ≡ Some y → Among m xs → y ≤ m) → (o : Option ℕ) → least xs ≡ o → sooner (Some x) o ≡ Some n → (m ≡ x) ⊎ Among m xs → n ≤ m
+least_le_at : (xs : List ℕ) (x n m : ℕ) → ((y : ℕ) → least xs ≡ Some y → Among m xs → y ≤ m) → (o : Option ℕ) → least xs ≡ o → lesser_offset (Some x) o ≡ Some n → (m ≡ x) ⊎ Among m xs → n ≤ m
 least_le_at xs x n m f None e h (inl i) = let k : x ≡ n = cc h in omega (arith, k, i)
 least_le_at xs x n m f None e h (inr b) = absurd (subst (Among m) (least_none xs e) b)
 least_le_at xs x n m f (Some y) e h (inl i) = let k : min x y ≡ n = cc h in omega (arith, k, i)
@@ -63,7 +63,7 @@ pub least_le : (xs : List ℕ) (n : ℕ) → least xs ≡ Some n → (m : ℕ) �
 least_le [] n h m a = absurd a
 least_le (x ∷ xs) n h m a = least_le_at xs x n m (λ y e b. least_le xs y e m b) (least xs) refl h a
 
-least_among_at : (xs : List ℕ) (x n : ℕ) → ((y : ℕ) → least xs ≡ Some y → Among y xs) → (o : Option ℕ) → least xs ≡ o → sooner (Some x) o ≡ Some n → Among n (x ∷ xs)
+least_among_at : (xs : List ℕ) (x n : ℕ) → ((y : ℕ) → least xs ≡ Some y → Among y xs) → (o : Option ℕ) → least xs ≡ o → lesser_offset (Some x) o ≡ Some n → Among n (x ∷ xs)
 least_among_at xs x n f None e h = let k : n ≡ x = cc h in inl k
 least_among_at xs x n f (Some y) e h = let k : min x y ≡ n = cc h in elim (cases_eq n x) [
   | inl i ↦ inl i

@@ -4,15 +4,15 @@ use Rattle.std.specs.Prelude.{ℕ, min, Bool, true, false, List, [], ◌∷◌, 
 use Rattle.std.specs.Cmp.Lexicographic.{pointwise}
 
 -- the lesser of two offsets that may be absent
-abbrev pub sooner : Option ℕ → Option ℕ → Option ℕ
-sooner None later = later
-sooner (Some a) None = Some a
-sooner (Some a) (Some b) = Some (min a b)
+abbrev pub lesser_offset : Option ℕ → Option ℕ → Option ℕ
+lesser_offset None later = later
+lesser_offset (Some a) None = Some a
+lesser_offset (Some a) (Some b) = Some (min a b)
 
 -- the least of a list, if there is one
 abbrev pub least : List ℕ → Option ℕ
 least [] = None
-least (x ∷ xs) = sooner (Some x) (least xs)
+least (x ∷ xs) = lesser_offset (Some x) (least xs)
 
 -- the offsets that the items of a list give, one item after the other
 abbrev pub gather : {A : Type 0} → (A → List ℕ) → List A → List ℕ
@@ -20,9 +20,9 @@ gather f [] = []
 gather f (x ∷ xs) = f x ++ gather f xs
 
 -- the offset, where the rule is broken there
-abbrev pub broken : Bool → ℕ → List ℕ
-broken true at = at ∷ []
-broken false at = []
+abbrev pub offsets_if : Bool → ℕ → List ℕ
+offsets_if true at = at ∷ []
+offsets_if false at = []
 
 -- the earlier of two faults that may be absent
 abbrev pub or_else : {F : Type 0} → Option F → Option F → Option F

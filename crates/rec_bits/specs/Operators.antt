@@ -1,4 +1,7 @@
--- What the operators are: arithmetic on whole numbers, with the width given.
+-- What the operators are: arithmetic on whole numbers, with the width given. A value of w bits is
+-- a number below 2^w. Sums, differences, products and negation are modulo 2^w; and, or, xor, not
+-- go bit by bit; a shift by w or more gives 0, and `sar` copies of the top bit; comparisons give
+-- one bit, `lts` in two's complement. `slice`, `cat`, `sext` are parts, joins and extensions.
 use Rattle.std.specs.Prelude.{ℕ, ◌+◌, ◌-◌, ◌*◌, ◌/◌, ◌%◌, ◌^◌, Bool, if◌then◌else◌, ◌==◌, nat_lt, nat_le, bit_and, bit_or, bit_xor, ℤ, pos, ◌-ℤ◌, int_lt, ◌≤◌}
 use Rattle.rec_bits.specs.declared.operator.Op1.{Op1}
 use Rattle.rec_bits.specs.declared.operator.Op1.TheVariants.{Not, Neg}

@@ -1,11 +1,11 @@
 //! The least of some offsets.
 
 ghost use Rattle.std.specs.Prelude.{◌≡◌};
-ghost use Rattle.rec_bits.specs.Faults.{sooner, broken, least};
+ghost use Rattle.rec_bits.specs.Faults.{lesser_offset, offsets_if, least};
 
 /// The lesser of two offsets that may be absent.
-pub fn sooner(a: Option<u64>, b: Option<u64>) -> Option<u64>
-    ensures { result ≡ sooner a b }
+pub fn lesser_offset(a: Option<u64>, b: Option<u64>) -> Option<u64>
+    ensures { result ≡ lesser_offset a b }
 {
     match (a, b) {
         (Some(a), Some(b)) => Some(a.min(b)),
@@ -15,8 +15,8 @@ pub fn sooner(a: Option<u64>, b: Option<u64>) -> Option<u64>
 }
 
 /// The offset, where a rule is broken there.
-pub fn broken(is_broken: bool, at: u64) -> Option<u64>
-    ensures { result ≡ least (broken is_broken at) }
+pub fn offset_if(is_broken: bool, at: u64) -> Option<u64>
+    ensures { result ≡ least (offsets_if is_broken at) }
 {
     if is_broken { Some(at) } else { None }
 }

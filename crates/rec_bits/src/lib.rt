@@ -4,7 +4,7 @@
 //! Promise: `apply1`, `apply2`, `slice`, `cat` and `sext` give exactly the values that
 //! `specs/Operators` defines, for operands that fit their widths. `range_add`, `range_sub` and
 //! `range_mul` give the range of all sums, differences and products, or None where an end of it
-//! lies outside -2^64 to 2^64. `sooner` and `broken` give the least of offsets. Contracts see an
+//! lies outside -2^64 to 2^64. `lesser_offset` and `offset_if` give the least of offsets. Contracts see an
 //! `Items` as the list of its items; a refused `push` leaves it as it was.
 //!
 //! Files:
@@ -32,7 +32,7 @@ mod ranges;
 mod tests;
 
 pub use fault::{NoMemory, ParseFault};
-pub use least::{broken, sooner};
+pub use least::{lesser_offset, offset_if};
 pub use list::{Items, Name};
 pub use operator::{
     Op1, Op2, apply1, apply2, cat, mask, result_width, sext, slice, written_result_width,

@@ -1,4 +1,7 @@
--- What a shelf means, and what its answers say.
+-- What a shelf means, and what its answers say. What is known of a shelf (its files where it tells
+-- them, its count, and of the last fetch the name, the bytes got, which are at most the limit and
+-- one, and whether it failed), and what each answer of a fetch says of it. Of fetches none failed
+-- (`NoneFailed`, `NoFetchFailed`), or the last one did and was counted (`LastFailed`).
 use Rattle.std.specs.Prelude.{◌≡◌, ℕ, ◌<◌, ◌≤◌, ◌⊎◌, Bool, true, false, List, length, Option, Some, IfSome, IsSomeAnd}
 use Rattle.rec_io.specs.Causes.{count_after}
 use Rattle.rec_io.specs.Files.{Files, file_of}

@@ -1,4 +1,5 @@
--- What a sink means.
+-- What a sink means. What is known of a sink (its bytes where it tells them, its count, whether
+-- the last put failed), and that it took a piece, or a front of one.
 use Rattle.std.specs.Prelude.{◌≡◌, ℕ, Bool, true, List, Option}
 use Rattle.rec_io.specs.Causes.{count_after}
 

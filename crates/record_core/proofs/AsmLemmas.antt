@@ -2,24 +2,24 @@
 use Rattle.std.proofs.Common.{◌≡◌, ◌⊎◌, ℕ, List, [], ◌∷◌, inl, inr, refl, subst, arith}
 use Rattle.std.specs.List.{AllZip}
 use Rattle.net_model.specs.declared.hardware.Netlist.{Netlist}
-use Rattle.net_extract.specs.Taken.{BreaksAnyTaken}
-use Rattle.net_extract.proofs.RoutedTaken.{no_text_fault_where_taken}
+use Rattle.isa_extract.specs.Taken.{BreaksAnyTaken}
+use Rattle.isa_extract.proofs.RoutedTaken.{no_text_fault_where_taken}
 use Rattle.net_model.specs.declared.fault.NetFault.{NetFault}
-use Rattle.net_asm.proofs.AsmLaws.{no_broken_rule, no_text_fault, no_wordless}
+use Rattle.asm_command.proofs.AsmLaws.{no_broken_rule, no_text_fault, no_wordless}
 use Rattle.asm_text.specs.declared.line.Line.{Line}
 use Rattle.asm_words.proofs.Clocked.{words_lie}
 use Rattle.code_model.specs.Places.{words_of}
-use Rattle.net_asm.proofs.Again.{clocks_alike}
-use Rattle.net_asm.specs.Machines.{IsMachine, Machine, assembled_edition}
-use Rattle.net_run.proofs.RunLaws.{no_image_fault}
-use Rattle.net_asm.specs.Assembled.{HasWord, IsAssembled, IsAssembleFault, IsNoAsmFile, IsWordless}
-use Rattle.net_asm.specs.Disassembled.{IsDisassembled, IsDisassembleFault, ShowsWord}
-use Rattle.net_asm.specs.Machines.{IsMachineText}
-use Rattle.net_asm.specs.declared.fault.AsmFault.{AsmFault}
-use Rattle.net_asm.specs.declared.fault.AsmFault.TheVariants as assembling
-use Rattle.net_asm.specs.declared.fault.DisFault.{DisFault}
-use Rattle.net_asm.specs.declared.fault.DisFault.TheVariants as showing
-use Rattle.net_run.specs.Runs.{IsImageFile, IsNoImageFile}
+use Rattle.asm_command.proofs.Again.{clocks_alike}
+use Rattle.asm_command.specs.Machines.{IsMachine, Machine, assembled_edition}
+use Rattle.run_command.proofs.RunLaws.{no_image_fault}
+use Rattle.asm_command.specs.Assembled.{HasWord, IsAssembled, IsAssembleFault, IsNoAsmFile, IsWordless}
+use Rattle.asm_command.specs.Disassembled.{IsDisassembled, IsDisassembleFault, ShowsWord}
+use Rattle.asm_command.specs.Machines.{IsMachineText}
+use Rattle.asm_command.specs.declared.fault.AsmFault.{AsmFault}
+use Rattle.asm_command.specs.declared.fault.AsmFault.TheVariants as assembling
+use Rattle.asm_command.specs.declared.fault.DisFault.{DisFault}
+use Rattle.asm_command.specs.declared.fault.DisFault.TheVariants as showing
+use Rattle.run_command.specs.Runs.{IsImageFile, IsNoImageFile}
 use Rattle.code_model.specs.ImageFits.{limits_of}
 use Rattle.code_model.specs.ImageLines.{IsImageText}
 use Rattle.record_core.specs.Showing.{IsShownText}

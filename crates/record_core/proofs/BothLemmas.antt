@@ -3,21 +3,21 @@ use Rattle.std.proofs.Common.{◌≡◌, ◌⊎◌, ℕ, List, inl, inr, refl}
 use Rattle.net_model.specs.declared.fault.NetFault.{NetFault}
 use Rattle.net_front.specs.Taken.{HasNoBank, unbanked_role}
 use Rattle.net_front.proofs.TakenLaws.{has_bank}
-use Rattle.net_extract.specs.Taken.{BreaksAnyBanked}
-use Rattle.net_extract.proofs.RoutedTaken.{no_broken_of_any, no_text_fault_of_any}
+use Rattle.isa_extract.specs.Taken.{BreaksAnyBanked}
+use Rattle.isa_extract.proofs.RoutedTaken.{no_broken_of_any, no_text_fault_of_any}
 use Rattle.src_front.proofs.FrontLaws.{no_text_fault as no_src_fault}
 use Rattle.src_model.specs.declared.fault.SrcFault.{SrcFault}
 use Rattle.src_parser.specs.Texts.{IsNoSrcText}
 use Rattle.right_code.specs.Covered.{HasBareTree}
-use Rattle.net_code.specs.Refusals.{HasJumps, HasSteps, IsBeyondReach, IsCoverable, IsJumpless, IsReached, IsStepless, IsImageTooLong as HasLongImage}
-use Rattle.net_compile.specs.declared.fault.CompileFault.TheVariants.{NetText as CompileNetText, Net as CompileNet, SrcText as CompileSrcText, Src as CompileSrc, DataFull as NoRoom, NoStep as Stepless, NoJump as Jumpless, NoCover as Uncovered, NoReach as Beyond, ImageFull as Overlong, Memory as CompileMemory}
-use Rattle.dual_code.specs.Code.{DualFailsWith, IsDualFull, IsDualWithin}
-use Rattle.dual_code.specs.Compiled.{BreaksDualSrc, IsDualCompiled, IsDualFault, IsNoPart}
-use Rattle.dual_code.specs.RightDual.{HasBothRoom, dual_task}
-use Rattle.dual_code.specs.Tasks.{DualHolds, DualProperty, HasBankedNet, HasBankedProgram, ViewHolds}
-use Rattle.dual_code.specs.declared.fault.DualFault.{DualFault}
-use Rattle.dual_code.specs.declared.fault.DualFault.TheVariants.{PartText as NoPart, Compile as NoCode}
-use Rattle.dual_code.proofs.DualLemmas.{has_program, no_beyond, no_full, no_jumpless, no_long, no_stepless, no_uncovered, none_broken, none_no_part, reached_of_code, room_of_code, weaker}
+use Rattle.code_gen.specs.Refusals.{HasJumps, HasSteps, IsBeyondReach, IsCoverable, IsJumpless, IsReached, IsStepless, IsImageTooLong as HasLongImage}
+use Rattle.compile_command.specs.declared.fault.CompileFault.TheVariants.{NetText as CompileNetText, Net as CompileNet, SrcText as CompileSrcText, Src as CompileSrc, DataFull as NoRoom, NoStep as Stepless, NoJump as Jumpless, NoCover as Uncovered, NoReach as Beyond, ImageFull as Overlong, Memory as CompileMemory}
+use Rattle.dual_command.specs.Code.{DualFailsWith, IsDualFull, IsDualWithin}
+use Rattle.dual_command.specs.Compiled.{BreaksDualSrc, IsDualCompiled, IsDualFault, IsNoPart}
+use Rattle.dual_command.specs.RightDual.{HasBothRoom, dual_task}
+use Rattle.dual_command.specs.Tasks.{DualHolds, DualProperty, HasBankedNet, HasBankedProgram, ViewHolds}
+use Rattle.dual_command.specs.declared.fault.DualFault.{DualFault}
+use Rattle.dual_command.specs.declared.fault.DualFault.TheVariants.{PartText as NoPart, Compile as NoCode}
+use Rattle.dual_command.proofs.DualLemmas.{has_program, no_beyond, no_full, no_jumpless, no_long, no_stepless, no_uncovered, none_broken, none_no_part, reached_of_code, room_of_code, weaker}
 use Rattle.record_core.proofs.NetLemmas.{behind_rules, past_rules, stops_at_rule, stops_at_text}
 use Rattle.record_core.proofs.StageLemmas.{By-none, Just-none, Then-behind, Then-past}
 use Rattle.record_core.specs.Answers.{CodeEnds, DualAnswers}

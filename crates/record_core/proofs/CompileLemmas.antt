@@ -1,17 +1,17 @@
 -- What commands answer that make code of two texts.
 use Rattle.std.proofs.Common.{◌≡◌, ◌⊎◌, ℕ, List, inl, inr, refl}
 use Rattle.net_model.specs.declared.fault.NetFault.{NetFault}
-use Rattle.net_extract.specs.Taken.{BreaksAnyTaken}
-use Rattle.net_extract.proofs.RoutedTaken.{no_broken_any_taken, no_text_fault_where_taken}
+use Rattle.isa_extract.specs.Taken.{BreaksAnyTaken}
+use Rattle.isa_extract.proofs.RoutedTaken.{no_broken_any_taken, no_text_fault_where_taken}
 use Rattle.right_code.specs.Covered.{HasBareTree}
 use Rattle.right_code.specs.Tasks.{Property}
-use Rattle.net_code.specs.Refusals.{HasJumps, IsBeyondReach, IsCoverable, IsReached, IsImageTooLong as HasLongImage}
-use Rattle.net_compile.proofs.TaskLemmas.{has_net, weaker, no_uncovered, no_beyond, no_long, room_of_code, reached_of_code}
-use Rattle.net_compile.specs.declared.fault.CompileFault.{CompileFault}
-use Rattle.net_compile.specs.declared.fault.CompileFault.TheVariants.{NetText as CompileNetText, Net as CompileNet, SrcText as CompileSrcText, Src as CompileSrc, DataFull as NoRoom, NoStep as Stepless, NoJump as Jumpless, NoCover as Uncovered, NoReach as Beyond, ImageFull as Overlong, Memory as CompileMemory}
-use Rattle.net_compile.specs.Code.{IsDataFull, IsWithin, FailsWith, HasRoom}
-use Rattle.net_compile.specs.Compiled.{HasNet, IsCompiled, IsCompileFault}
-use Rattle.net_compile.specs.Tasks.{TaskHolds, compiled_edition}
+use Rattle.code_gen.specs.Refusals.{HasJumps, IsBeyondReach, IsCoverable, IsReached, IsImageTooLong as HasLongImage}
+use Rattle.compile_command.proofs.TaskLemmas.{has_net, weaker, no_uncovered, no_beyond, no_long, room_of_code, reached_of_code}
+use Rattle.compile_command.specs.declared.fault.CompileFault.{CompileFault}
+use Rattle.compile_command.specs.declared.fault.CompileFault.TheVariants.{NetText as CompileNetText, Net as CompileNet, SrcText as CompileSrcText, Src as CompileSrc, DataFull as NoRoom, NoStep as Stepless, NoJump as Jumpless, NoCover as Uncovered, NoReach as Beyond, ImageFull as Overlong, Memory as CompileMemory}
+use Rattle.compile_command.specs.Code.{IsDataFull, IsWithin, FailsWith, HasRoom}
+use Rattle.compile_command.specs.Compiled.{HasNet, IsCompiled, IsCompileFault}
+use Rattle.compile_command.specs.Tasks.{TaskHolds, compiled_edition}
 use Rattle.record_core.proofs.FormLemmas.{answers_no_net_text, answers_broken, answers_no_src_text, answers_broken_src, answers_full, answers_stepless, answers_jumpless, behind_jumps, later_of_forms, past_jumps}
 use Rattle.record_core.proofs.StageLemmas.{By-none, Then-behind, Then-past}
 use Rattle.record_core.specs.Answers.{CodeAnswers, CodeEnds, CompileAnswers}

@@ -1,14 +1,14 @@
 -- What `explain` answers for two texts.
 use Rattle.std.proofs.Common.{◌≡◌, ◌⊎◌, ℕ, List, inl, inr, refl}
 use Rattle.net_model.specs.declared.fault.NetFault.{NetFault}
-use Rattle.net_extract.specs.Taken.{BreaksAnyTaken}
-use Rattle.net_extract.proofs.RoutedTaken.{no_broken_any_taken, no_text_fault_where_taken}
-use Rattle.net_code.specs.Refusals.{HasJumps}
-use Rattle.net_compile.proofs.TaskLemmas.{weaker}
-use Rattle.net_compile.specs.Code.{HasRoom}
-use Rattle.net_compile.specs.declared.fault.CompileFault.{CompileFault}
-use Rattle.net_compile.specs.declared.fault.CompileFault.TheVariants as compiling
-use Rattle.net_explain.specs.Explained.{explained_edition, HasTakenNet, IsExplained, IsExplainedTask, IsExplainFault}
+use Rattle.isa_extract.specs.Taken.{BreaksAnyTaken}
+use Rattle.isa_extract.proofs.RoutedTaken.{no_broken_any_taken, no_text_fault_where_taken}
+use Rattle.code_gen.specs.Refusals.{HasJumps}
+use Rattle.compile_command.proofs.TaskLemmas.{weaker}
+use Rattle.compile_command.specs.Code.{HasRoom}
+use Rattle.compile_command.specs.declared.fault.CompileFault.{CompileFault}
+use Rattle.compile_command.specs.declared.fault.CompileFault.TheVariants as compiling
+use Rattle.explain_command.specs.Explained.{explained_edition, HasTakenNet, IsExplained, IsExplainedTask, IsExplainFault}
 use Rattle.record_core.proofs.FormLemmas.{answers_no_net_text, answers_broken, answers_no_src_text, answers_broken_src, answers_full, answers_stepless, answers_jumpless, later_of_forms, past_jumps}
 use Rattle.record_core.specs.Answers.{ExplainAnswers}
 use Rattle.record_core.specs.Inner.Statuses.{compile_status}

@@ -2,9 +2,9 @@
 use Rattle.std.proofs.Common.{◌≡◌, ◌⊎◌, ℕ, List, inl, inr, refl}
 use Rattle.net_model.specs.declared.fault.NetFault.{NetFault}
 use Rattle.net_parser.specs.Texts.{IsNoNetText}
-use Rattle.net_extract.proofs.RoutedTaken.{no_broken_any_taken, no_text_fault_where_taken}
-use Rattle.net_extract.specs.Extracts.{IsExtracted, extracted_edition}
-use Rattle.net_extract.specs.Taken.{BreaksAnyTaken, IsRoutedTakenRefusal}
+use Rattle.isa_extract.proofs.RoutedTaken.{no_broken_any_taken, no_text_fault_where_taken}
+use Rattle.isa_extract.specs.Extracts.{IsExtracted, extracted_edition}
+use Rattle.isa_extract.specs.Taken.{BreaksAnyTaken, IsRoutedTakenRefusal}
 use Rattle.net_front.specs.declared.front.NetRefusal.{NetRefusal}
 use Rattle.net_front.specs.declared.front.NetRefusal.TheVariants.{Text as NoNet, Fault as BrokenNet, Memory as NetMemory}
 use Rattle.record_core.proofs.NetLemmas.{past_rules, stops_at_text, stops_at_rule}

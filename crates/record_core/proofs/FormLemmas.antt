@@ -6,12 +6,12 @@ use Rattle.src_front.proofs.FrontLaws.{no_text_fault as no_src_fault}
 use Rattle.src_model.specs.declared.fault.SrcFault.{SrcFault}
 use Rattle.src_parser.specs.Texts.{IsNoSrcText}
 use Rattle.right_code.specs.Tasks.{Property}
-use Rattle.net_code.specs.Refusals.{HasJumps, HasSteps, IsJumpless, IsStepless}
-use Rattle.net_compile.proofs.TaskLemmas.{has_net, none_broken, weaker, no_full, no_stepless, no_jumpless}
-use Rattle.net_compile.specs.Code.{FailsWith, IsDataFull, HasRoom}
-use Rattle.net_compile.specs.Compiled.{HasNet, BreaksSrc}
-use Rattle.net_compile.specs.Tasks.{TaskHolds}
-use Rattle.net_compile.specs.declared.fault.CompileFault.TheVariants.{NoStep as Stepless, NoJump as Jumpless}
+use Rattle.code_gen.specs.Refusals.{HasJumps, HasSteps, IsJumpless, IsStepless}
+use Rattle.compile_command.proofs.TaskLemmas.{has_net, none_broken, weaker, no_full, no_stepless, no_jumpless}
+use Rattle.compile_command.specs.Code.{FailsWith, IsDataFull, HasRoom}
+use Rattle.compile_command.specs.Compiled.{HasNet, BreaksSrc}
+use Rattle.compile_command.specs.Tasks.{TaskHolds}
+use Rattle.compile_command.specs.declared.fault.CompileFault.TheVariants.{NoStep as Stepless, NoJump as Jumpless}
 use Rattle.record_core.proofs.NetLemmas.{behind_rules, past_rules, stops_at_text, stops_at_rule}
 use Rattle.record_core.proofs.StageLemmas.{By-none, Just-none, Then-behind, Then-past}
 use Rattle.record_core.specs.Answers.{FormAnswers}

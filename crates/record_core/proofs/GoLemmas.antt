@@ -12,15 +12,15 @@ use Rattle.net_model.proofs.Bases.{base_of}
 use Rattle.net_model.proofs.BaseTexts.{fault_of_base, text_of_base}
 use Rattle.code_model.specs.Machine.{IsCalm}
 use Rattle.code_model.proofs.Bases.{at_in}
-use Rattle.net_compile.proofs.TaskLemmas.{holds_of_read, together}
-use Rattle.net_compile.specs.Code.{HasRightCode, HasRoom}
-use Rattle.net_compile.specs.Compiled.{IsCompileFault}
-use Rattle.net_compile.specs.Read.{IsCompiledTo}
-use Rattle.net_compile.specs.Tasks.{TaskHolds}
-use Rattle.net_compile.specs.declared.compiler.Compiled.{Compiled}
-use Rattle.net_compile.specs.declared.fault.CompileFault.{CompileFault}
-use Rattle.net_code.specs.Refusals.{IsReached}
-use Rattle.net_run.proofs.StateLaws.{no_state_fault, one_state_fault}
+use Rattle.compile_command.proofs.TaskLemmas.{holds_of_read, together}
+use Rattle.compile_command.specs.Code.{HasRightCode, HasRoom}
+use Rattle.compile_command.specs.Compiled.{IsCompileFault}
+use Rattle.compile_command.specs.Read.{IsCompiledTo}
+use Rattle.compile_command.specs.Tasks.{TaskHolds}
+use Rattle.compile_command.specs.declared.compiler.Compiled.{Compiled}
+use Rattle.compile_command.specs.declared.fault.CompileFault.{CompileFault}
+use Rattle.code_gen.specs.Refusals.{IsReached}
+use Rattle.run_command.proofs.StateLaws.{no_state_fault, one_state_fault}
 use Rattle.right_code.specs.Tasks.{Property, Task, read_task}
 use Rattle.state_text.proofs.Calm.{calm_of_text}
 use Rattle.state_text.specs.Settings.{IsStartState}

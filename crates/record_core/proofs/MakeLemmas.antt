@@ -2,12 +2,12 @@
 use Rattle.std.proofs.Common.{◌≡◌, ◌⊎◌, ℕ, List, refl}
 use Rattle.job_gen.specs.NetText.{net_text as job_netlist}
 use Rattle.job_gen.specs.SrcText.{src_text as job_program}
-use Rattle.net_compile.proofs.TaskLemmas.{weaker}
-use Rattle.net_compile.specs.Code.{HasRoom}
-use Rattle.net_compile.specs.Compiled.{IsCompileFault}
-use Rattle.net_compile.specs.declared.fault.CompileFault.{CompileFault}
-use Rattle.net_code.specs.Refusals.{IsReached}
-use Rattle.net_make.specs.Summaries.{IsSummary, IsSummaryOf}
+use Rattle.compile_command.proofs.TaskLemmas.{weaker}
+use Rattle.compile_command.specs.Code.{HasRoom}
+use Rattle.compile_command.specs.Compiled.{IsCompileFault}
+use Rattle.compile_command.specs.declared.fault.CompileFault.{CompileFault}
+use Rattle.code_gen.specs.Refusals.{IsReached}
+use Rattle.make_command.specs.Summaries.{IsSummary, IsSummaryOf}
 use Rattle.record_core.proofs.CompileLemmas.{answers_fault, answers_later, later_of}
 use Rattle.record_core.specs.Answers.{MakeAnswers}
 use Rattle.record_core.specs.Inner.Statuses.{compile_status}

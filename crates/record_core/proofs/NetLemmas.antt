@@ -1,7 +1,7 @@
 -- What is answered for the text of a netlist, of which a command takes those that break none of its
 -- rules.
 use Rattle.std.proofs.Common.{◌≡◌, ℕ, List, inl, inr, refl}
-use Rattle.net_model.specs.Written.{Text}
+use Rattle.net_model.specs.Written.{UnitsModel}
 use Rattle.net_model.specs.declared.fault.NetFault.{NetFault}
 use Rattle.net_parser.specs.Texts.{IsNoNetText}
 use Rattle.net_parser.proofs.TextFaults.{one_net_fault}
@@ -18,7 +18,7 @@ module _ (line : Status → List ℕ) (net : List ℕ) (Breaks : NetFault → Ty
   abbrev pub NetStages : Status → List ℕ → Type 0
   NetStages = Then line (By NetText (IsNoNetText net)) (Then line (By Net Breaks) Later)
 
-  module _ (entries : Text) (says : SaysNet net entries) (kept : (fault : NetFault) → Breaks fault → ⊥) where
+  module _ (entries : UnitsModel) (says : SaysNet net entries) (kept : (fault : NetFault) → Breaks fault → ⊥) where
     -- a text that breaks none passes them
     pub past_rules : (status : Status) (text : List ℕ) → Later status text → NetStages status text
     past_rules status text later = inr (By-none NetText (IsNoNetText net) (λ at faulty. no_text_fault net entries at says faulty), inr (By-none Net Breaks kept, later))

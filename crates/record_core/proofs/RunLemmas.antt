@@ -4,13 +4,13 @@ use Rattle.std.specs.declared.option.Option.{Option}
 use Rattle.net_front.proofs.FrontLaws.{no_text_fault}
 use Rattle.net_front.proofs.TakenLaws.{no_broken_for, no_text_fault_for, not_later}
 use Rattle.net_front.specs.Taken.{BreaksTaken, IsLater, IsTakenFile, added_role}
-use Rattle.net_model.specs.Written.{Text}
+use Rattle.net_model.specs.Written.{UnitsModel}
 use Rattle.net_model.specs.declared.fault.NetFault.{NetFault}
 use Rattle.net_parser.specs.Texts.{IsNoNetText}
-use Rattle.net_run.proofs.RunLaws.{no_image_fault, no_memory_fault}
-use Rattle.net_run.specs.Runs.{Loaded, IsLoaded, IsImageFile, IsNoImageFile, IsNoMemoryFile, ClashedAt, Clashes, ShowsState, IsRunFault, run_edition}
-use Rattle.net_run.specs.declared.machine.RunFault.{RunFault}
-use Rattle.net_run.specs.declared.machine.RunFault.TheVariants.{NetText as RunNetText, Net as RunNet, ImageText as NoImage, MemText as NoMemoryText, Clash as Clashed, Memory as RunMemory}
+use Rattle.run_command.proofs.RunLaws.{no_image_fault, no_memory_fault}
+use Rattle.run_command.specs.Runs.{Loaded, IsLoaded, IsImageFile, IsNoImageFile, IsNoMemoryFile, ClashedAt, Clashes, ShowsState, IsRunFault, run_edition}
+use Rattle.run_command.specs.declared.machine.RunFault.{RunFault}
+use Rattle.run_command.specs.declared.machine.RunFault.TheVariants.{NetText as RunNetText, Net as RunNet, ImageText as NoImage, MemText as NoMemoryText, Clash as Clashed, Memory as RunMemory}
 use Rattle.record_core.proofs.StageLemmas.{By-none}
 use Rattle.record_core.specs.Answers.{RunAnswers, RunEnds}
 use Rattle.record_core.specs.Stages.{By, Then}
@@ -26,7 +26,7 @@ module _ (line : Option ℕ → Status → List ℕ) (net image memory : List �
   abbrev image_answers : Status → List ℕ → Type 0
   image_answers = Then (line None) (By ImageText (IsNoImageFile net image)) memory_answers
 
-  past_net : (entries : Text) → IsTakenFile run_edition net entries → (status : Status) (text : List ℕ) → image_answers status text → RunAnswers line net image memory clocks status text
+  past_net : (entries : UnitsModel) → IsTakenFile run_edition net entries → (status : Status) (text : List ℕ) → image_answers status text → RunAnswers line net image memory clocks status text
   past_net entries file status text later = inr (
     By-none NetText (IsNoNetText net) (λ at faulty. no_text_fault net entries at file.file.says faulty),
     inr (By-none Net (BreaksTaken run_edition net) (λ fault breaks. no_broken_for (IsLater run_edition) added_role net entries fault file.file (not_later run_edition entries.edition file.taken) breaks), later),

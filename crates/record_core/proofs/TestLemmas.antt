@@ -3,14 +3,14 @@ use Rattle.std.proofs.Common.{◌≡◌, ◌⊎◌, ℕ, List, inl, inr, refl}
 use Rattle.net_model.specs.declared.hardware.Netlist.{Netlist}
 use Rattle.net_model.specs.declared.fault.NetFault.{NetFault}
 use Rattle.net_parser.specs.Texts.{IsNoNetText}
-use Rattle.net_extract.specs.Taken.{BreaksAnyTaken}
-use Rattle.net_extract.proofs.RoutedTaken.{no_text_fault_where_taken}
-use Rattle.net_code.specs.Refusals.{IsStepless}
-use Rattle.net_test.proofs.TestLaws.{cells_of, no_broken, no_full, no_net_text, no_stepless, testable_of_text, weaker}
-use Rattle.net_test.specs.Refusals.{HasTestCells, IsBeyondLimit, IsTestable, IsTestDataFull, IsTestTooLong}
-use Rattle.net_test.specs.Texts.{IsTested, IsTestFault, LacksTest, NetHolds, tested_edition}
-use Rattle.net_test.specs.declared.fault.TestFault.{TestFault}
-use Rattle.net_test.specs.declared.fault.TestFault.TheVariants as testing
+use Rattle.isa_extract.specs.Taken.{BreaksAnyTaken}
+use Rattle.isa_extract.proofs.RoutedTaken.{no_text_fault_where_taken}
+use Rattle.code_gen.specs.Refusals.{IsStepless}
+use Rattle.test_command.proofs.TestLaws.{cells_of, no_broken, no_full, no_net_text, no_stepless, testable_of_text, weaker}
+use Rattle.test_command.specs.Refusals.{HasTestCells, IsBeyondLimit, IsTestable, IsTestDataFull, IsTestTooLong}
+use Rattle.test_command.specs.Texts.{IsTested, IsTestFault, LacksTest, NetHolds, tested_edition}
+use Rattle.test_command.specs.declared.fault.TestFault.{TestFault}
+use Rattle.test_command.specs.declared.fault.TestFault.TheVariants as testing
 use Rattle.record_core.proofs.StageLemmas.{By-none, Just-none, Then-past}
 use Rattle.record_core.specs.Answers.{TestAnswers, TestEnds}
 use Rattle.record_core.specs.Inner.Statuses.{test_status}

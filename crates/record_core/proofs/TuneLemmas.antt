@@ -1,19 +1,19 @@
 -- What `tune` answers.
 use Rattle.std.proofs.Common.{◌≡◌, ◌⊎◌, ℕ, List, inl, inr, refl}
 use Rattle.net_model.specs.declared.fault.NetFault.{NetFault}
-use Rattle.net_extract.specs.Taken.{BreaksAnyTaken}
-use Rattle.net_extract.proofs.RoutedTaken.{no_broken_any_taken, no_text_fault_where_taken}
+use Rattle.isa_extract.specs.Taken.{BreaksAnyTaken}
+use Rattle.isa_extract.proofs.RoutedTaken.{no_broken_any_taken, no_text_fault_where_taken}
 use Rattle.right_code.specs.Tasks.{Property, Task}
-use Rattle.net_code.specs.Refusals.{HasJumps}
-use Rattle.net_compile.proofs.TaskLemmas.{has_net, together, weaker}
-use Rattle.net_compile.specs.declared.fault.CompileFault.{CompileFault}
-use Rattle.net_compile.specs.declared.fault.CompileFault.TheVariants.{NetText as CompileNetText, Net as CompileNet, SrcText as CompileSrcText, Src as CompileSrc, DataFull as NoRoom, NoStep as Stepless, NoJump as Jumpless, NoCover as Uncovered, NoReach as Beyond, ImageFull as Overlong, Memory as CompileMemory}
-use Rattle.net_compile.specs.Code.{IsDataFull, IsWithin, FailsWith, HasRoom}
-use Rattle.net_compile.specs.Compiled.{HasNet}
-use Rattle.net_compile.specs.Tasks.{TaskHolds, compiled_edition}
-use Rattle.net_tune.specs.Tuned.{IsTuned, IsTunedCode, IsTuneFault, TuneFailsWith}
-use Rattle.net_tune.proofs.FaultLemmas.{jumps_of_beyond, jumps_of_code, jumps_of_long, jumps_of_uncovered, own_jumpless, own_stepless}
-use Rattle.net_tune.proofs.WithinLemmas.{beyond_never, long_never, uncovered_never}
+use Rattle.code_gen.specs.Refusals.{HasJumps}
+use Rattle.compile_command.proofs.TaskLemmas.{has_net, together, weaker}
+use Rattle.compile_command.specs.declared.fault.CompileFault.{CompileFault}
+use Rattle.compile_command.specs.declared.fault.CompileFault.TheVariants.{NetText as CompileNetText, Net as CompileNet, SrcText as CompileSrcText, Src as CompileSrc, DataFull as NoRoom, NoStep as Stepless, NoJump as Jumpless, NoCover as Uncovered, NoReach as Beyond, ImageFull as Overlong, Memory as CompileMemory}
+use Rattle.compile_command.specs.Code.{IsDataFull, IsWithin, FailsWith, HasRoom}
+use Rattle.compile_command.specs.Compiled.{HasNet}
+use Rattle.compile_command.specs.Tasks.{TaskHolds, compiled_edition}
+use Rattle.tune_command.specs.Tuned.{IsTuned, IsTunedCode, IsTuneFault, TuneFailsWith}
+use Rattle.tune_command.proofs.FaultLemmas.{jumps_of_beyond, jumps_of_code, jumps_of_long, jumps_of_uncovered, own_jumpless, own_stepless}
+use Rattle.tune_command.proofs.WithinLemmas.{beyond_never, long_never, uncovered_never}
 use Rattle.record_core.proofs.FormLemmas.{answers_no_net_text, answers_broken, answers_no_src_text, answers_broken_src, answers_full, answers_stepless, answers_jumpless, behind_jumps, later_of_forms, past_jumps}
 use Rattle.record_core.specs.Answers.{TuneAnswers, TuneEnds}
 use Rattle.record_core.specs.Inner.Statuses.{compile_status}

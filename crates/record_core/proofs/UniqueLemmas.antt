@@ -7,33 +7,33 @@ use Rattle.net_parser.proofs.TextFaults.{one_net_fault}
 use Rattle.net_front.proofs.TakenLaws.{one_broken_for}
 use Rattle.net_front.specs.Taken.{HasNoBank, IsLater, added_role, unbanked_role}
 use Rattle.src_parser.proofs.TextFaults.{one_src_fault}
-use Rattle.net_extract.specs.Extracts.{IsExtracted, extracted_edition}
+use Rattle.isa_extract.specs.Extracts.{IsExtracted, extracted_edition}
 use Rattle.net_model.specs.declared.fault.NetFault.{NetFault}
-use Rattle.net_extract.proofs.RoutedTaken.{one_broken_any_taken, one_broken_of_any}
-use Rattle.net_extract.specs.Taken.{BreaksAnyBanked}
+use Rattle.isa_extract.proofs.RoutedTaken.{one_broken_any_taken, one_broken_of_any}
+use Rattle.isa_extract.specs.Taken.{BreaksAnyBanked}
 use Rattle.job_gen.specs.NetText.{net_text as job_netlist}
 use Rattle.job_gen.specs.SrcText.{src_text as job_program}
-use Rattle.net_compile.specs.Code.{IsDataFull, IsWithin}
-use Rattle.net_compile.specs.Compiled.{BreaksSrc, IsCompiled}
-use Rattle.net_compile.specs.Tasks.{TaskHolds, compiled_edition}
-use Rattle.net_code.specs.Refusals.{IsBeyondReach, IsImageTooLong as HasLongImage}
+use Rattle.compile_command.specs.Code.{IsDataFull, IsWithin}
+use Rattle.compile_command.specs.Compiled.{BreaksSrc, IsCompiled}
+use Rattle.compile_command.specs.Tasks.{TaskHolds, compiled_edition}
+use Rattle.code_gen.specs.Refusals.{IsBeyondReach, IsImageTooLong as HasLongImage}
 use Rattle.right_code.specs.Covered.{HasBareTree}
 use Rattle.right_code.specs.Tasks.{Property}
 use Rattle.src_model.specs.declared.fault.SrcFault.{SrcFault}
-use Rattle.dual_code.specs.Code.{IsDualFull, IsDualWithin}
-use Rattle.dual_code.specs.Compiled.{BreaksDualSrc, IsDualCompiled}
-use Rattle.dual_code.specs.Tasks.{DualHolds, ViewHolds}
-use Rattle.dual_code.proofs.DualLemmas.{one_no_part, one_beyond as one_dual_beyond, one_broken as one_dual_broken, one_full as one_dual_full, one_limit as one_dual_limit, one_uncovered as one_dual_uncovered}
-use Rattle.net_make.specs.Summaries.{IsSummary}
-use Rattle.net_compile.proofs.TaskLemmas.{one_beyond, one_broken, one_full, one_limit, one_uncovered}
-use Rattle.net_run.proofs.RunLaws.{one_image_fault, one_memory_fault, one_clash, no_clash_shown}
-use Rattle.net_run.specs.Runs.{ClashedAt, run_edition}
-use Rattle.net_asm.proofs.AsmLaws.{one_text_fault, one_wordless}
-use Rattle.net_asm.specs.Assembled.{IsAssembled}
-use Rattle.net_asm.specs.Disassembled.{IsDisassembled}
-use Rattle.net_explain.specs.Explained.{explained_edition, IsExplained}
-use Rattle.net_test.proofs.TestLaws.{one_full as one_test_full, one_limit as one_test_limit, one_too_long}
-use Rattle.net_test.specs.Texts.{tested_edition}
+use Rattle.dual_command.specs.Code.{IsDualFull, IsDualWithin}
+use Rattle.dual_command.specs.Compiled.{BreaksDualSrc, IsDualCompiled}
+use Rattle.dual_command.specs.Tasks.{DualHolds, ViewHolds}
+use Rattle.dual_command.proofs.DualLemmas.{one_no_part, one_beyond as one_dual_beyond, one_broken as one_dual_broken, one_full as one_dual_full, one_limit as one_dual_limit, one_uncovered as one_dual_uncovered}
+use Rattle.make_command.specs.Summaries.{IsSummary}
+use Rattle.compile_command.proofs.TaskLemmas.{one_beyond, one_broken, one_full, one_limit, one_uncovered}
+use Rattle.run_command.proofs.RunLaws.{one_image_fault, one_memory_fault, one_clash, no_clash_shown}
+use Rattle.run_command.specs.Runs.{ClashedAt, run_edition}
+use Rattle.asm_command.proofs.AsmLaws.{one_text_fault, one_wordless}
+use Rattle.asm_command.specs.Assembled.{IsAssembled}
+use Rattle.asm_command.specs.Disassembled.{IsDisassembled}
+use Rattle.explain_command.specs.Explained.{explained_edition, IsExplained}
+use Rattle.test_command.proofs.TestLaws.{one_full as one_test_full, one_limit as one_test_limit, one_too_long}
+use Rattle.test_command.specs.Texts.{tested_edition}
 use Rattle.rec_io.specs.Causes.{Rose}
 use Rattle.rec_io.specs.Files.{Files, file_of}
 use Rattle.rec_io.specs.Shelf.{ShelfState}
@@ -43,7 +43,7 @@ use Rattle.record_core.proofs.BothLemmas.{dual_within}
 use Rattle.record_core.proofs.TuneLemmas.{tuned_done}
 use Rattle.record_core.proofs.GoLemmas.{one_lack}
 use Rattle.record_core.proofs.NetLemmas.{NetStages-alike}
-use Rattle.net_asm.specs.Machines.{assembled_edition}
+use Rattle.asm_command.specs.Machines.{assembled_edition}
 use Rattle.record_core.proofs.StageLemmas.{AllAlike, AtMostOne, By-unique, Then-alike, Just-unique}
 use Rattle.record_core.specs.Answers.{AnswersAgree, Answers, AsmAnswers, DisAnswers, FilesAnswer, CanCompile, CanDual, CanTune, AreOfImages, AreOfTests, CodeAnswers, CodeEnds, CoverAnswers, DualAnswers, ExtractAnswers, FormAnswers, IsAskedOf, RoomAnswers, SourceAnswers, TuneAnswers, TuneEnds, IsOfTune, WatchAnswers, netlist_in, RunEnds, RunAnswers, TestAnswers, TestEnds, TextAnswers, CommandAnswers, file_at, file_limit, place_from, AreFiles, IsFileReadFault, IsFileTooLong, IsFile, IsAnswer, IsExact, IsAccepted}
 use Rattle.record_core.specs.Lines.{due_line}

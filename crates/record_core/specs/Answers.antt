@@ -1,35 +1,41 @@
--- What the call answers: the first refusal that applies, or `Done`.
+-- What the call answers: the first refusal that applies, or `Done`. Refused by the first stage
+-- that has a reason, with that status and its line, or else answered by what comes after.
+-- `TextAnswers` has a line for each command: what it answers for the bytes of its files. `IsText`
+-- says what it writes on `Done`, and `Wrote` that this was taken in the call, for the bytes of the
+-- files that the words name. `CodeEnds`, of the commands that make code: there is an image made
+-- for the task that is too long, or one that is right code, of which the later stages answer; the
+-- one doesn't exclude the other.
 use Rattle.std.specs.Prelude.{◌≡◌, ℕ, ◌+◌, ◌<◌, ◌≤◌, ◌⊎◌, true, false, List, [], ◌∷◌, ◌++◌, length, take, Some, None, IfSome, IsSome, IsSomeAnd, cond, slice_index_or, ⊤}
 use Rattle.std.specs.declared.option.Option.{Option}
 use Rattle.std.specs.Str.{bytes_eq}
 use Rattle.net_model.specs.declared.fault.NetFault.{NetFault}
 use Rattle.net_parser.specs.Texts.{IsNoNetText}
 use Rattle.net_front.specs.Taken.{BreaksTaken}
-use Rattle.net_extract.specs.Extracts.{IsExtracted, extracted_edition}
-use Rattle.net_extract.specs.Taken.{BreaksAnyBanked, BreaksAnyTaken}
+use Rattle.isa_extract.specs.Extracts.{IsExtracted, extracted_edition}
+use Rattle.isa_extract.specs.Taken.{BreaksAnyBanked, BreaksAnyTaken}
 use Rattle.src_model.specs.declared.fault.SrcFault.{SrcFault}
 use Rattle.src_parser.specs.Texts.{IsNoSrcText}
 use Rattle.right_code.specs.Covered.{HasBareTree}
 use Rattle.right_code.specs.Tasks.{Property}
-use Rattle.net_code.specs.Refusals.{IsBeyondReach, IsJumpless, IsStepless, IsImageTooLong as HasLongImage}
-use Rattle.net_compile.specs.Code.{HasRightCode, IsDataFull, IsWithin}
-use Rattle.net_compile.specs.Compiled.{IsCompiled, BreaksSrc}
-use Rattle.net_compile.specs.Tasks.{TaskHolds, compiled_edition}
-use Rattle.net_compile.specs.declared.fault.CompileFault.TheVariants.{NoCover as Uncovered, NoReach as Beyond, ImageFull as Overlong}
-use Rattle.net_tune.specs.Tuned.{IsTuned, TuneFailsWith}
-use Rattle.dual_code.specs.Code.{IsDualFull, IsDualWithin}
-use Rattle.dual_code.specs.Compiled.{BreaksDualSrc, IsDualCompiled, IsNoPart}
-use Rattle.dual_code.specs.Tasks.{DualHolds, ViewHolds}
+use Rattle.code_gen.specs.Refusals.{IsBeyondReach, IsJumpless, IsStepless, IsImageTooLong as HasLongImage}
+use Rattle.compile_command.specs.Code.{HasRightCode, IsDataFull, IsWithin}
+use Rattle.compile_command.specs.Compiled.{IsCompiled, BreaksSrc}
+use Rattle.compile_command.specs.Tasks.{TaskHolds, compiled_edition}
+use Rattle.compile_command.specs.declared.fault.CompileFault.TheVariants.{NoCover as Uncovered, NoReach as Beyond, ImageFull as Overlong}
+use Rattle.tune_command.specs.Tuned.{IsTuned, TuneFailsWith}
+use Rattle.dual_command.specs.Code.{IsDualFull, IsDualWithin}
+use Rattle.dual_command.specs.Compiled.{BreaksDualSrc, IsDualCompiled, IsNoPart}
+use Rattle.dual_command.specs.Tasks.{DualHolds, ViewHolds}
 use Rattle.job_gen.specs.NetText.{net_text as job_netlist}
 use Rattle.job_gen.specs.SrcText.{src_text as job_program}
-use Rattle.net_make.specs.Summaries.{IsSummary}
-use Rattle.net_asm.specs.Assembled.{IsAssembled, IsNoAsmFile, IsWordless}
-use Rattle.net_asm.specs.Disassembled.{IsDisassembled}
-use Rattle.net_asm.specs.Machines.{assembled_edition}
-use Rattle.net_explain.specs.Explained.{explained_edition, IsExplained}
-use Rattle.net_test.specs.Refusals.{IsBeyondLimit, IsTestDataFull, IsTestTooLong}
-use Rattle.net_test.specs.Texts.{IsTested, NetHolds, tested_edition}
-use Rattle.net_run.specs.Runs.{IsNoImageFile, IsNoMemoryFile, ClashedAt, Clashes, ShowsState, run_edition}
+use Rattle.make_command.specs.Summaries.{IsSummary}
+use Rattle.asm_command.specs.Assembled.{IsAssembled, IsNoAsmFile, IsWordless}
+use Rattle.asm_command.specs.Disassembled.{IsDisassembled}
+use Rattle.asm_command.specs.Machines.{assembled_edition}
+use Rattle.explain_command.specs.Explained.{explained_edition, IsExplained}
+use Rattle.test_command.specs.Refusals.{IsBeyondLimit, IsTestDataFull, IsTestTooLong}
+use Rattle.test_command.specs.Texts.{IsTested, NetHolds, tested_edition}
+use Rattle.run_command.specs.Runs.{IsNoImageFile, IsNoMemoryFile, ClashedAt, Clashes, ShowsState, run_edition}
 use Rattle.rec_io.specs.Causes.{Rose}
 use Rattle.rec_io.specs.Files.{Files, file_of}
 use Rattle.rec_io.specs.Shelf.{ShelfState, LastFailed, NoFetchFailed}

@@ -5,8 +5,8 @@ use Rattle.net_model.specs.Clock.{clock}
 use Rattle.net_model.specs.Widths.{IsState}
 use Rattle.net_model.specs.declared.states.State.{State}
 use Rattle.code_model.specs.Places.{words_of}
-use Rattle.net_asm.specs.Assembled.{HasWord, IsAssembled}
-use Rattle.net_asm.specs.Disassembled.{IsDisassembled}
+use Rattle.asm_command.specs.Assembled.{HasWord, IsAssembled}
+use Rattle.asm_command.specs.Disassembled.{IsDisassembled}
 
 -- the text has the line of each word of the image, of which the word is one; and whatever words
 -- `asm` makes of the text, the netlist clocks on them as on those of the image, from every state

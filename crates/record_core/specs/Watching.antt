@@ -5,8 +5,8 @@ use Rattle.net_model.specs.declared.states.State.{State}
 use Rattle.src_model.specs.Trace.{strace}
 use Rattle.code_model.specs.declared.image.Image.{Image}
 use Rattle.right_code.specs.Tasks.{Task}
-use Rattle.net_compile.specs.Code.{IsRightFor}
-use Rattle.net_watch.specs.Watched.{IsTraceText}
+use Rattle.compile_command.specs.Code.{IsRightFor}
+use Rattle.checkpoint_watch.specs.Watched.{IsTraceText}
 
 -- the bytes are no memory text for its netlist that leaves its mode alone, which shows at this offset
 pub record LacksMemory (memory : List ℕ) (at : ℕ) (task : Task) : Type 0 where

@@ -4,7 +4,7 @@ ghost use Rattle.record_core.specs.Answers.{AsmAnswers, DisAnswers, file_limit};
 ghost use Rattle.record_core.specs.declared.status.Status.{Status};
 
 use crate::Status;
-use net_asm::{assemble, disassemble};
+use asm_command::{assemble, disassemble};
 use std::alloc::Global;
 
 /// The image text of the lines of `asm` for the netlist `net`, or the first refusal that applies.

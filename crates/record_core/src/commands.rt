@@ -1,6 +1,6 @@
 //! What a command puts, for the bytes of its files.
 ghost use Rattle.std.specs.Prelude.{◌≡◌, ◌≢◌, ◌⊎◌, ℕ, List, Option, IfOk, IfErr};
-ghost use Rattle.net_watch.specs.Puts.{Puts};
+ghost use Rattle.checkpoint_watch.specs.Puts.{Puts};
 ghost use Rattle.record_core.specs.Answers.{file_at, TextAnswers};
 ghost use Rattle.record_core.specs.Inner.Fetch.{contents, AreShort};
 ghost use Rattle.record_core.specs.Inner.Putting.{PutsDone};

@@ -4,7 +4,7 @@ ghost use Rattle.record_core.specs.Answers.{file_limit, CompileAnswers};
 ghost use Rattle.record_core.specs.declared.status.Status.{Status};
 
 use crate::Status;
-use net_compile::compile;
+use compile_command::compile;
 use std::alloc::Global;
 
 /// The image text of the program `src` for the netlist `net`, or the first refusal that applies.

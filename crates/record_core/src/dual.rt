@@ -4,7 +4,7 @@ ghost use Rattle.record_core.specs.Answers.{file_limit, DualAnswers};
 ghost use Rattle.record_core.specs.declared.status.Status.{Status};
 
 use crate::Status;
-use dual_code::dual;
+use dual_command::dual;
 use std::alloc::Global;
 
 /// The image text of the program `src` for the netlist `net`, which has a bank, with the variables

@@ -4,7 +4,7 @@ ghost use Rattle.record_core.specs.Answers.{file_limit, ExplainAnswers};
 ghost use Rattle.record_core.specs.declared.status.Status.{Status};
 
 use crate::Status;
-use net_explain::explain;
+use explain_command::explain;
 use std::alloc::Global;
 
 /// What covers the jobs of the program `src` on the netlist `net`, and what in them no form makes, or

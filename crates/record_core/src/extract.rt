@@ -4,7 +4,7 @@ ghost use Rattle.record_core.specs.Answers.{file_limit, ExtractAnswers};
 ghost use Rattle.record_core.specs.declared.status.Status.{Status};
 
 use crate::Status;
-use net_extract::extract;
+use isa_extract::extract;
 use std::alloc::Global;
 
 /// The text of the patterns of the netlist `net`, or the first refusal that applies.

@@ -3,16 +3,16 @@ ghost use Rattle.std.specs.Prelude.{◌≡◌, ◌≢◌, ◌⊎◌, ℕ, List, 
 ghost use Rattle.net_model.specs.MemoryText.{IsMemoryText};
 ghost use Rattle.code_model.specs.Machine.{IsCalm};
 ghost use Rattle.right_code.specs.Tasks.{read_task};
-ghost use Rattle.net_compile.specs.Code.{IsRightFor};
+ghost use Rattle.compile_command.specs.Code.{IsRightFor};
 ghost use Rattle.record_core.specs.Answers.{file_limit, GoAnswers};
 ghost use Rattle.record_core.specs.Inner.Putting.{IsMemoryStatus, PutsGo, PutsWatched};
 ghost use Rattle.record_core.specs.Inner.Statuses.{memory_status};
 ghost use Rattle.record_core.specs.declared.status.Status.{Status};
 
 use crate::Status;
-use net_compile::{Compiled, read_compiled};
+use checkpoint_watch::Watch;
+use compile_command::{Compiled, read_compiled};
 use net_model::State;
-use net_watch::Watch;
 use rec_bits::ParseFault;
 use rec_io::{Sink, WriteFault};
 use state_text::read_state;

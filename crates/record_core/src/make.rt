@@ -5,7 +5,7 @@ ghost use Rattle.record_core.specs.Words.{job_limit};
 ghost use Rattle.record_core.specs.declared.status.Status.{Status};
 
 use crate::Status;
-use net_make::make;
+use make_command::make;
 use std::alloc::Global;
 
 /// The summary of the made-up program of this number on the made-up netlist, or the first refusal

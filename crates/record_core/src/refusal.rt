@@ -1,6 +1,6 @@
 //! Why nothing else is written, and its line.
 ghost use Rattle.std.specs.Prelude.{◌≡◌, ℕ};
-ghost use Rattle.net_watch.specs.Puts.{Puts};
+ghost use Rattle.checkpoint_watch.specs.Puts.{Puts};
 ghost use Rattle.record_core.specs.Inner.Refusals.{IsRefusal, status_of, text_of};
 ghost use Rattle.record_core.specs.Words.{texts_of};
 ghost use Rattle.record_core.specs.declared.refusal.Refusal.{Refusal};

@@ -4,7 +4,7 @@ ghost use Rattle.record_core.specs.Answers.{file_limit, RunAnswers};
 ghost use Rattle.record_core.specs.declared.status.Status.{Status};
 
 use crate::stop::Stop;
-use net_run::run;
+use run_command::run;
 use std::alloc::Global;
 
 /// The state text of so many clocks of the netlist `net` on the image `image` from the state of

@@ -2,15 +2,15 @@
 ghost use Rattle.std.specs.Prelude.{◌≡◌};
 ghost use Rattle.record_core.specs.declared.status.Status.{Status};
 
-use dual_code::DualFault;
-use net_asm::{AsmFault, DisFault};
-use net_compile::CompileFault;
+use asm_command::{AsmFault, DisFault};
+use compile_command::CompileFault;
+use dual_command::DualFault;
 use net_front::NetRefusal;
 use net_model::NetFault;
-use net_test::TestFault;
 use rec_bits::NoMemory;
 use src_model::SrcFault;
 use std::alloc::{AllocError, AllocFailed};
+use test_command::TestFault;
 
 /// How a call ends. A `file` is its place among the words that name files, from 0; offsets are
 /// those of bytes.

@@ -2,7 +2,7 @@
 ghost use Rattle.std.specs.Prelude.{◌≡◌};
 
 use crate::Status;
-use net_run::RunFault;
+use run_command::RunFault;
 
 /// Why no text is written. `bus` is the place of the name of the bus that clashed, where one did.
 #[derive(Clone, Copy, Debug, PartialEq, Eq)]

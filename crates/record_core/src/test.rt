@@ -4,9 +4,9 @@ ghost use Rattle.record_core.specs.Answers.{file_limit, TestAnswers};
 ghost use Rattle.record_core.specs.declared.status.Status.{Status};
 
 use crate::Status;
-use net_test::test;
 use rec_bits::Items;
 use std::alloc::Global;
+use test_command::test;
 
 /// The report of the self-test of the netlist `net`, or the first refusal that applies.
 pub fn test_text(alloc: Global, net: &[u8]) -> Result<Items<u8>, Status>

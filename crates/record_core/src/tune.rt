@@ -4,8 +4,8 @@ ghost use Rattle.record_core.specs.Answers.{file_limit, TuneAnswers};
 ghost use Rattle.record_core.specs.declared.status.Status.{Status};
 
 use crate::Status;
-use net_tune::tune;
 use std::alloc::Global;
+use tune_command::tune;
 
 /// The image text of the program `src` for the netlist `net`, by equal trees that cost less, or a
 /// refusal that applies.

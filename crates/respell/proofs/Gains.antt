@@ -1,18 +1,18 @@
 -- A job that costs less than another's price gains over it.
 use Rattle.std.proofs.Common.{◌≡◌, ℕ, ◌+◌, ◌<◌, ◌≤◌, Bool, Option, Some, None, ◌⊎◌, inl, inr, arith}
-use Rattle.form_model.specs.Covers.{Stock}
-use Rattle.mode_set.specs.Costs.{CoversIn, HasNoPlan, IsPlanned, Planned, mode_cost}
-use Rattle.src_trees.specs.Lowered.{Work}
+use Rattle.form_model.specs.Covers.{StockModel}
+use Rattle.mode_set.specs.Costs.{CoversIn, HasNoPlan, IsPlanned, PlanModel, mode_cost}
+use Rattle.src_trees.specs.Lowered.{JobModel}
 use Rattle.respell.specs.Inner.Choosing.{IsFound, IsLess}
 use Rattle.respell.specs.Kept.{HasCost, IsGain, IsPrice}
 
-module _ (stock : ℕ → Stock) (Usable : ℕ → Type 0) where
+module _ (stock : ℕ → StockModel) (Usable : ℕ → Type 0) where
   -- a plan is a cover in its mode
-  plan_covers : (work : Work) (planned : Planned) → IsPlanned stock Usable work.destination work.trees planned → CoversIn stock Usable work.destination work.trees planned.mode planned.choice
+  plan_covers : (work : JobModel) (planned : PlanModel) → IsPlanned stock Usable work.destination work.trees planned → CoversIn stock Usable work.destination work.trees planned.mode planned.choice
   plan_covers work planned is = record { can = is.can; may = is.may; covers = is.chosen.covers }
 
   -- the cost of a plan is the least
-  cost_least : (work : Work) (cost other : ℕ) → HasCost stock Usable work cost → HasCost stock Usable work other → cost ≤ other
+  cost_least : (work : JobModel) (cost other : ℕ) → HasCost stock Usable work cost → HasCost stock Usable work other → cost ≤ other
   cost_least work cost other h o =
       by (h.is.least o.planned.mode o.planned.choice (plan_covers work o.planned o.is))
     where
@@ -21,11 +21,11 @@ module _ (stock : ℕ → Stock) (Usable : ℕ → Type 0) where
       by (inl less) = let p = h.costs in let q = o.costs in omega (arith, less, p, q)
       by (inr same) = let e = same.0 in let p = h.costs in let q = o.costs in omega (arith, e, p, q)
 
-  less_than : (work : Work) (own : Option ℕ) (cost : ℕ) → IsPrice stock Usable work own → IsLess cost own → (other : ℕ) → HasCost stock Usable work other → cost < other
+  less_than : (work : JobModel) (own : Option ℕ) (cost : ℕ) → IsPrice stock Usable work own → IsLess cost own → (other : ℕ) → HasCost stock Usable work other → cost < other
   less_than work (Some n) cost price less other h = let le = cost_least work n other price h in omega (arith, le, less)
   less_than work None cost none less other h = absurd (none.none h.planned.mode h.planned.choice (plan_covers work h.planned h.is))
 
-  pub gain : (width temps nodes : ℕ) (own : Option ℕ) (turned : Bool) (old new : Work) → IsPrice stock Usable old own → IsFound stock Usable width temps nodes own turned old new → IsGain stock Usable width temps nodes turned old new
+  pub gain : (width temps nodes : ℕ) (own : Option ℕ) (turned : Bool) (old new : JobModel) → IsPrice stock Usable old own → IsFound stock Usable width temps nodes own turned old new → IsGain stock Usable width temps nodes turned old new
   gain width temps nodes own turned old new price found = record {
     respelled = found.respelled;
     small = found.small;

@@ -13,20 +13,20 @@ use tree_laws::Classes;
 
 /// Where the value of a class is: in a register, in the file, or in a temporary cell.
 #[derive(Clone, Copy, PartialEq, Eq)]
-pub enum Place {
+pub enum ClassHome {
     Register(u32),
     File,
     Cell,
 }
 
-impl Place {
+impl ClassHome {
     // Its place in a row, where it has one.
     fn slot(self) -> Option<usize> {
         match self {
-            Place::Register(id) if id < 16 => Some(id as usize),
-            Place::Register(_) => None,
-            Place::File => Some(16),
-            Place::Cell => Some(17),
+            ClassHome::Register(id) if id < 16 => Some(id as usize),
+            ClassHome::Register(_) => None,
+            ClassHome::File => Some(16),
+            ClassHome::Cell => Some(17),
         }
     }
 }
@@ -99,7 +99,7 @@ impl Costs {
     }
 
     /// The least cost of a class in a place, and the form that leaves it there.
-    pub fn least(&self, class: u64, place: Place) -> Option<Least> {
+    pub fn least(&self, class: u64, place: ClassHome) -> Option<Least> {
         let row = self.rows.get(class as usize)?;
         let least = *row.get(place.slot()?)?;
         if least.cost == NONE {
@@ -139,7 +139,7 @@ impl Costs {
         place: usize,
         form: &Form,
     ) -> bool {
-        let Some(to) = destination(form).and_then(Place::slot) else {
+        let Some(to) = destination(form).and_then(ClassHome::slot) else {
             return false;
         };
         let cost = self.fit(table, index, &form.value, class).saturating_add(1);
@@ -165,14 +165,14 @@ impl Costs {
         match e {
             Expr::Reg(id, width) => {
                 if table.width(head) == Some(*width) {
-                    self.waiting(head, Place::Register(*id))
+                    self.waiting(head, ClassHome::Register(*id))
                 } else {
                     NONE
                 }
             }
             Expr::Cell(_, width) => {
                 if table.width(head) == Some(*width) {
-                    self.waiting(head, Place::File)
+                    self.waiting(head, ClassHome::File)
                 } else {
                     NONE
                 }
@@ -182,7 +182,7 @@ impl Costs {
         }
     }
 
-    fn waiting(&self, head: u64, place: Place) -> u64 {
+    fn waiting(&self, head: u64, place: ClassHome) -> u64 {
         match self.least(head, place) {
             Some(least) => least.cost,
             None => NONE,
@@ -194,7 +194,7 @@ impl Costs {
     fn read(&self, table: &Classes, index: &Index, addr: &Expr, width: u8, head: u64) -> u64 {
         let mut best = NONE;
         if is_field_shape(addr) && table.width(head) == Some(width) {
-            best = self.waiting(head, Place::Cell);
+            best = self.waiting(head, ClassHome::Cell);
         }
         for node in index.nodes(head) {
             if let Node::Read(of, w) = *node {
@@ -311,11 +311,11 @@ impl Costs {
 }
 
 // Where a form leaves its value, if it isn't a jump or a branch.
-fn destination(form: &Form) -> Option<Place> {
+fn destination(form: &Form) -> Option<ClassHome> {
     match (&form.goal, &form.addr) {
-        (Goal::Reg(id), _) => Some(Place::Register(*id)),
-        (Goal::File, _) => Some(Place::File),
-        (Goal::Memory, Some(addr)) if is_field_shape(addr) => Some(Place::Cell),
+        (Goal::Reg(id), _) => Some(ClassHome::Register(*id)),
+        (Goal::File, _) => Some(ClassHome::File),
+        (Goal::Memory, Some(addr)) if is_field_shape(addr) => Some(ClassHome::Cell),
         _ => None,
     }
 }

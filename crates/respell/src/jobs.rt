@@ -2,12 +2,12 @@
 
 ghost use Rattle.std.specs.Prelude.{◌≡◌, ◌+◌, ◌↔◌, ℕ, Option, Some, IfOk, IfSome, IsTrue, length, slice_get};
 ghost use Rattle.rec_bits.specs.Operators.{IsWidth};
-ghost use Rattle.form_model.specs.Rules.{destination_of};
-ghost use Rattle.form_model.specs.Trees.{tree_term};
+ghost use Rattle.form_model.specs.Forms.{aim_destination};
+ghost use Rattle.form_model.specs.Trees.{model_of_tree};
 ghost use Rattle.cover.specs.Jobs.{trees_of};
 ghost use Rattle.mode_set.specs.Costs.{mode_words};
 ghost use Rattle.mode_set.specs.Plans.{UsableAt, stock_at};
-ghost use Rattle.src_trees.specs.Jobs.{work_of};
+ghost use Rattle.src_trees.specs.Jobs.{model_of_job};
 ghost use Rattle.src_trees.specs.Measures.{IsSmall};
 ghost use Rattle.tree_laws.specs.Classes.{cell_bits};
 ghost use Rattle.tree_laws.specs.Equal.{AreEqual};
@@ -127,7 +127,7 @@ impl<'a> Speller<'a> {
     fn price(&self, alloc: Global, job: &Job) -> Result<Option<u64>, NoMemory>
         requires modes { length self.now.usable.now ≡ length self.now.forms.now }
         ensures { IfOk result (IsPrice (stock_at self.now.forms.now self.now.limits.temps) (UsableAt self.now.usable.now)
-            (work_of job.now)) }
+            (model_of_job job.now)) }
     {
         match plan_job(alloc, self.forms, self.usable, job, self.limits.temps) {
             Ok(plan) => Ok(Some(cost_of(&plan)?)),
@@ -142,7 +142,7 @@ impl<'a> Speller<'a> {
         requires modes { length self.now.usable.now ≡ length self.now.forms.now }
         ensures { IfOk result (λ found. IfSome found (λ spelled.
             IsFound (stock_at self.now.forms.now self.now.limits.temps) (UsableAt self.now.usable.now)
-            self.now.limits.cell self.now.limits.temps self.now.limits.nodes own spelled.turned (work_of job.now) (work_of spelled.job))) }
+            self.now.limits.cell self.now.limits.temps self.now.limits.nodes own spelled.turned (model_of_job job.now) (model_of_job spelled.job))) }
     {
         let Some(first) = job.trees.get(0) else {
             return Ok(None);
@@ -207,10 +207,10 @@ impl<'a> Speller<'a> {
     ) -> Result<Option<Spelled>, NoMemory>
         requires modes { length self.now.usable.now ≡ length self.now.forms.now }
         requires cell { cell_bits search.now.table ≡ self.now.limits.cell }
-        requires first { slice_get (trees_of job.now.trees.items) 0 ≡ Some (tree_term first.now) }
+        requires first { slice_get (trees_of job.now.trees.items) 0 ≡ Some (model_of_tree first.now) }
         ensures { IfOk result (λ found. IfSome found (λ spelled.
             IsFound (stock_at self.now.forms.now self.now.limits.temps) (UsableAt self.now.usable.now)
-            self.now.limits.cell self.now.limits.temps self.now.limits.nodes own spelled.turned (work_of job.now) (work_of spelled.job))) }
+            self.now.limits.cell self.now.limits.temps self.now.limits.nodes own spelled.turned (model_of_job job.now) (model_of_job spelled.job))) }
     {
         let mut best = Best {
             cost: own,
@@ -237,11 +237,11 @@ impl<'a> Speller<'a> {
     ) -> Result<Best, NoMemory>
         requires modes { length self.now.usable.now ≡ length self.now.forms.now }
         requires cell { cell_bits search.now.table ≡ self.now.limits.cell }
-        requires first { slice_get (trees_of job.now.trees.items) 0 ≡ Some (tree_term first.now) }
+        requires first { slice_get (trees_of job.now.trees.items) 0 ≡ Some (model_of_tree first.now) }
         ensures { (own : Option ℕ) → IsBest (stock_at self.now.forms.now self.now.limits.temps) (UsableAt self.now.usable.now)
-            self.now.limits.cell self.now.limits.temps self.now.limits.nodes own (work_of job.now) best →
+            self.now.limits.cell self.now.limits.temps self.now.limits.nodes own (model_of_job job.now) best →
             IfOk result (IsBest (stock_at self.now.forms.now self.now.limits.temps) (UsableAt self.now.usable.now)
-            self.now.limits.cell self.now.limits.temps self.now.limits.nodes own (work_of job.now)) }
+            self.now.limits.cell self.now.limits.temps self.now.limits.nodes own (model_of_job job.now)) }
     {
         let Some(other) = picked(alloc, search, forms, self.limits, job, first, listed)? else {
             return Ok(best);
@@ -264,7 +264,7 @@ impl<'a> Speller<'a> {
     ) -> Result<Option<u64>, NoMemory>
         requires modes { length self.now.usable.now ≡ length self.now.forms.now }
         ensures { IfOk result (λ found. IfSome found (IsCheaper (stock_at self.now.forms.now self.now.limits.temps)
-            (UsableAt self.now.usable.now) than (work_of other.now))) }
+            (UsableAt self.now.usable.now) than (model_of_job other.now))) }
     {
         match self.price(alloc, other)? {
             Some(cost) if is_less(cost, than) => Ok(Some(cost)),
@@ -327,11 +327,11 @@ fn picked(
     first: &Tree,
     listed: Listed,
 ) -> Result<Option<Spelled>, NoMemory>
-    requires { slice_get (trees_of job.now.trees.items) 0 ≡ Some (tree_term first.now) }
+    requires { slice_get (trees_of job.now.trees.items) 0 ≡ Some (model_of_tree first.now) }
     ensures respelled { IfOk result (λ found. IfSome found (λ spelled.
-        IsRespelled (cell_bits search.now.table) spelled.turned (work_of job.now) (work_of spelled.job))) }
+        IsRespelled (cell_bits search.now.table) spelled.turned (model_of_job job.now) (model_of_job spelled.job))) }
     ensures small { IfOk result (λ found. IfSome found (λ spelled.
-        IsSmall limits.cell limits.temps limits.nodes (work_of spelled.job))) }
+        IsSmall limits.cell limits.temps limits.nodes (model_of_job spelled.job))) }
 {
     let table = &search.table;
     let index = search.index(alloc)?;
@@ -361,11 +361,11 @@ fn spelled_job(
     first: &Tree,
     root: Root,
 ) -> Result<Spelled, NoTree>
-    requires { slice_get (trees_of job.now.trees.items) 0 ≡ Some (tree_term first.now) }
+    requires { slice_get (trees_of job.now.trees.items) 0 ≡ Some (model_of_tree first.now) }
     ensures respelled { IfOk result (λ spelled.
-        IsRespelled (cell_bits picks.now.table.now) spelled.turned (work_of job.now) (work_of spelled.job)) }
+        IsRespelled (cell_bits picks.now.table.now) spelled.turned (model_of_job job.now) (model_of_job spelled.job)) }
     ensures small { IfOk result (λ spelled.
-        IsSmall picks.now.limits.cell picks.now.limits.temps picks.now.limits.nodes (work_of spelled.job)) }
+        IsSmall picks.now.limits.cell picks.now.limits.temps picks.now.limits.nodes (model_of_job spelled.job)) }
 {
     let aim = spelled_aim(alloc, picks, &job.aim, root)?;
     let other = spelled_tree(alloc, picks, &job.aim, first, root)?;
@@ -388,9 +388,9 @@ fn spelled_tree(
     root: Root,
 ) -> Result<OtherTree, NoTree>
     ensures spelled { IfOk result (λ other. IsSpelled (cell_bits picks.now.table.now) other.turned
-        (destination_of aim.now) (tree_term first.now) (tree_term other.tree)) }
+        (aim_destination aim.now) (model_of_tree first.now) (model_of_tree other.tree)) }
     ensures reads { IfOk result (λ other. ReadsNoMore (cell_bits picks.now.table.now)
-        (tree_term first.now) (tree_term other.tree)) }
+        (model_of_tree first.now) (model_of_tree other.tree)) }
 {
     let nodes = picks.value(alloc, root)?;
     let turned = matches!(aim, Aim::Test) && root.turned;
@@ -408,7 +408,7 @@ fn spelled_tree(
 // The aim, where a store's address is an equal tree.
 fn spelled_aim(alloc: Global, picks: &Picks, aim: &Aim, root: Root) -> Result<Aim, NoTree>
     ensures { IfOk result (λ other. IsSameDestination (cell_bits picks.now.table.now)
-        (destination_of aim.now) (destination_of other)) }
+        (aim_destination aim.now) (aim_destination other)) }
 {
     match aim {
         Aim::Cell(address) => Ok(Aim::Cell(*address)),
@@ -421,9 +421,9 @@ fn spelled_aim(alloc: Global, picks: &Picks, aim: &Aim, root: Root) -> Result<Ai
 // An address that is equal to a store's.
 fn spelled_address(alloc: Global, picks: &Picks, address: &Tree, root: Root) -> Result<Tree, NoTree>
     ensures equal { IfOk result (λ other. AreEqual (cell_bits picks.now.table.now)
-        (tree_term address.now) (tree_term other)) }
+        (model_of_tree address.now) (model_of_tree other)) }
     ensures reads { IfOk result (λ other. ReadsNoMore (cell_bits picks.now.table.now)
-        (tree_term address.now) (tree_term other)) }
+        (model_of_tree address.now) (model_of_tree other)) }
 {
     let nodes = picks.address(alloc, root)?;
     let other = picks.table.equal_tree(alloc, address, &nodes)?;

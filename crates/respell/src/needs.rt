@@ -1,8 +1,8 @@
 //! What the trees of a job need.
 
 ghost use Rattle.std.specs.Prelude.{◌≡◌, ◌≤◌, true, [], ◌∷◌, IfOk, OnOk};
-ghost use Rattle.form_model.specs.Rules.{destination_of};
-ghost use Rattle.form_model.specs.Trees.{is_cell, tree_term};
+ghost use Rattle.form_model.specs.Forms.{aim_destination};
+ghost use Rattle.form_model.specs.Trees.{is_cell, model_of_tree};
 ghost use Rattle.form_model.specs.WideNodes.{tree_temps, wide_below, wide_nodes};
 ghost use Rattle.src_trees.specs.Measures.{IsSmall, tree_size as size_of};
 
@@ -26,7 +26,7 @@ pub struct Limits {
 /// is no job of a program.
 pub fn check_small(aim: &Aim, tree: &Tree, limits: Limits) -> Result<(), NoTree>
     ensures { OnOk result (IsSmall limits.cell limits.temps limits.nodes
-        (record { destination = destination_of aim.now; trees = tree_term tree.now ∷ [] })) }
+        (record { destination = aim_destination aim.now; trees = model_of_tree tree.now ∷ [] })) }
 {
     if let Aim::Temp = aim {
         return Err(NoTree::Unlisted);
@@ -40,8 +40,8 @@ pub fn check_small(aim: &Aim, tree: &Tree, limits: Limits) -> Result<(), NoTree>
 
 // Whether there are cells for all nodes that may wait in one, and nodes are not too many.
 fn is_within(aim: &Aim, tree: &Tree, limits: Limits) -> Result<bool, NoMemory>
-    ensures cells { result ≡ Ok true → tree_temps limits.cell (destination_of aim.now) (tree_term tree.now) ≤ limits.temps }
-    ensures nodes { result ≡ Ok true → size_of (destination_of aim.now) (tree_term tree.now) ≤ limits.nodes }
+    ensures cells { result ≡ Ok true → tree_temps limits.cell (aim_destination aim.now) (model_of_tree tree.now) ≤ limits.temps }
+    ensures nodes { result ≡ Ok true → size_of (aim_destination aim.now) (model_of_tree tree.now) ≤ limits.nodes }
 {
     Ok(
         cells(aim, tree, u64::from(limits.cell))? <= u64::from(limits.temps)
@@ -51,7 +51,7 @@ fn is_within(aim: &Aim, tree: &Tree, limits: Limits) -> Result<bool, NoMemory>
 
 // The nodes of a job's tree that may wait in a temporary cell.
 fn cells(aim: &Aim, tree: &Tree, bits: u64) -> Result<u64, NoMemory>
-    ensures { IfOk result (λ count. count ≡ tree_temps bits (destination_of aim.now) (tree_term tree.now)) }
+    ensures { IfOk result (λ count. count ≡ tree_temps bits (aim_destination aim.now) (model_of_tree tree.now)) }
 {
     match aim {
         Aim::Store(address) => plus(wide(address, bits)?, wide(tree, bits)?),
@@ -63,7 +63,7 @@ fn cells(aim: &Aim, tree: &Tree, bits: u64) -> Result<u64, NoMemory>
 
 // The leaves and operators of a job's tree, with those of its address.
 fn nodes(aim: &Aim, tree: &Tree) -> Result<u64, NoMemory>
-    ensures { IfOk result (λ count. count ≡ size_of (destination_of aim.now) (tree_term tree.now)) }
+    ensures { IfOk result (λ count. count ≡ size_of (aim_destination aim.now) (model_of_tree tree.now)) }
 {
     match aim {
         Aim::Store(address) => plus(tree_size(address)?, tree_size(tree)?),
@@ -75,7 +75,7 @@ fn nodes(aim: &Aim, tree: &Tree) -> Result<u64, NoMemory>
 
 // Whether a tree is a read at a number.
 fn is_read_at_number(tree: &Tree) -> bool
-    ensures { result ≡ is_cell (tree_term tree.now) }
+    ensures { result ≡ is_cell (model_of_tree tree.now) }
 {
     match tree {
         Tree::Read(address, _) => is_number_tree(address),
@@ -86,7 +86,7 @@ fn is_read_at_number(tree: &Tree) -> bool
 // The nodes of a tree that are as wide as a word, but for reads at numbers.
 #[cycle(count)]
 fn wide(tree: &Tree, bits: u64) -> Result<u64, NoMemory>
-    ensures { IfOk result (λ count. count ≡ wide_nodes bits (tree_term tree.now)) }
+    ensures { IfOk result (λ count. count ≡ wide_nodes bits (model_of_tree tree.now)) }
 {
     let behind = below(tree, bits)?;
     if is_read_at_number(tree) || tree_width(tree) != bits {
@@ -98,7 +98,7 @@ fn wide(tree: &Tree, bits: u64) -> Result<u64, NoMemory>
 // Those below the root.
 #[cycle(count)]
 fn below(tree: &Tree, bits: u64) -> Result<u64, NoMemory>
-    ensures { IfOk result (λ count. count ≡ wide_below bits (tree_term tree.now)) }
+    ensures { IfOk result (λ count. count ≡ wide_below bits (model_of_tree tree.now)) }
 {
     match tree {
         Tree::Lit { .. } => Ok(0),

@@ -1,6 +1,6 @@
 //! The nodes of the trees that cost least, in order.
 
-use crate::costs::{Costs, Place, Root};
+use crate::costs::{ClassHome, Costs, Root};
 use crate::index::Index;
 use crate::needs::Limits;
 use form_model::Form;
@@ -90,8 +90,8 @@ impl<'a> Picks<'a> {
             return self.put_number(nodes, head);
         }
         match e {
-            Expr::Reg(id, _) => self.put_form(open, head, Place::Register(*id)),
-            Expr::Cell(..) => self.put_form(open, head, Place::File),
+            Expr::Reg(id, _) => self.put_form(open, head, ClassHome::Register(*id)),
+            Expr::Cell(..) => self.put_form(open, head, ClassHome::File),
             Expr::Read(addr, width) => self.put_read(open, nodes, addr, *width, head),
             _ => self.put_operator(open, nodes, e, head),
         }
@@ -109,7 +109,12 @@ impl<'a> Picks<'a> {
     }
 
     // Asks for the value of the form that leaves a class in a place.
-    fn put_form(&self, open: &mut Vec<Asked<'a>>, head: u64, place: Place) -> Result<(), NoTree> {
+    fn put_form(
+        &self,
+        open: &mut Vec<Asked<'a>>,
+        head: u64,
+        place: ClassHome,
+    ) -> Result<(), NoTree> {
         let Some(least) = self.costs.least(head, place) else {
             return Err(NoTree::Unlisted);
         };
@@ -134,7 +139,7 @@ impl<'a> Picks<'a> {
         width: u8,
         head: u64,
     ) -> Result<(), NoTree> {
-        let stored = match self.costs.least(head, Place::Cell) {
+        let stored = match self.costs.least(head, ClassHome::Cell) {
             Some(least) if is_field_shape(addr) => least.cost,
             _ => u64::MAX,
         };
@@ -160,7 +165,7 @@ impl<'a> Picks<'a> {
                 }
                 Ok(())
             }
-            None => self.put_form(open, head, Place::Cell),
+            None => self.put_form(open, head, ClassHome::Cell),
         }
     }
 

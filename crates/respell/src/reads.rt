@@ -1,7 +1,7 @@
 //! Which cells a tree reads, beside those that another reads.
 
 ghost use Rattle.std.specs.Prelude.{◌≡◌, true};
-ghost use Rattle.form_model.specs.Trees.{tree_term};
+ghost use Rattle.form_model.specs.Trees.{model_of_tree};
 ghost use Rattle.respell.specs.Respelled.{ReadsAt, ReadsNoMore};
 ghost use Rattle.tree_laws.specs.Classes.{cell_bits};
 
@@ -11,7 +11,7 @@ use tree_laws::Classes;
 /// Whether each address at which the new tree reads is equal to one at which the old tree reads, as
 /// far as a table knows.
 pub fn reads_no_more(table: &Classes, old: &Tree, new: &Tree) -> bool
-    ensures { result ≡ true → ReadsNoMore (cell_bits table.now) (tree_term old.now) (tree_term new.now) }
+    ensures { result ≡ true → ReadsNoMore (cell_bits table.now) (model_of_tree old.now) (model_of_tree new.now) }
 {
     match new {
         Tree::Lit { .. } => true,
@@ -26,7 +26,7 @@ pub fn reads_no_more(table: &Classes, old: &Tree, new: &Tree) -> bool
 
 // Whether a tree reads at an address.
 fn reads_at(table: &Classes, tree: &Tree, address: &Tree) -> bool
-    ensures { result ≡ true → ReadsAt (cell_bits table.now) (tree_term address.now) (tree_term tree.now) }
+    ensures { result ≡ true → ReadsAt (cell_bits table.now) (model_of_tree address.now) (model_of_tree tree.now) }
 {
     match tree {
         Tree::Lit { .. } => false,

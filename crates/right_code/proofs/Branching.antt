@@ -5,23 +5,23 @@ use Rattle.std.proofs.lemmas.Nat.{and_le_l}
 use Rattle.net_model.specs.declared.hardware.Netlist.{Netlist}
 use Rattle.net_model.specs.declared.states.State.{State}
 use Rattle.net_model.specs.CheckedRules.{KeepsRules}
-use Rattle.net_model.specs.Terms.{Term, word, reg, const, read, un, bin, slice, cat, zext, sext, select, write}
+use Rattle.net_model.specs.Exprs.{ExprModel, word, reg, const, read, un, bin, slice, cat, zext, sext, select, write}
 use Rattle.net_model.specs.Meaning.{mean}
 use Rattle.net_model.specs.Symbolic.{no_state}
 use Rattle.net_model.specs.Nets.{counter_of, counter_width, file_place}
 use Rattle.net_model.specs.Clock.{counter_in}
 use Rattle.net_model.specs.Patterns.{Pattern}
-use Rattle.net_model.specs.Transfers.{IsClean, counter_move}
+use Rattle.net_model.specs.Transfers.{IsClean, counter_transfer}
 use Rattle.net_model.proofs.KeptRules.{sound_of}
 use Rattle.code_model.specs.Machine.{IsAt}
 use Rattle.code_model.specs.Words.{is_fixed, DoesGoto, KeepsMode}
-use Rattle.net_model.specs.Fields.{fields, WordFitsMove, WordFitsTerm}
+use Rattle.net_model.specs.Fields.{fields, WordFitsTransfer, WordFitsExpr}
 use Rattle.rec_bits.specs.declared.operator.Op2.{Op2}
 use Rattle.rec_bits.specs.declared.operator.Op2.TheVariants.{Add}
 use Rattle.std.proofs.lemmas.Bool.{and_from}
 use Rattle.form_model.specs.Shapes.{Sum, field_setting, less_by, plain_setting, shape_setting, sum_of, sum_setting, sum_with, summands}
 use Rattle.form_model.proofs.SumNumbers.{sum_is_with}
-use Rattle.form_model.specs.Rules.{Rule, BranchTarget}
+use Rattle.form_model.specs.Forms.{FormModel, TargetModel}
 use Rattle.block_words.specs.Laws.{operation_in}
 use Rattle.form_model.specs.Effects.{space_in, operation_or_none}
 use Rattle.word_fit.specs.Fits.{FitsJump}
@@ -30,22 +30,22 @@ use Rattle.net_model.proofs.WordWidths.{less_fits, move_fits}
 use Rattle.net_model.proofs.TermLaws.{mean_fields}
 use Rattle.branch_fix.specs.Made.{DoesBranch}
 use Rattle.form_model.proofs.SettingLaws.{setting_means}
-use Rattle.right_code.specs.Inner.Forks.{one_side, IsNextTerm, IsBranchForm, IsJumpMade}
+use Rattle.right_code.specs.Inner.Forks.{one_side, IsNextExpr, IsBranchForm, IsJumpMade}
 use Rattle.right_code.proofs.Masks.{mask_first, mask_second}
 
 -- ---- meanings under a word and under the bits of a setting
 
-pub mean_under : (t : Term) (s : State) (i j : ℕ) → WordFitsTerm t i → bit_and i (fields t) ≡ j → mean t s i ≡ mean t s j
+pub mean_under : (t : ExprModel) (s : State) (i j : ℕ) → WordFitsExpr t i → bit_and i (fields t) ≡ j → mean t s i ≡ mean t s j
 mean_under t s i j fit e = mean_fields t s i j fit (less_fits t i j (subst (λ n. n ≤ i) e (and_le_l i (fields t))) fit) (masked_self i j (fields t) e)
 
 -- ---- a shape has no registers and reads
 
-field_fixed : (a : Term) (v b : ℕ) → field_setting a v ≡ Some b → is_fixed a ≡ true
+field_fixed : (a : ExprModel) (v b : ℕ) → field_setting a v ≡ Some b → is_fixed a ≡ true
 field_fixed (word w) v b e = refl
 field_fixed (slice (word w) hi lo) v b e = refl
 field_fixed a v b e = absurd (cc)
 
-plain_fixed : (t : Term) (v b : ℕ) → plain_setting t v ≡ Some b → is_fixed t ≡ true
+plain_fixed : (t : ExprModel) (v b : ℕ) → plain_setting t v ≡ Some b → is_fixed t ≡ true
 plain_fixed (const w c) v b e = refl
 plain_fixed (zext a w) v b e = field_fixed a v b e
 plain_fixed (sext a w) v b e = by _ _ e
@@ -65,23 +65,23 @@ part_fixed z v b e = by (nat_lt v (2 ^ z.width)) e
     by true e = plain_fixed z.to (less_by z.width v z.added) b e
     by false e = absurd (cc e)
 
-with_fixed : (w c : ℕ) (t : Term) (v b : ℕ) → sum_setting (sum_with w c t) v ≡ Some b → is_fixed t ≡ true
+with_fixed : (w c : ℕ) (t : ExprModel) (v b : ℕ) → sum_setting (sum_with w c t) v ≡ Some b → is_fixed t ≡ true
 with_fixed w c t v b e = by (sum_with w c t) refl e
   where
     by : (o : Option Sum) → sum_with w c t ≡ o → sum_setting o v ≡ Some b → is_fixed t ≡ true
     by None q e = absurd (cc e)
     by (Some z) q e = ap (λ (y : Sum). is_fixed y.to) (sum_is_with w c t z q).is ∙ part_fixed z v b e
 
-summands_fixed : (x y : Term) (v b : ℕ) → sum_setting (summands x y) v ≡ Some b → is_fixed (bin Add x y) ≡ true
+summands_fixed : (x y : ExprModel) (v b : ℕ) → sum_setting (summands x y) v ≡ Some b → is_fixed (bin Add x y) ≡ true
 summands_fixed (const w c) y v b e = with_fixed w c y v b e
 summands_fixed x (const w c) v b e = and_from (is_fixed x) true (with_fixed w c x v b e) refl
 summands_fixed x y v b e = absurd (cc e)
 
-sum_fixed : (o : Op2) (x y : Term) (v b : ℕ) → sum_setting (sum_of o x y) v ≡ Some b → is_fixed (bin o x y) ≡ true
+sum_fixed : (o : Op2) (x y : ExprModel) (v b : ℕ) → sum_setting (sum_of o x y) v ≡ Some b → is_fixed (bin o x y) ≡ true
 sum_fixed Add x y v b e = summands_fixed x y v b e
 sum_fixed _ x y v b e = absurd (cc e)
 
-pub shape_fixed : (t : Term) (v b : ℕ) → shape_setting t v ≡ Some b → is_fixed t ≡ true
+pub shape_fixed : (t : ExprModel) (v b : ℕ) → shape_setting t v ≡ Some b → is_fixed t ≡ true
 shape_fixed (bin o x y) v b e = sum_fixed o x y v b e
 shape_fixed (const w c) v b e = plain_fixed (const w c) v b e
 shape_fixed (zext a w) v b e = plain_fixed (zext a w) v b e
@@ -102,8 +102,8 @@ jump_opened netlist patterns i k j p e f = subst (λ o. FitsJump netlist i (oper
 
 module _ (netlist : Netlist) (order : List ℕ) (keeps : KeepsRules netlist order) where
   -- the words of what the program counter takes have the code's width
-  pub value_fits : (i : ℕ) (e : Term) → IsClean netlist i → counter_move netlist i ≡ write e → WordFitsTerm e i
-  value_fits i e clean g = subst (λ k. WordFitsMove k i) g (move_fits netlist i clean.fits (sound_of netlist order keeps).typed (counter_of netlist.codes))
+  pub value_fits : (i : ℕ) (e : ExprModel) → IsClean netlist i → counter_transfer netlist i ≡ write e → WordFitsExpr e i
+  value_fits i e clean g = subst (λ k. WordFitsTransfer k i) g (move_fits netlist i clean.fits (sound_of netlist order keeps).typed (counter_of netlist.codes))
 
   -- ---- jumps
 
@@ -111,7 +111,7 @@ module _ (netlist : Netlist) (order : List ℕ) (keeps : KeepsRules netlist orde
   jump_does special patterns i to h =
       let f : FitsJump netlist i (record { storage = counter_of netlist.codes; space = space_in (file_place netlist.storages) (counter_of netlist.codes); move = write h.rule.value; setting = h.bits }) =
       jump_opened netlist patterns i h.rule.pattern h.bits _ h.form.is h.word in
-      let fit : WordFitsTerm h.rule.value i = value_fits i h.rule.value f.clean f.does.gives in
+      let fit : WordFitsExpr h.rule.value i = value_fits i h.rule.value f.clean f.does.gives in
       record {
         clean = f.clean;
         jump = record {
@@ -124,7 +124,7 @@ module _ (netlist : Netlist) (order : List ℕ) (keeps : KeepsRules netlist orde
 
   -- ---- branches
 
-  next_mean : (at i : ℕ) (s : State) (e : Term) → IsNextTerm netlist e → IsAt netlist at s → at + 1 < 2 ^ counter_width netlist → mean e s i ≡ at + 1
+  next_mean : (at i : ℕ) (s : State) (e : ExprModel) → IsNextExpr netlist e → IsAt netlist at s → at + 1 < 2 ^ counter_width netlist → mean e s i ≡ at + 1
   next_mean at i s e n here b =
       let c : counter_in netlist s ≡ at = here.counter in
       elim n as (λ _. mean e s i ≡ at + 1) [
@@ -135,16 +135,16 @@ module _ (netlist : Netlist) (order : List ℕ) (keeps : KeepsRules netlist orde
       swap : (n : ℕ) → 1 + n ≡ n + 1
       swap n = omega arith
 
-  one_mean : (b : Bool) (x y : Term) (s : State) (i m n : ℕ) → mean x s i ≡ m → mean y s i ≡ n → mean (one_side b x y) s i ≡ (if b then m else n)
+  one_mean : (b : Bool) (x y : ExprModel) (s : State) (i m n : ℕ) → mean x s i ≡ m → mean y s i ≡ n → mean (one_side b x y) s i ≡ (if b then m else n)
   one_mean true x y s i m n p q = p
   one_mean false x y s i m n p q = q
 
   -- the parts of a select whose sides may be swapped
-  record Sides (i j : ℕ) (c x : Term) : Type 0 where
+  record Sides (i j : ℕ) (c x : ExprModel) : Type 0 where
     test : bit_and i (fields c) ≡ bit_and j (fields c)
     side : bit_and i (fields x) ≡ bit_and j (fields x)
 
-  sides_of : (b : Bool) (i j : ℕ) (c x y : Term) → bit_and i (fields (select c (one_side b x y) (one_side b y x))) ≡ j → Sides i j c x
+  sides_of : (b : Bool) (i j : ℕ) (c x y : ExprModel) → bit_and i (fields (select c (one_side b x y) (one_side b y x))) ≡ j → Sides i j c x
   sides_of true i j c x y e =
       let h : bit_and i (bit_or (fields c) (fields x)) ≡ bit_and j (bit_or (fields c) (fields x)) = both_left i j (bit_or (fields c) (fields x)) (fields y) (masked_self i j (bit_or (bit_or (fields c) (fields x)) (fields y)) e) in
       record { test = both_left i j (fields c) (fields x) h; side = both_right i j (fields c) (fields x) h }
@@ -152,26 +152,26 @@ module _ (netlist : Netlist) (order : List ℕ) (keeps : KeepsRules netlist orde
       let h : bit_and i (bit_or (fields c) (fields y)) ≡ bit_and j (bit_or (fields c) (fields y)) = both_left i j (bit_or (fields c) (fields y)) (fields x) (masked_self i j (bit_or (bit_or (fields c) (fields y)) (fields x)) e) in
       record { test = both_left i j (fields c) (fields y) h; side = both_right i j (bit_or (fields c) (fields y)) (fields x) (masked_self i j (bit_or (bit_or (fields c) (fields y)) (fields x)) e) }
 
-  sides_fit : (b : Bool) (i : ℕ) (c x y : Term) → WordFitsTerm (select c (one_side b x y) (one_side b y x)) i → WordFitsTerm c i × WordFitsTerm x i
+  sides_fit : (b : Bool) (i : ℕ) (c x y : ExprModel) → WordFitsExpr (select c (one_side b x y) (one_side b y x)) i → WordFitsExpr c i × WordFitsExpr x i
   sides_fit true i c x y f = (f.0, f.1)
   sides_fit false i c x y f = (f.0, f.2)
 
   -- what a branch word's bits mean: those of the condition and those of the target
-  pub record BranchParts (patterns : List Pattern) (rule : Rule) (when_one : Bool) (way : BranchTarget) (form : IsBranchForm netlist patterns rule when_one way) (i setting bits : ℕ) : Type 0 where
+  pub record BranchParts (patterns : List Pattern) (rule : FormModel) (when_one : Bool) (way : TargetModel) (form : IsBranchForm netlist patterns rule when_one way) (i setting bits : ℕ) : Type 0 where
     pub clean : IsClean netlist i
     pub jump : FitsJump netlist i (record { storage = counter_of netlist.codes; space = space_in (file_place netlist.storages) (counter_of netlist.codes); move = write (select form.condition (one_side when_one form.target form.step) (one_side when_one form.step form.target)); setting = bit_or setting bits })
-    pub test_fits : WordFitsTerm form.condition i
-    pub target_fits : WordFitsTerm form.target i
+    pub test_fits : WordFitsExpr form.condition i
+    pub target_fits : WordFitsExpr form.target i
     pub test : bit_and i (fields form.condition) ≡ setting
     pub target : bit_and i (fields form.target) ≡ bits
 
-  pub branch_parts : (patterns : List Pattern) (rule : Rule) (when_one : Bool) (way : BranchTarget) (form : IsBranchForm netlist patterns rule when_one way) (i setting bits : ℕ)
+  pub branch_parts : (patterns : List Pattern) (rule : FormModel) (when_one : Bool) (way : TargetModel) (form : IsBranchForm netlist patterns rule when_one way) (i setting bits : ℕ)
       → bit_and setting (fields form.condition) ≡ setting → bit_and bits (fields form.target) ≡ bits → FitsJump netlist i (operation_in netlist patterns (record { pattern = rule.pattern; setting = bit_or setting bits }))
       → BranchParts patterns rule when_one way form i setting bits
   branch_parts patterns rule when_one way form i setting bits e g h =
       let f : FitsJump netlist i (record { storage = counter_of netlist.codes; space = space_in (file_place netlist.storages) (counter_of netlist.codes); move = write (select form.condition (one_side when_one form.target form.step) (one_side when_one form.step form.target)); setting = bit_or setting bits }) =
       jump_opened netlist patterns i rule.pattern (bit_or setting bits) _ form.is h in
-      let w : WordFitsTerm form.condition i × WordFitsTerm form.target i = sides_fit when_one i form.condition form.target form.step (value_fits i _ f.clean f.does.gives) in
+      let w : WordFitsExpr form.condition i × WordFitsExpr form.target i = sides_fit when_one i form.condition form.target form.step (value_fits i _ f.clean f.does.gives) in
       let p : Sides i (bit_or setting bits) form.condition form.target = sides_of when_one i (bit_or setting bits) form.condition form.target form.step f.does.setting in
       record {
         clean = f.clean;
@@ -183,7 +183,7 @@ module _ (netlist : Netlist) (order : List ℕ) (keeps : KeepsRules netlist orde
       }
 
   -- a branch word goes to its target, or on
-  pub branch_does : (patterns : List Pattern) (rule : Rule) (when_one : Bool) (way : BranchTarget) (form : IsBranchForm netlist patterns rule when_one way) (i setting bits at to : ℕ)
+  pub branch_does : (patterns : List Pattern) (rule : FormModel) (when_one : Bool) (way : TargetModel) (form : IsBranchForm netlist patterns rule when_one way) (i setting bits at to : ℕ)
       → BranchParts patterns rule when_one way form i setting bits → ((s : State) → IsAt netlist at s → mean form.target s i ≡ to) → at + 1 < 2 ^ counter_width netlist
       → (special : Option ℕ) → KeepsMode special netlist i → DoesBranch netlist special i form.condition when_one at to
   branch_does patterns rule when_one way form i setting bits at to p leads b special mode = record {

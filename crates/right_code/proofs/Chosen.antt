@@ -7,42 +7,42 @@ use Rattle.net_model.specs.declared.hardware.Storage.{Storage}
 use Rattle.net_model.specs.declared.hardware.Storage.TheVariants.{Register, Memory, File}
 use Rattle.net_model.specs.CheckedRules.{KeepsRules, StorageKeeps, memory_addr_width, memory_count}
 use Rattle.net_model.specs.Nets.{memory_size, memory_width}
-use Rattle.src_model.specs.Written.{Listing}
+use Rattle.src_model.specs.Written.{ProgramModel}
 use Rattle.src_model.specs.Rules.{temp_count}
 use Rattle.code_model.specs.Layout.{need_of}
 use Rattle.form_model.specs.declared.flow.Flow.{Flow}
 use Rattle.form_model.specs.declared.flow.Flow.TheVariants.{Assign, Test as Tested, Jump as Jumped, End as Ended}
-use Rattle.form_model.specs.Covers.{Choice}
+use Rattle.form_model.specs.Covers.{JobCoverModel}
 use Rattle.emit_seq.specs.ReadWords.{AllReadWords}
-use Rattle.src_trees.specs.Lowered.{Work}
+use Rattle.src_trees.specs.Lowered.{JobModel}
 use Rattle.src_trees.specs.Blocks.{job_list, job_at, jobs_at}
 use Rattle.src_trees.specs.Seen.{InReach}
 use Rattle.src_trees.specs.Measures.{AllSmall}
 use Rattle.right_code.specs.Jobs.{HasOne, IsCovered}
 use Rattle.right_code.specs.Inner.Jobs.{AreCovered}
 use Rattle.right_code.specs.Inner.Forks.{test_of}
-use Rattle.form_model.specs.Rules.{Destination, tested}
+use Rattle.form_model.specs.Forms.{DestinationModel, tested}
 use Rattle.right_code.specs.Inner.Blocks.{Kit}
 use Rattle.right_code.specs.Covered.{AllPlanned, ArePlans, mode_stock}
-use Rattle.mode_set.specs.Costs.{MayRunIn, Planned}
+use Rattle.mode_set.specs.Costs.{MayRunIn, PlanModel}
 use Rattle.mode_set.specs.Keeping.{Isas, IsUsable, held}
 use Rattle.net_model.specs.ModeRules.{base_at}
 use Rattle.right_code.specs.Cuts.{Cut, cuts_of, join_cut, join_first, join_zero, plan_at, plan_choices, plans_at, plans_of}
-use Rattle.right_code.specs.Tasks.{Task, task_works}
+use Rattle.right_code.specs.Tasks.{Task, task_jobs}
 use Rattle.right_code.proofs.Covered.{covered_of}
 use Rattle.right_code.specs.Works.{AllOne}
 
 -- a job that goes nowhere is a test's
-pub as_test : (job : Work) → job.destination ≡ tested → test_of job ≡ job
+pub as_test : (job : JobModel) → job.destination ≡ tested → test_of job ≡ job
 as_test job e = (λ j. record { destination = sym e j; trees = job.trees })
 
 -- plans of one mode
-abbrev pub AllMode : ℕ → List Planned → Type 0
+abbrev pub AllMode : ℕ → List PlanModel → Type 0
 AllMode v [] = Unit {0}
 AllMode v (planned ∷ plans) = (planned.mode ≡ v) × AllMode v plans
 
 -- the jobs of cuts
-abbrev pub cut_jobs : List Cut → List Work
+abbrev pub cut_jobs : List Cut → List JobModel
 cut_jobs [] = []
 cut_jobs (x ∷ cuts) = x.jobs ++ cut_jobs cuts
 
@@ -54,13 +54,13 @@ module _ (task : Task) (isas : Isas task.netlist) where
   own_kit v = record { netlist = own_net v; patterns = (isas v).patterns; stock = mode_stock task isas v }
 
   -- a job's cover is by forms of its mode
-  abbrev pub PlansCovered : List Work → List Planned → Type 0
+  abbrev pub PlansCovered : List JobModel → List PlanModel → Type 0
   PlansCovered [] [] = Unit {0}
   PlansCovered (job ∷ jobs) (planned ∷ plans) = IsCovered (own_kit planned.mode).stock job planned.choice × HasOne job.destination job.trees × PlansCovered jobs plans
   PlansCovered _ _ = ⊥
 
   -- so are those of jobs of one mode by its forms
-  pub run_covered : (v : ℕ) (jobs : List Work) (plans : List Planned) → AllMode v plans → PlansCovered jobs plans → AreCovered (own_kit v).stock jobs (plan_choices plans)
+  pub run_covered : (v : ℕ) (jobs : List JobModel) (plans : List PlanModel) → AllMode v plans → PlansCovered jobs plans → AreCovered (own_kit v).stock jobs (plan_choices plans)
   run_covered v [] [] all c = tt
   run_covered v [] (planned ∷ plans) all c = absurd c
   run_covered v (job ∷ jobs) [] all c = absurd c
@@ -70,50 +70,50 @@ module _ (task : Task) (isas : Isas task.netlist) where
   CutsCovered [] = Unit {0}
   CutsCovered (x ∷ cuts) = AreCovered (own_kit x.mode).stock x.jobs x.choices × CutsCovered cuts
 
-  first_covered : (v : ℕ) (job : Work) (choice : Choice) (x : Cut) (cuts : List Cut) → x.mode ≡ v → IsCovered (own_kit 0).stock job choice → HasOne job.destination job.trees → CutsCovered (x ∷ cuts) → CutsCovered (join_first v job choice x cuts)
+  first_covered : (v : ℕ) (job : JobModel) (choice : JobCoverModel) (x : Cut) (cuts : List Cut) → x.mode ≡ v → IsCovered (own_kit 0).stock job choice → HasOne job.destination job.trees → CutsCovered (x ∷ cuts) → CutsCovered (join_first v job choice x cuts)
   first_covered zero job choice x cuts e c o h = ((c, o, subst (λ n. AreCovered (own_kit n).stock x.jobs x.choices) e h.0), h.1)
   first_covered (suc v) job choice x cuts e c o h = ((c, o, tt), h)
 
-  zero_covered : (job : Work) (choice : Choice) (cuts : List Cut) → IsCovered (own_kit 0).stock job choice → HasOne job.destination job.trees → CutsCovered cuts → CutsCovered (join_zero job choice cuts)
+  zero_covered : (job : JobModel) (choice : JobCoverModel) (cuts : List Cut) → IsCovered (own_kit 0).stock job choice → HasOne job.destination job.trees → CutsCovered cuts → CutsCovered (join_zero job choice cuts)
   zero_covered job choice [] c o h = ((c, o, tt), tt)
   zero_covered job choice (x ∷ cuts) c o h = first_covered x.mode job choice x cuts refl c o h
 
-  join_covered : (v : ℕ) (job : Work) (choice : Choice) (cuts : List Cut) → IsCovered (own_kit v).stock job choice → HasOne job.destination job.trees → CutsCovered cuts → CutsCovered (join_cut v job choice cuts)
+  join_covered : (v : ℕ) (job : JobModel) (choice : JobCoverModel) (cuts : List Cut) → IsCovered (own_kit v).stock job choice → HasOne job.destination job.trees → CutsCovered cuts → CutsCovered (join_cut v job choice cuts)
   join_covered zero job choice cuts c o h = zero_covered job choice cuts c o h
   join_covered (suc v) job choice cuts c o h = ((c, o, tt), h)
 
-  pub cuts_covered : (jobs : List Work) (plans : List Planned) → PlansCovered jobs plans → CutsCovered (cuts_of jobs plans)
+  pub cuts_covered : (jobs : List JobModel) (plans : List PlanModel) → PlansCovered jobs plans → CutsCovered (cuts_of jobs plans)
   cuts_covered [] [] c = tt
   cuts_covered [] (planned ∷ plans) c = tt
   cuts_covered (job ∷ jobs) [] c = tt
   cuts_covered (job ∷ jobs) (planned ∷ plans) c = join_covered planned.mode job planned.choice (cuts_of jobs plans) c.0 c.1 (cuts_covered jobs plans c.2)
 
-  first_jobs : (v : ℕ) (job : Work) (choice : Choice) (x : Cut) (cuts : List Cut) → cut_jobs (join_first v job choice x cuts) ≡ job ∷ cut_jobs (x ∷ cuts)
+  first_jobs : (v : ℕ) (job : JobModel) (choice : JobCoverModel) (x : Cut) (cuts : List Cut) → cut_jobs (join_first v job choice x cuts) ≡ job ∷ cut_jobs (x ∷ cuts)
   first_jobs zero job choice x cuts = refl
   first_jobs (suc v) job choice x cuts = refl
 
-  join_jobs : (v : ℕ) (job : Work) (choice : Choice) (cuts : List Cut) → cut_jobs (join_cut v job choice cuts) ≡ job ∷ cut_jobs cuts
+  join_jobs : (v : ℕ) (job : JobModel) (choice : JobCoverModel) (cuts : List Cut) → cut_jobs (join_cut v job choice cuts) ≡ job ∷ cut_jobs cuts
   join_jobs zero job choice [] = refl
   join_jobs zero job choice (x ∷ cuts) = first_jobs x.mode job choice x cuts
   join_jobs (suc v) job choice cuts = refl
 
-  pub cuts_jobs : (jobs : List Work) (plans : List Planned) → PlansCovered jobs plans → jobs ≡ cut_jobs (cuts_of jobs plans)
+  pub cuts_jobs : (jobs : List JobModel) (plans : List PlanModel) → PlansCovered jobs plans → jobs ≡ cut_jobs (cuts_of jobs plans)
   cuts_jobs [] [] c = refl
   cuts_jobs [] (planned ∷ plans) c = absurd c
   cuts_jobs (job ∷ jobs) [] c = absurd c
-  cuts_jobs (job ∷ jobs) (planned ∷ plans) c = ap (λ (list : List Work). job ∷ list) (cuts_jobs jobs plans c.2) ∙ sym (join_jobs planned.mode job planned.choice (cuts_of jobs plans))
+  cuts_jobs (job ∷ jobs) (planned ∷ plans) c = ap (λ (list : List JobModel). job ∷ list) (cuts_jobs jobs plans c.2) ∙ sym (join_jobs planned.mode job planned.choice (cuts_of jobs plans))
 
-  plans_both : (jobs works : List Work) (plans others : List Planned) → PlansCovered jobs plans → PlansCovered works others → PlansCovered (jobs ++ works) (plans ++ others)
+  plans_both : (jobs works : List JobModel) (plans others : List PlanModel) → PlansCovered jobs plans → PlansCovered works others → PlansCovered (jobs ++ works) (plans ++ others)
   plans_both [] works [] others c d = d
   plans_both [] works (planned ∷ plans) others c d = absurd c
   plans_both (job ∷ jobs) works [] others c d = absurd c
   plans_both (job ∷ jobs) works (planned ∷ plans) others c d = (c.0, c.1, plans_both jobs works plans others c.2 d)
 
-  module _ (reads : (v : ℕ) → AllReadWords task.width (isas v).rules) (most : ℕ) (small : AllSmall task.width (temp_count task.width task.listing) most (task_works task)) (one : AllOne (task_works task))
-      (plans : List Planned) (planned : ArePlans task isas plans) where
+  module _ (reads : (v : ℕ) → AllReadWords task.width (isas v).rules) (most : ℕ) (small : AllSmall task.width (temp_count task.width task.listing) most (task_jobs task)) (one : AllOne (task_jobs task))
+      (plans : List PlanModel) (planned : ArePlans task isas plans) where
     -- ---- the jobs of blocks
 
-    pair_at : (works : List Work) (plans : List Planned) (k : ℕ) → AllSmall task.width (temp_count task.width task.listing) most works → AllOne works → AllPlanned (mode_stock task isas) (IsUsable task.netlist isas) works plans
+    pair_at : (works : List JobModel) (plans : List PlanModel) (k : ℕ) → AllSmall task.width (temp_count task.width task.listing) most works → AllOne works → AllPlanned (mode_stock task isas) (IsUsable task.netlist isas) works plans
         → PlansCovered (job_list (slice_get works k)) (plans_of (slice_get plans k))
     pair_at [] [] k s o c = tt
     pair_at [] (d ∷ plans) k s o c = absurd c
@@ -121,31 +121,31 @@ module _ (task : Task) (isas : Isas task.netlist) where
     pair_at (t ∷ works) (d ∷ plans) zero s o c = (covered_of task.width (own_kit d.mode).stock (reads d.mode) most t d.choice s.0 c.0.chosen, o.0, tt)
     pair_at (t ∷ works) (d ∷ plans) (suc k) s o c = pair_at works plans k s.1 o.1 c.1
 
-    place_covered : (o : Option Flow) → PlansCovered (job_at (task_works task) o) (plan_at plans o)
+    place_covered : (o : Option Flow) → PlansCovered (job_at (task_jobs task) o) (plan_at plans o)
     place_covered None = tt
-    place_covered (Some (Assign tree)) = pair_at (task_works task) plans tree small one planned
+    place_covered (Some (Assign tree)) = pair_at (task_jobs task) plans tree small one planned
     place_covered (Some (Tested tree a b)) = tt
     place_covered (Some (Jumped to)) = tt
     place_covered (Some Ended) = tt
 
-    pub block_covered : (flow : List Flow) (at n : ℕ) → PlansCovered (jobs_at flow (task_works task) at n) (plans_at flow plans at n)
+    pub block_covered : (flow : List Flow) (at n : ℕ) → PlansCovered (jobs_at flow (task_jobs task) at n) (plans_at flow plans at n)
     block_covered flow at zero = tt
     block_covered flow at (suc n) =
-        plans_both (jobs_at flow (task_works task) at n) (job_at (task_works task) (slice_get flow (at + n))) (plans_at flow plans at n) (plan_at plans (slice_get flow (at + n))) (block_covered flow at n) (place_covered (slice_get flow (at + n)))
+        plans_both (jobs_at flow (task_jobs task) at n) (job_at (task_jobs task) (slice_get flow (at + n))) (plans_at flow plans at n) (plan_at plans (slice_get flow (at + n))) (block_covered flow at n) (place_covered (slice_get flow (at + n)))
 
     -- ---- tests
 
-    pub test_plan : (works : List Work) (plans : List Planned) (k : ℕ) (job : Work) → AllSmall task.width (temp_count task.width task.listing) most works → AllPlanned (mode_stock task isas) (IsUsable task.netlist isas) works plans → slice_get works k ≡ Some job → job.destination ≡ tested
-        → (d : Planned) × (slice_get plans k ≡ Some d) × IsCovered (own_kit 0).stock job d.choice
+    pub test_plan : (works : List JobModel) (plans : List PlanModel) (k : ℕ) (job : JobModel) → AllSmall task.width (temp_count task.width task.listing) most works → AllPlanned (mode_stock task isas) (IsUsable task.netlist isas) works plans → slice_get works k ≡ Some job → job.destination ≡ tested
+        → (d : PlanModel) × (slice_get plans k ≡ Some d) × IsCovered (own_kit 0).stock job d.choice
     test_plan [] plans k job s c e aim = absurd (cc e)
     test_plan (t ∷ works) [] k job s c e aim = absurd c
     test_plan (t ∷ works) (d ∷ plans) zero job s c e aim =
-        let same : t ≡ job = (λ (x y : Work) (h : Some x ≡ Some y). one_of x y h) t job e in
-        let goes : t.destination ≡ tested = ap (λ (x : Work). x.destination) same ∙ aim in
-        let mode : d.mode ≡ 0 = subst (λ (x : Destination). MayRunIn x d.mode) goes c.0.may in
+        let same : t ≡ job = (λ (x y : JobModel) (h : Some x ≡ Some y). one_of x y h) t job e in
+        let goes : t.destination ≡ tested = ap (λ (x : JobModel). x.destination) same ∙ aim in
+        let mode : d.mode ≡ 0 = subst (λ (x : DestinationModel). MayRunIn x d.mode) goes c.0.may in
         (d, refl, subst (λ x. IsCovered (own_kit 0).stock x d.choice) same (subst (λ v. IsCovered (own_kit v).stock t d.choice) mode (covered_of task.width (own_kit d.mode).stock (reads d.mode) most t d.choice s.0 c.0.chosen)))
       where
-        one_of : (x y : Work) → Some x ≡ Some y → x ≡ y
+        one_of : (x y : JobModel) → Some x ≡ Some y → x ≡ y
         one_of x y h = cc
     test_plan (t ∷ works) (d ∷ plans) (suc k) job s c e aim = test_plan works plans k job s.1 c.1 e aim
 
@@ -157,7 +157,7 @@ some_addresses netlist (Memory cells ∷ storages) h e = h.0.1.0
 some_addresses netlist (File cells ∷ storages) h e = some_addresses netlist storages h.1 (omega (arith, e))
 
 -- the variables of a program that the memory has room for are in reach of its addresses
-pub in_reach : (netlist : Netlist) (order : List ℕ) → KeepsRules netlist order → (width : ℕ) (l : Listing) → memory_width netlist.storages ≡ width → need_of width l ≤ memory_size netlist.storages
+pub in_reach : (netlist : Netlist) (order : List ℕ) → KeepsRules netlist order → (width : ℕ) (l : ProgramModel) → memory_width netlist.storages ≡ width → need_of width l ≤ memory_size netlist.storages
     → InReach width (memory_addr_width netlist.storages) (temp_count width l) l.vars
 in_reach netlist order keeps width l wide room =
     let some = keeps.roles.sizes.1.0 in

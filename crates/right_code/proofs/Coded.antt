@@ -7,7 +7,7 @@ use Rattle.net_model.specs.declared.hardware.Storage.{Storage}
 use Rattle.net_model.specs.declared.hardware.Storage.TheVariants.{Register, Memory, File}
 use Rattle.net_model.specs.CheckedRules.{IsCounter, code_size}
 use Rattle.net_model.specs.Nets.{storage_bits, counter_of, counter_width, memory_size, memory_width}
-use Rattle.src_model.specs.Written.{Listing, acts_of}
+use Rattle.src_model.specs.Written.{ProgramModel, stmts_of}
 use Rattle.src_model.specs.Rules.{first_fault}
 use Rattle.src_model.specs.Trace.{strace}
 use Rattle.code_model.specs.declared.image.Image.{Image}
@@ -15,15 +15,15 @@ use Rattle.code_model.specs.Places.{words_of}
 use Rattle.code_model.specs.Right.{TracesRight}
 use Rattle.form_model.specs.declared.flow.Flow.{Flow}
 use Rattle.form_model.specs.declared.flow.Flow.TheVariants.{End as Ended}
-use Rattle.form_model.specs.Rules.{Rule}
-use Rattle.src_trees.specs.Lowered.{MemoryMap, Work}
+use Rattle.form_model.specs.Forms.{FormModel}
+use Rattle.src_trees.specs.Lowered.{MemoryMap, JobModel}
 use Rattle.src_trees.specs.Flows.{places_in, program_flow}
 use Rattle.src_trees.specs.Held.{HasCellRoom, HoldsVars}
 use Rattle.src_trees.specs.Meant.{DoProgram}
-use Rattle.src_trees.specs.Turned.{Turns, TurnsTests, told_works, turned_flow}
-use Rattle.branch_fix.specs.declared.part.Part.{Part}
-use Rattle.branch_fix.specs.declared.part.Part.TheVariants.{Block, Inner, Test, Jump, End}
-use Rattle.branch_fix.specs.Parts.{address, total, room, branch_words, rule_at_one, PartsFit, FitsPart}
+use Rattle.src_trees.specs.Turned.{Turns, TurnsTests, jobs_of_told, turned_flow}
+use Rattle.branch_fix.specs.declared.part.LayoutPart.{LayoutPart}
+use Rattle.branch_fix.specs.declared.part.LayoutPart.TheVariants.{Block, Inner, Test, Jump, End}
+use Rattle.branch_fix.specs.Parts.{address, total, room, branch_words, form_at_one, PartsFit, FitsPart}
 use Rattle.branch_fix.specs.Made.{DoesBlock, DoesFork, IsMade, image_word}
 use Rattle.branch_fix.specs.Sections.{DoSections, DoesIn, DoesSection, PutsMode, Section, section_jobs, section_room, sections_room}
 use Rattle.branch_fix.proofs.Sections.{sections_do}
@@ -45,14 +45,14 @@ there (y ∷ xs) zero x e = omega arith
 there (y ∷ xs) (suc k) x e = let h = there xs k x e in omega (arith, h)
 
 -- a part that isn't the end
-abbrev pub is_end : Part → Bool
+abbrev pub is_end : LayoutPart → Bool
 is_end End = true
 is_end (Block block words) = false
 is_end Inner = false
 is_end (Test f) = false
 is_end (Jump to) = false
 
-pub ended : (rules : List Rule) (flow : List Flow) (n : ℕ) (p : Part) → FitsPart rules flow n Ended p → (is_end p ≡ true) × (1 ≤ room p)
+pub ended : (rules : List FormModel) (flow : List Flow) (n : ℕ) (p : LayoutPart) → FitsPart rules flow n Ended p → (is_end p ≡ true) × (1 ≤ room p)
 ended rules flow n End h = (refl, omega arith)
 ended rules flow n (Block block words) h = absurd h
 ended rules flow n Inner h = absurd h
@@ -60,7 +60,7 @@ ended rules flow n (Test f) h = absurd h
 ended rules flow n (Jump to) h = absurd h
 
 -- behind such a part the end still stands
-pub before_end : (rules : List Rule) (flow : List Flow) (end : ℕ) (parts : List Part) (k : ℕ) (p : Part) → IsFlow flow end → PartsFit rules flow 0 flow parts → slice_get parts k ≡ Some p → is_end p ≡ false
+pub before_end : (rules : List FormModel) (flow : List Flow) (end : ℕ) (parts : List LayoutPart) (k : ℕ) (p : LayoutPart) → IsFlow flow end → PartsFit rules flow 0 flow parts → slice_get parts k ≡ Some p → is_end p ≡ false
     → address parts k + room p < total parts
 before_end rules flow end parts k p f fit e stays =
     let n : length parts ≡ length flow = fit_length rules flow 0 flow parts fit in
@@ -77,7 +77,7 @@ before_end rules flow end parts k p f fit e stays =
     let d : address parts (k + 1) ≤ address parts end = address_rises parts (k + 1) end le in
     omega (arith, one, a, b, c, d)
   where
-    other : (p q : Part) → Some p ≡ Some q → is_end p ≡ false → is_end q ≡ true → ⊥
+    other : (p q : LayoutPart) → Some p ≡ Some q → is_end p ≡ false → is_end q ≡ true → ⊥
     other p q e f t = cc
 
     less : (k n : ℕ) → (k ≡ n → ⊥) → k < n + 1 → k + 1 ≤ n
@@ -118,7 +118,7 @@ module _ (m : Machine) (kit : Kit) (are : IsKit m 0 kit) (image : Image) where
 
   -- ---- the sections of a block
 
-  part_does : (v : ℕ) (other : Kit) → IsKit m v other → (jobs : List Work) (at n : ℕ) → IsBlockMade other.netlist m.netlist.special other.patterns other.stock image jobs at n → at + n < code_size kit.netlist.codes
+  part_does : (v : ℕ) (other : Kit) → IsKit m v other → (jobs : List JobModel) (at n : ℕ) → IsBlockMade other.netlist m.netlist.special other.patterns other.stock image jobs at n → at + n < code_size kit.netlist.codes
       → DoesIn m.netlist image m.temps v jobs at n
   part_does v other is jobs at n made lt =
       let low : at + n + 1 ≤ 2 ^ counter_width other.netlist = within v other is (at + n + 1) (omega (arith, lt)) in
@@ -130,7 +130,7 @@ module _ (m : Machine) (kit : Kit) (are : IsKit m 0 kit) (image : Image) where
       let low : at + 1 + 1 ≤ 2 ^ counter_width other.netlist = within v other is (at + 1 + 1) (omega (arith, lt)) in
       word_puts m.netlist other.netlist v is.base is.order is.keeps image at to made (omega (arith, low))
 
-  section_does : (v : ℕ) (jobs : List Work) (at n : ℕ) → IsSectionMade m kit image v jobs at n → at + section_room v n < code_size kit.netlist.codes → DoesSection m.netlist image m.temps v jobs at n
+  section_does : (v : ℕ) (jobs : List JobModel) (at n : ℕ) → IsSectionMade m kit image v jobs at n → at + section_room v n < code_size kit.netlist.codes → DoesSection m.netlist image m.temps v jobs at n
   section_does zero jobs at n made lt = part_does 0 kit are jobs at n made (omega (arith, lt))
   section_does (suc v) jobs at n made lt =
       (word_does 0 kit are at (suc v) made.2 (omega (arith, lt)), part_does (suc v) made.0 made.1 jobs (at + 1) n made.3 (omega (arith, lt)), word_does (suc v) made.0 made.1 (at + 1 + n) 0 made.4 (omega (arith, lt)))
@@ -140,21 +140,21 @@ module _ (m : Machine) (kit : Kit) (are : IsKit m 0 kit) (image : Image) where
   sections_done (x ∷ sections) at made lt =
       (section_does x.mode x.jobs at x.words made.0 (omega (arith, lt)), sections_done sections (at + section_room x.mode x.words) made.1 (omega (arith, lt)))
 
-  block_done : (jobs : List Work) (at n : ℕ) → IsModeBlockMade m kit image jobs at n → at + n < code_size kit.netlist.codes → DoesBlock m.netlist image m.temps jobs at n
+  block_done : (jobs : List JobModel) (at n : ℕ) → IsModeBlockMade m kit image jobs at n → at + n < code_size kit.netlist.codes → DoesBlock m.netlist image m.temps jobs at n
   block_done jobs at n made lt =
       let r : n ≡ sections_room made.sections = made.room in
-      subst (λ (list : List Work). DoesBlock m.netlist image m.temps list at n) (sym made.are)
+      subst (λ (list : List JobModel). DoesBlock m.netlist image m.temps list at n) (sym made.are)
       (subst (λ k. DoesBlock m.netlist image m.temps (section_jobs made.sections) at k) (sym r)
       (sections_do m.netlist image m.temps made.sections at (sections_done made.sections at made.made (omega (arith, lt, r)))))
 
   -- ---- the code
 
   -- code that is made of its parts is made as the flow wants it
-  pub made_is : (flow : List Flow) (jobs : List Work) (parts : List Part) (end : ℕ) → IsFlow flow end → IsMadeCode m kit image flow jobs parts
+  pub made_is : (flow : List Flow) (jobs : List JobModel) (parts : List LayoutPart) (end : ℕ) → IsFlow flow end → IsMadeCode m kit image flow jobs parts
       → IsMade m.netlist image m.temps kit.stock.rules flow jobs parts
   made_is flow jobs parts end f made =
       let base : Netlist = kit.netlist in
-      let rules : List Rule = kit.stock.rules in
+      let rules : List FormModel = kit.stock.rules in
       let few : counter_width kit.netlist ≤ 64 = counter_narrow (slice_get kit.netlist.storages (counter_of kit.netlist.codes)) are.keeps.roles.counter in
       let full : total parts ≤ code_size kit.netlist.codes = made.room in
       let big : total parts ≤ 2 ^ counter_width kit.netlist = within 0 kit are (total parts) full in
@@ -168,7 +168,7 @@ module _ (m : Machine) (kit : Kit) (are : IsKit m 0 kit) (image : Image) where
             (let l : address parts at + (fork.words + branch_words fork.next fork.long) < total parts = before_end kit.stock.rules flow end parts at (Test fork) f made.fit e refl in
             let one : 1 ≤ branch_words fork.next fork.long = one_word fork.next fork.long in
             let wide : 2 ^ counter_width kit.netlist ≤ 2 ^ 64 = powers (counter_width kit.netlist) few in
-            subst (λ t. DoesFork m.netlist image t job (rule_at_one (slice_get kit.stock.rules fork.form)) fork (address parts at) (address parts fork.to) (address parts fork.other)) are.temps
+            subst (λ t. DoesFork m.netlist image t job (form_at_one (slice_get kit.stock.rules fork.form)) fork (address parts at) (address parts fork.to) (address parts fork.other)) are.temps
             (fork_does m.netlist kit.netlist are.base are.order are.keeps image kit.patterns kit.stock are.sized are.formed job _ fork (address parts at) (address parts fork.to) (address parts fork.other) (made.forks at fork e job has) few
             (omega (arith, l, one, big)) (omega (arith, l, one, big, wide)) (λ z. let three : 3 ≤ branch_words fork.next fork.long = three_words fork.next fork.long z in omega (arith, l, three, big))));
         jumps = λ at to e. leads m.netlist kit.netlist are.base are.order are.keeps image kit.patterns kit.stock are.sized are.formed (address parts at) (address parts to) (made.jumps at to e);
@@ -176,11 +176,11 @@ module _ (m : Machine) (kit : Kit) (are : IsKit m 0 kit) (image : Image) where
       }
 
   -- and traces the program, with each mark in mode 0
-  pub code_right : (mem : MemoryMap) (l : Listing) (turned : Turns) (jobs : List Work) (parts : List Part) → first_fault mem.word l ≡ None → memory_width m.netlist.storages ≡ mem.word → HoldsVars m.temps l.vars mem
-      → HasCellRoom m.temps mem (memory_size m.netlist.storages) → image.places ≡ mem.places → TurnsTests turned (program_flow l) → DoProgram mem m.temps l (told_works turned jobs)
+  pub code_right : (mem : MemoryMap) (l : ProgramModel) (turned : Turns) (jobs : List JobModel) (parts : List LayoutPart) → first_fault mem.word l ≡ None → memory_width m.netlist.storages ≡ mem.word → HoldsVars m.temps l.vars mem
+      → HasCellRoom m.temps mem (memory_size m.netlist.storages) → image.places ≡ mem.places → TurnsTests turned (program_flow l) → DoProgram mem m.temps l (jobs_of_told turned jobs)
       → IsMadeCode m kit image (turned_flow turned (program_flow l)) jobs parts
       → length (words_of image) ≡ total parts → TracesRight m.netlist image (strace mem.word l)
   code_right mem l turned jobs parts kept wide held room places only does made long =
-      let f : IsFlow (turned_flow turned (program_flow l)) (places_in (acts_of l.body)) = turned_is_flow turned (program_flow l) (places_in (acts_of l.body)) (program_is_flow l) in
+      let f : IsFlow (turned_flow turned (program_flow l)) (places_in (stmts_of l.body)) = turned_is_flow turned (program_flow l) (places_in (stmts_of l.body)) (program_is_flow l) in
       turned_right m.netlist image mem m.temps l turned jobs kit.stock.rules parts kept wide held room places only does
-      (made_is (turned_flow turned (program_flow l)) jobs parts (places_in (acts_of l.body)) f made) long
+      (made_is (turned_flow turned (program_flow l)) jobs parts (places_in (stmts_of l.body)) f made) long

@@ -13,15 +13,15 @@ use Rattle.form_model.specs.declared.flow.Flow.{Flow}
 use Rattle.form_model.specs.declared.flow.Flow.TheVariants.{Assign, Test as Tested, Jump as Jumped, End as Ended}
 use Rattle.form_model.specs.declared.forms.Step.{Step}
 use Rattle.form_model.specs.Live.{Regs}
-use Rattle.form_model.specs.Rules.{Rule}
-use Rattle.src_trees.specs.Lowered.{Work}
+use Rattle.form_model.specs.Forms.{FormModel}
+use Rattle.src_trees.specs.Lowered.{JobModel}
 use Rattle.src_trees.specs.Blocks.{is_assign, is_entered, continues, IsAssignBlock}
 use Rattle.branch_fix.specs.Parts.{room, starts, FitsPart, PartsFit}
 use Rattle.branch_fix.specs.Items.{groups, behind, jump_form, part_items, items_from}
 use Rattle.branch_fix.specs.declared.laid.Item.{Item}
 use Rattle.branch_fix.specs.declared.laid.Item.TheVariants.{Group, Jump as Word}
-use Rattle.branch_fix.specs.declared.part.Part.{Part}
-use Rattle.branch_fix.specs.declared.part.Part.TheVariants.{Block, Inner, Test, Jump, End}
+use Rattle.branch_fix.specs.declared.part.LayoutPart.{LayoutPart}
+use Rattle.branch_fix.specs.declared.part.LayoutPart.TheVariants.{Block, Inner, Test, Jump, End}
 use Rattle.branch_fix.proofs.Addresses.{part_at, fit_length}
 use Rattle.branch_fix.proofs.Laying.{settled_fit}
 use Rattle.std.specs.List.{AllByRecursion}
@@ -38,7 +38,7 @@ use Rattle.right_code.specs.Words.{AreGroupWords, StandItems}
 use Rattle.right_code.proofs.Coded.{there}
 use Rattle.right_code.proofs.Inside.{get_there}
 use Rattle.right_code.specs.Works.{IsTestJob, AreFlowJobs}
-use Rattle.right_code.proofs.Tasks.{test_work_of}
+use Rattle.right_code.proofs.Tasks.{test_job_of}
 
 -- ---- a block begins at a part of a block
 
@@ -109,10 +109,10 @@ module _ (m : Machine) (kit : Kit) (are : IsKit m 0 kit) where
   codes_in : (v : ℕ) (other : Kit) → IsKit m v other → other.netlist.codes ≡ kit.netlist.codes
   codes_in v other is = is.base.codes ∙ sym are.base.codes
 
-  ready_fit : (own : Kit) (jobs : List Work) (n : ℕ) (words : List ℕ) → IsBlockReady own.netlist m.netlist.special own.patterns own.stock jobs words n → AllByRecursion (WordFits own.netlist) words
+  ready_fit : (own : Kit) (jobs : List JobModel) (n : ℕ) (words : List ℕ) → IsBlockReady own.netlist m.netlist.special own.patterns own.stock jobs words n → AllByRecursion (WordFits own.netlist) words
   ready_fit own jobs n words r = all_words own.netlist (operation_in own.netlist own.patterns) words r.groups r.live (least_fits (operation_in own.netlist own.patterns) (fits_over own.netlist (operation_in own.netlist own.patterns)) r.live words r.groups r.least)
 
-  section_fits : (v : ℕ) (jobs : List Work) (n : ℕ) (words : List ℕ) → IsSectionReady m kit v jobs n words → AllByRecursion (WordFits kit.netlist) words
+  section_fits : (v : ℕ) (jobs : List JobModel) (n : ℕ) (words : List ℕ) → IsSectionReady m kit v jobs n words → AllByRecursion (WordFits kit.netlist) words
   section_fits zero jobs n words r = ready_fit kit jobs n words r
   section_fits (suc v) jobs n words r =
       subst (AllByRecursion (WordFits kit.netlist)) (sym r.5) (
@@ -150,19 +150,19 @@ module _ (netlist : Netlist) (special : Option ℕ) (patterns : List Pattern) (w
   groups_fit block zero i f = tt
   groups_fit block (suc n) i f = (f i (omega arith), groups_fit block n (i + 1) (λ k l. f k (omega (arith, l))))
 
-  behind_fit : (jump : Option Rule) (next long : Bool) (to other : ℕ) → ItemsFit (behind jump next long to other)
+  behind_fit : (jump : Option FormModel) (next long : Bool) (to other : ℕ) → ItemsFit (behind jump next long to other)
   behind_fit jump next true to other = tt
   behind_fit jump true false to other = tt
   behind_fit jump false false to other = tt
 
-  abbrev PartFits : Part → Type 0
+  abbrev PartFits : LayoutPart → Type 0
   PartFits (Block block size) = AreFitting block size
   PartFits Inner = Unit {0}
   PartFits (Test f) = AreFitting f.block f.words
   PartFits (Jump to) = Unit {0}
   PartFits End = Unit {0}
 
-  part_fits : (rules : List Rule) (jump : Option Rule) (addresses : List ℕ) (at : ℕ) (p : Part) → PartFits p → ItemsFit (part_items rules jump addresses at p)
+  part_fits : (rules : List FormModel) (jump : Option FormModel) (addresses : List ℕ) (at : ℕ) (p : LayoutPart) → PartFits p → ItemsFit (part_items rules jump addresses at p)
   part_fits rules jump addresses at (Block block size) h = groups_fit block size 0 (λ k l. h k (omega (arith, l)))
   part_fits rules jump addresses at Inner h = tt
   part_fits rules jump addresses at (Test f) h =
@@ -171,7 +171,7 @@ module _ (netlist : Netlist) (special : Option ℕ) (patterns : List Pattern) (w
   part_fits rules jump addresses at (Jump to) h = tt
   part_fits rules jump addresses at End h = tt
 
-  items_fit : (rules : List Rule) (jump : Option Rule) (addresses : List ℕ) (at : ℕ) (parts : List Part) → ((k : ℕ) (p : Part) → slice_get parts k ≡ Some p → PartFits p) → ItemsFit (items_from rules jump addresses at parts)
+  items_fit : (rules : List FormModel) (jump : Option FormModel) (addresses : List ℕ) (at : ℕ) (parts : List LayoutPart) → ((k : ℕ) (p : LayoutPart) → slice_get parts k ≡ Some p → PartFits p) → ItemsFit (items_from rules jump addresses at parts)
   items_fit rules jump addresses at [] h = tt
   items_fit rules jump addresses at (p ∷ parts) h =
       fit_on (part_items rules jump addresses at p) (items_from rules jump addresses (at + room p) parts) (part_fits rules jump addresses at p (h 0 p refl))
@@ -196,13 +196,13 @@ module _ (netlist : Netlist) (special : Option ℕ) (patterns : List Pattern) (w
   ]
 
 -- a part that is a block begins one
-begins : (rules : List Rule) (flow : List Flow) (at : ℕ) (g : Flow) (block size : ℕ) → FitsPart rules flow at g (Block block size) → (continues flow at ≡ false) × (is_assign (Some g) ≡ true)
+begins : (rules : List FormModel) (flow : List Flow) (at : ℕ) (g : Flow) (block size : ℕ) → FitsPart rules flow at g (Block block size) → (continues flow at ≡ false) × (is_assign (Some g) ≡ true)
 begins rules flow at (Assign tree) block size h = (h, refl)
 begins rules flow at (Tested tree a b) block size h = absurd h
 begins rules flow at (Jumped to) block size h = absurd h
 begins rules flow at Ended block size h = absurd h
 
-pub block_at : (rules : List Rule) (flow : List Flow) (parts : List Part) (k block size : ℕ) → PartsFit rules flow 0 flow parts → slice_get parts k ≡ Some (Block block size) → (n : ℕ) × IsAssignBlock flow k n
+pub block_at : (rules : List FormModel) (flow : List Flow) (parts : List LayoutPart) (k block size : ℕ) → PartsFit rules flow 0 flow parts → slice_get parts k ≡ Some (Block block size) → (n : ℕ) × IsAssignBlock flow k n
 block_at rules flow parts k block size fit e =
     let l : k < length parts = there parts k (Block block size) e in
     let m : length parts ≡ length flow = fit_length rules flow 0 flow parts fit in
@@ -211,27 +211,27 @@ block_at rules flow parts k block size fit e =
     let b = begins rules flow k g.0 block size (subst (λ x. FitsPart rules flow k g.0 x) (one q.0 (Block block size) (sym q.1 ∙ e)) q.2) in
     block_from flow k (length flow) 1 b.0 (omega arith) (omega arith) (λ i h. let z : k ≡ k + i = omega (arith, h) in subst (λ j. is_assign (slice_get flow j) ≡ true) z (ap is_assign g.1 ∙ b.1)) (λ i h some. absurd (omega (arith, h, some)))
   where
-    one : (x y : Part) → Some x ≡ Some y → x ≡ y
+    one : (x y : LayoutPart) → Some x ≡ Some y → x ≡ y
     one x y e = cc
 
 -- each word of the code fits
-pub code_fits : (m : Machine) (kit : Kit) (are : IsKit m 0 kit) (image : Image) (flow : List Flow) (jobs : List Work) (parts : List Part) (reach : ℕ) → AreFlowJobs jobs flow → IsLaidCode m kit image flow jobs parts reach
+pub code_fits : (m : Machine) (kit : Kit) (are : IsKit m 0 kit) (image : Image) (flow : List Flow) (jobs : List JobModel) (parts : List LayoutPart) (reach : ℕ) → AreFlowJobs jobs flow → IsLaidCode m kit image flow jobs parts reach
     → 1 ≤ length (words_of image) → (a : ℕ) → WordFits kit.netlist (slice_index (words_of image) a)
 code_fits m kit are image flow jobs parts reach tests laid some =
-    let rules : List Rule = kit.stock.rules in
+    let rules : List FormModel = kit.stock.rules in
     let fit : PartsFit kit.stock.rules flow 0 flow parts = settled_fit kit.stock.rules flow laid.layout.sizes laid.layout.settings parts laid.layout.settled in
     let n = laid.long in
     let items = items_length kit.stock.rules (jump_form kit.stock.rules reach) (starts parts) 0 parts in
     all_fit kit.netlist m.netlist.special kit.patterns laid.words (words_of image) (items_from kit.stock.rules (jump_form kit.stock.rules reach) (starts parts) 0 parts)
     (items_fit kit.netlist m.netlist.special kit.patterns laid.words kit.stock.rules (jump_form kit.stock.rules reach) (starts parts) 0 parts (λ k p e. by fit k p e)) laid.stand (n ∙ sym (items_length kit.stock.rules (jump_form kit.stock.rules reach) (starts parts) 0 parts)) (omega (arith, n, items, some))
   where
-    by : PartsFit kit.stock.rules flow 0 flow parts → (k : ℕ) (p : Part) → slice_get parts k ≡ Some p → PartFits kit.netlist m.netlist.special kit.patterns laid.words p
+    by : PartsFit kit.stock.rules flow 0 flow parts → (k : ℕ) (p : LayoutPart) → slice_get parts k ≡ Some p → PartFits kit.netlist m.netlist.special kit.patterns laid.words p
     by fit k (Block block size) e =
         let b = block_at kit.stock.rules flow parts k block size fit e in
         let r = laid.blocks k b.0 block size b.1 e in
         let long : size ≡ length (laid.words block) = r.long in
         (λ i l. all_at (WordFits kit.netlist) (laid.words block) i (sections_fit m kit are r.sections (laid.words block) r.ready) (omega (arith, l, long)))
     by fit k Inner e = tt
-    by fit k (Test f) e = let t : IsTestJob jobs f.tree = test_work_of jobs kit.stock.rules flow parts k f fit tests e in let r = laid.forks k f e t.work t.at in least_fit kit.netlist m.netlist.special kit.patterns laid.words f.block r.groups r.live f.words r.least r.long
+    by fit k (Test f) e = let t : IsTestJob jobs f.tree = test_job_of jobs kit.stock.rules flow parts k f fit tests e in let r = laid.forks k f e t.work t.at in least_fit kit.netlist m.netlist.special kit.patterns laid.words f.block r.groups r.live f.words r.least r.long
     by fit k (Jump to) e = tt
     by fit k End e = tt

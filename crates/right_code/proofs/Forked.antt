@@ -6,16 +6,16 @@ use Rattle.net_model.specs.declared.hardware.Netlist.{Netlist}
 use Rattle.net_model.specs.declared.hardware.Space.TheVariants.{File as InFile}
 use Rattle.net_model.specs.declared.states.State.{State}
 use Rattle.net_model.specs.CheckedRules.{KeepsRules}
-use Rattle.net_model.specs.Terms.{Term}
+use Rattle.net_model.specs.Exprs.{ExprModel}
 use Rattle.net_model.specs.Meaning.{mean}
 use Rattle.net_model.specs.Nets.{counter_width, file_place, held, size_in}
 use Rattle.net_model.specs.Patterns.{Pattern}
 use Rattle.code_model.specs.declared.image.Image.{Image}
 use Rattle.net_model.specs.Fields.{fields}
 use Rattle.form_model.specs.Trees.{is_tree}
-use Rattle.form_model.specs.Rules.{BranchTarget, tested}
-use Rattle.form_model.specs.Plans.{Plan, use_form}
-use Rattle.form_model.specs.Covers.{Stock, Choice, IsOrderly}
+use Rattle.form_model.specs.Forms.{TargetModel, tested}
+use Rattle.form_model.specs.CoverModels.{CoverModel, use_form}
+use Rattle.form_model.specs.Covers.{StockModel, JobCoverModel, IsOrderly}
 use Rattle.block_words.specs.Laws.{operation_in}
 use Rattle.form_model.specs.Effects.{steps_effect}
 use Rattle.form_model.specs.Steps.{branch_setting}
@@ -25,17 +25,17 @@ use Rattle.emit_seq.proofs.Settled.{branch_in}
 use Rattle.word_fit.proofs.Occurring.{reads_occurs}
 use Rattle.net_model.specs.Occurs.{AgreeOn, has_read, occurs}
 use Rattle.net_model.proofs.TermLaws.{mean_alike}
-use Rattle.src_trees.specs.Lowered.{Work}
+use Rattle.src_trees.specs.Lowered.{JobModel}
 use Rattle.net_model.proofs.KeptRules.{sound_of}
 use Rattle.net_model.specs.Modes.{IsBase}
 use Rattle.code_model.specs.Flow.{GoesTo}
 use Rattle.code_model.proofs.Bases.{at_in}
 use Rattle.branch_fix.specs.Made.{Walks, DoesOperands, DoesFork, TailGoes, image_word}
 use Rattle.branch_fix.proofs.Walking.{branches, goes}
-use Rattle.branch_fix.specs.declared.part.Fork.{Fork}
+use Rattle.branch_fix.specs.declared.part.BranchedTest.{BranchedTest}
 use Rattle.right_code.specs.Jobs.{tree_or_none, tree_used, job_steps}
 use Rattle.right_code.specs.Inner.Blocks.{WalksTo}
-use Rattle.right_code.specs.Forks.{plan_rule}
+use Rattle.right_code.specs.Forks.{cover_form}
 use Rattle.right_code.specs.Inner.Forks.{IsBranchForm, IsJumpMade, test_of, BehindMade, IsTestMade, IsForkMade}
 use Rattle.right_code.proofs.Meant.{tree_mean, same_behind}
 use Rattle.right_code.proofs.Jobs.{used_tree, leaves}
@@ -43,24 +43,24 @@ use Rattle.right_code.proofs.Walked.{filed, walked}
 use Rattle.right_code.proofs.Branching.{mean_under, BranchParts, branch_parts, branch_does, jump_does}
 use Rattle.right_code.proofs.Ways.{way_bits, way_leads}
 
-condition_is : (stock : Stock) (plan : Plan) → condition_of stock plan ≡ (plan_rule stock plan).value
+condition_is : (stock : StockModel) (plan : CoverModel) → condition_of stock plan ≡ (cover_form stock plan).value
 condition_is stock (use_form k ps cs) = refl
 
 -- the setting of a branch has bits of its condition alone
-pub setting_within : (stock : Stock) (tree : Term) (plan : Plan) → IsOrderly stock tested tree true plan
-    → bit_and (branch_setting stock tree plan) (fields (plan_rule stock plan).value) ≡ branch_setting stock tree plan
+pub setting_within : (stock : StockModel) (tree : ExprModel) (plan : CoverModel) → IsOrderly stock tested tree true plan
+    → bit_and (branch_setting stock tree plan) (fields (cover_form stock plan).value) ≡ branch_setting stock tree plan
 setting_within stock tree plan o =
     subst (λ c. bit_and (branch_setting stock tree plan) (fields c) ≡ branch_setting stock tree plan) (condition_is stock plan) (branch_in stock tree plan o)
 
 -- `base` is what the netlist is in mode 0
-module _ (netlist base : Netlist) (basis : IsBase netlist netlist.special 0 base) (order : List ℕ) (keeps : KeepsRules base order) (image : Image) (patterns : List Pattern) (stock : Stock) (sized : stock.file ≡ size_in InFile base.storages) (formed : AreFormed (file_place base.storages) patterns (length base.storages) stock.file stock.rules) where
+module _ (netlist base : Netlist) (basis : IsBase netlist netlist.special 0 base) (order : List ℕ) (keeps : KeepsRules base order) (image : Image) (patterns : List Pattern) (stock : StockModel) (sized : stock.file ≡ size_in InFile base.storages) (formed : AreFormed (file_place base.storages) patterns (length base.storages) stock.file stock.rules) where
   -- behind a test's words the condition has the value of its tree
-  pub operands_do : (job : Work) (choice : Choice) (at n : ℕ) (when_one : Bool) (way : BranchTarget) (form : IsBranchForm base patterns (plan_rule stock choice.plan) when_one way) (i bits : ℕ)
+  pub operands_do : (job : JobModel) (choice : JobCoverModel) (at n : ℕ) (when_one : Bool) (way : TargetModel) (form : IsBranchForm base patterns (cover_form stock choice.plan) when_one way) (i bits : ℕ)
       → IsTestMade base netlist.special patterns stock image job choice at n
-      → BranchParts base order keeps patterns (plan_rule stock choice.plan) when_one way form i (branch_setting stock (tree_used (test_of job) choice) choice.plan) bits
+      → BranchParts base order keeps patterns (cover_form stock choice.plan) when_one way form i (branch_setting stock (tree_used (test_of job) choice) choice.plan) bits
       → at + n < 2 ^ counter_width base → DoesOperands netlist image stock.temps job i form.condition at n
   operands_do job choice at n when_one way form i bits made p b =
-      let used : Term = tree_used (test_of job) choice in
+      let used : ExprModel = tree_used (test_of job) choice in
       let setting : ℕ = branch_setting stock used choice.plan in
       let is : used ≡ made.covered.covers.tree = ap tree_or_none made.covered.covers.used in
       let t : is_tree used ≡ true = subst (λ x. is_tree x ≡ true) (sym is) (used_tree job.trees choice.which made.covered.covers.tree made.covered.trees made.covered.covers.used) in
@@ -76,7 +76,7 @@ module _ (netlist base : Netlist) (basis : IsBase netlist netlist.special 0 base
             let h : LeaveValue stock (file_place base.storages) patterns tested used choice.plan s =
             subst (λ x. LeaveValue stock (file_place base.storages) patterns tested x choice.plan s) (sym is)
             (leaves stock (file_place base.storages) patterns (length base.storages) formed (test_of job) choice s made.covered there.state.regs (filed base stock.file s sized there.state) (record { reads = lie.reads; destination = tt; below = lie.below })) in
-            let c : Term = condition_of stock choice.plan in
+            let c : ExprModel = condition_of stock choice.plan in
             let a : AgreeOn (λ r. occurs r c) (has_read c) w.last u = record { cells = λ e. by_space (λ space. held w.last space ≡ held u space) w.agree.cells w.agree.file; regs = λ r e. w.agree.regs r (made.wants r (reads_occurs c setting r ∙ e)) } in (
               w.last,
               subst (λ k. Walks netlist image at s k w.last) (sym made.long) w.walks,
@@ -88,10 +88,10 @@ module _ (netlist base : Netlist) (basis : IsBase netlist netlist.special 0 base
       }
 
   -- the setting of a test's branch has bits of the condition alone
-  test_setting : (job : Work) (choice : Choice) (at n : ℕ) (when_one : Bool) (way : BranchTarget) (form : IsBranchForm base patterns (plan_rule stock choice.plan) when_one way) → IsTestMade base netlist.special patterns stock image job choice at n
+  test_setting : (job : JobModel) (choice : JobCoverModel) (at n : ℕ) (when_one : Bool) (way : TargetModel) (form : IsBranchForm base patterns (cover_form stock choice.plan) when_one way) → IsTestMade base netlist.special patterns stock image job choice at n
       → bit_and (branch_setting stock (tree_used (test_of job) choice) choice.plan) (fields form.condition) ≡ branch_setting stock (tree_used (test_of job) choice) choice.plan
   test_setting job choice at n when_one way form made =
-      let used : Term = tree_used (test_of job) choice in
+      let used : ExprModel = tree_used (test_of job) choice in
       let is : used ≡ made.covered.covers.tree = ap tree_or_none made.covered.covers.used in
       let o : IsOrderly stock tested used true choice.plan = subst (λ x. IsOrderly stock tested x true choice.plan) (sym is) made.covered.covers.orderly in
       subst (λ k. bit_and (branch_setting stock used choice.plan) k ≡ branch_setting stock used choice.plan) form.same_fields (setting_within stock used choice.plan o)
@@ -106,22 +106,22 @@ module _ (netlist base : Netlist) (basis : IsBase netlist netlist.special 0 base
   behind_does false false at to other h = leads (at + 1) other h
 
   -- the words of a test do what its part says
-  pub fork_does : (job : Work) (when_one : Bool) (f : Fork) (at to other : ℕ) → IsForkMade base netlist.special patterns stock image job when_one f at to other
+  pub fork_does : (job : JobModel) (when_one : Bool) (f : BranchedTest) (at to other : ℕ) → IsForkMade base netlist.special patterns stock image job when_one f at to other
       → counter_width base ≤ 64 → at + f.words + 1 < 2 ^ counter_width base → at + f.words ≤ 2 ^ 64 → (f.long ≡ true → at + f.words + 2 < 2 ^ counter_width base)
       → DoesFork netlist image stock.temps job when_one f at to other
   fork_does job when_one f at to other made few b le far =
-      let used : Term = tree_used (test_of job) made.choice in
+      let used : ExprModel = tree_used (test_of job) made.choice in
       let setting : ℕ = branch_setting stock used made.choice.plan in
       let i : ℕ = image_word image (at + f.words) in
       let e : bit_and setting (fields made.form.condition) ≡ setting = test_setting job made.choice at f.words when_one made.way made.form made.operands in
-      let p : BranchParts base order keeps patterns (plan_rule stock made.choice.plan) when_one made.way made.form i setting made.bits =
-      branch_parts base order keeps patterns (plan_rule stock made.choice.plan) when_one made.way made.form i setting made.bits e
+      let p : BranchParts base order keeps patterns (cover_form stock made.choice.plan) when_one made.way made.form i setting made.bits =
+      branch_parts base order keeps patterns (cover_form stock made.choice.plan) when_one made.way made.form i setting made.bits e
       (way_bits base made.way made.form.target (at + f.words) to f.long made.bits made.form.goes made.shown) made.word in
       record {
         condition = made.form.condition;
         operands = operands_do job made.choice at f.words when_one made.way made.form i made.bits made.operands p (omega (arith, b));
         branch = branches netlist image base basis (sound_of base order keeps) made.form.condition when_one (at + f.words) (if f.long then at + f.words + 2 else to)
-            (branch_does base order keeps patterns (plan_rule stock made.choice.plan) when_one made.way made.form i setting made.bits (at + f.words) (if f.long then at + f.words + 2 else to) p
+            (branch_does base order keeps patterns (cover_form stock made.choice.plan) when_one made.way made.form i setting made.bits (at + f.words) (if f.long then at + f.words + 2 else to) p
             (λ s here. way_leads base made.way made.form.target (at + f.words) to f.long made.bits i s made.form.goes made.shown p.target_fits p.target few (omega (arith, b)) le far here) b netlist.special made.mode);
         behind = behind_does f.next f.long (at + f.words) to other made.behind;
       }

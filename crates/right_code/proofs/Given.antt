@@ -5,9 +5,9 @@ use Rattle.net_model.specs.CheckedRules.{KeepsRules}
 use Rattle.net_model.specs.Nets.{memory_width, word_width, size_in}
 use Rattle.net_model.specs.Patterns.{ArePatterns, Pattern}
 use Rattle.net_model.proofs.WordWidths.{has_bits}
-use Rattle.form_model.specs.Rules.{Rule, Kind, into_reg, into_memory, into_file, jumps, branches}
+use Rattle.form_model.specs.Forms.{FormModel, GoalModel, into_reg, into_memory, into_file, jumps, branches}
 use Rattle.form_set.specs.Listing.{AreForms, greatest_reach}
-use Rattle.mode_set.specs.Keeping.{AreKeeping, FormKeepsMode, IsModeRegister, KindKeeps}
+use Rattle.mode_set.specs.Keeping.{AreKeeping, FormKeepsMode, IsModeRegister, GoalKeeps}
 use Rattle.right_code.specs.Inner.Known.{AreKnown}
 use Rattle.right_code.specs.Inner.Laid.{AreTurns}
 use Rattle.right_code.proofs.Known.{known_of}
@@ -18,10 +18,10 @@ use Rattle.right_code.proofs.Turns.{turn_can, turns_of}
 use Rattle.right_code.proofs.Jumping.{AllTurn, TurnsWith}
 use Rattle.form_set.specs.Promises.{is_control_goal}
 use Rattle.form_set.specs.Words.{CanJump, ForEachSetting, WordKeepsBoth}
-use Rattle.net_model.specs.Fields.{move_fields}
+use Rattle.net_model.specs.Fields.{transfer_fields}
 use Rattle.net_model.specs.declared.hardware.Space.TheVariants.{File as InFile}
 
-module _ (netlist : Netlist) (order : List ℕ) (keeps : KeepsRules netlist order) (patterns : List Pattern) (are : ArePatterns netlist patterns) (all : List Rule) (most : ℕ) (forms : AreForms netlist patterns all most) (o : Option ℕ) (kept : List Rule) (keeping : AreKeeping netlist patterns o all kept) where
+module _ (netlist : Netlist) (order : List ℕ) (keeps : KeepsRules netlist order) (patterns : List Pattern) (are : ArePatterns netlist patterns) (all : List FormModel) (most : ℕ) (forms : AreForms netlist patterns all most) (o : Option ℕ) (kept : List FormModel) (keeping : AreKeeping netlist patterns o all kept) where
   pub some : 0 < word_width netlist
   some = has_bits netlist order keeps
 
@@ -44,27 +44,27 @@ module _ (netlist : Netlist) (order : List ℕ) (keeps : KeepsRules netlist orde
 
   -- ---- words of jumps and branches
 
-  own_pattern : (a b : Pattern) (rule : Rule) → slice_get patterns rule.pattern ≡ Some a → slice_get patterns rule.pattern ≡ Some b → a ≡ b
+  own_pattern : (a b : Pattern) (rule : FormModel) → slice_get patterns rule.pattern ≡ Some a → slice_get patterns rule.pattern ≡ Some b → a ≡ b
   own_pattern a b rule p q = one a b (sym p ∙ q)
     where
       one : (a b : Pattern) → Some a ≡ Some b → a ≡ b
       one a b e = cc
 
-  turn_keeps : (p : Option ℕ) → IsModeRegister p netlist → (rule : Rule) → FormKeepsMode netlist patterns p rule → is_control_goal rule.goal ≡ true → (pattern : Pattern) → slice_get patterns rule.pattern ≡ Some pattern
-      → CanJump netlist pattern → ForEachSetting (move_fields pattern.move) (TurnsWith netlist p pattern)
+  turn_keeps : (p : Option ℕ) → IsModeRegister p netlist → (rule : FormModel) → FormKeepsMode netlist patterns p rule → is_control_goal rule.goal ≡ true → (pattern : Pattern) → slice_get patterns rule.pattern ≡ Some pattern
+      → CanJump netlist pattern → ForEachSetting (transfer_fields pattern.move) (TurnsWith netlist p pattern)
   turn_keeps None has rule f g pattern at can = λ setting is. (let w = can setting is in (w.0, w.1, record { given = w.2.given; memory = w.2.memory; mode = tt }))
   turn_keeps (Some mode) has rule f g pattern at can = λ setting is.
-      let both : ForEachSetting (move_fields f.pattern.move) (WordKeepsBoth netlist f.pattern mode) = of_kind rule.goal g f.keeps in
-      let own : ForEachSetting (move_fields pattern.move) (WordKeepsBoth netlist pattern mode) = subst (λ (q : Pattern). ForEachSetting (move_fields q.move) (WordKeepsBoth netlist q mode)) (own_pattern f.pattern pattern rule f.at at) both in
+      let both : ForEachSetting (transfer_fields f.pattern.move) (WordKeepsBoth netlist f.pattern mode) = of_goal rule.goal g f.keeps in
+      let own : ForEachSetting (transfer_fields pattern.move) (WordKeepsBoth netlist pattern mode) = subst (λ (q : Pattern). ForEachSetting (transfer_fields q.move) (WordKeepsBoth netlist q mode)) (own_pattern f.pattern pattern rule f.at at) both in
       let w = own setting is in
       (w.0, w.1, record { given = w.2.given; memory = w.2.memory; mode = (has, w.2.special) })
     where
-      of_kind : (k : Kind) → is_control_goal k ≡ true → KindKeeps netlist f.pattern mode rule k → ForEachSetting (move_fields f.pattern.move) (WordKeepsBoth netlist f.pattern mode)
-      of_kind (into_reg id) e h = absurd (cc e)
-      of_kind into_memory e h = absurd (cc e)
-      of_kind into_file e h = absurd (cc e)
-      of_kind (jumps reach) e h = h
-      of_kind (branches when_one to) e h = h
+      of_goal : (k : GoalModel) → is_control_goal k ≡ true → GoalKeeps netlist f.pattern mode rule k → ForEachSetting (transfer_fields f.pattern.move) (WordKeepsBoth netlist f.pattern mode)
+      of_goal (into_reg id) e h = absurd (cc e)
+      of_goal into_memory e h = absurd (cc e)
+      of_goal into_file e h = absurd (cc e)
+      of_goal (jumps reach) e h = h
+      of_goal (branches when_one to) e h = h
 
   pub given_words : IsModeRegister o netlist → AllTurn netlist o patterns kept
   given_words has k rule at g =

@@ -2,20 +2,20 @@
 use Rattle.std.proofs.Common.{ℕ, zero, suc, ◌≡◌, ◌≤◌, ◌<◌, ◌+◌, ◌||◌, not, Bool, true, false, if◌then◌else◌, List, [], ◌∷◌, ◌++◌, length, Some, refl, sym, ◌∙◌, ap, subst, arith, slice_get, slice_index}
 use Rattle.src_model.specs.declared.program.Cmp.{Cmp}
 use Rattle.src_model.specs.declared.program.Cmp.TheVariants.{Ne}
-use Rattle.src_model.specs.Written.{Act, assign, choice, while, count, Acts, no_acts, act, Otherwise, without, otherwise, Listing, acts_of}
+use Rattle.src_model.specs.Written.{StmtModel, assign, choice, while, count, StmtsModel, no_acts, act, ElseModel, without, otherwise, ProgramModel, stmts_of}
 use Rattle.src_model.specs.Sizes.{statements, statements_in}
 use Rattle.form_model.specs.declared.flow.Flow.{Flow}
 use Rattle.form_model.specs.declared.flow.Flow.TheVariants.{Assign, Test as Tested, Jump as Jumped, End as Ended}
-use Rattle.form_model.specs.Rules.{Rule, BranchTarget, absolute, relative, branches}
+use Rattle.form_model.specs.Forms.{FormModel, TargetModel, absolute, relative, branches}
 use Rattle.src_trees.specs.Lowered.{holds_at_one}
 use Rattle.src_trees.specs.Blocks.{continues}
 use Rattle.src_trees.specs.Turned.{Turns, turned_flow}
 use Rattle.src_trees.specs.Flows.{places_for, places_in, places_else, else_entry, asked, flow_of, flow_in, flow_else, program_flow}
-use Rattle.branch_fix.specs.Parts.{rule_at_one, fork_to, branch_or_zero, blocks_before, tests_before, part_for, place_part, parts_from, parts_of, room, starts, FitsPart, PartsFit}
-use Rattle.branch_fix.specs.Rounds.{kind_shows, rule_shows, widened, widened_from, round, rounds}
-use Rattle.branch_fix.specs.declared.part.Fork.{Fork}
-use Rattle.branch_fix.specs.declared.part.Part.{Part}
-use Rattle.branch_fix.specs.declared.part.Part.TheVariants.{Block, Inner, Test, Jump, End}
+use Rattle.branch_fix.specs.Parts.{form_at_one, fork_to, branch_or_zero, blocks_before, tests_before, part_for, place_part, parts_from, parts_of, room, starts, FitsPart, PartsFit}
+use Rattle.branch_fix.specs.Rounds.{goal_shows, form_shows, widened, widened_from, round, rounds}
+use Rattle.branch_fix.specs.declared.part.BranchedTest.{BranchedTest}
+use Rattle.branch_fix.specs.declared.part.LayoutPart.{LayoutPart}
+use Rattle.branch_fix.specs.declared.part.LayoutPart.TheVariants.{Block, Inner, Test, Jump, End}
 use Rattle.branch_fix.proofs.Addresses.{part_at, fit_length}
 use Rattle.right_code.proofs.Coded.{there}
 
@@ -43,12 +43,12 @@ asked_upto n cmp tree on_true on_false rest l k g = by (holds_at_one cmp)
     by true = (l, k, g)
     by false = (k, l, g)
 
-entry_le : (o : Otherwise) (at : ℕ) → else_entry o at ≤ at + places_else o
+entry_le : (o : ElseModel) (at : ℕ) → else_entry o at ≤ at + places_else o
 entry_le without at = omega arith
 entry_le (otherwise list) at = omega arith
 
 mutual
-  flow_upto : (a : Act) (tree at n : ℕ) → at + places_for a ≤ n → Upto n (flow_of a tree at)
+  flow_upto : (a : StmtModel) (tree at n : ℕ) → at + places_for a ≤ n → Upto n (flow_of a tree at)
   flow_upto (assign place e) tree at n h = tt
   flow_upto (choice test taken other) tree at n h =
       let l = entry_le other (at + 1 + places_in taken) in
@@ -62,17 +62,17 @@ mutual
       asked_upto n Ne (tree + 1) (at + 2) (at + 2 + places_in body + 2) (flow_in body (tree + 2) (at + 2) ++ Assign (tree + 2 + statements_in body) ∷ (Jumped (at + 1) ∷ [])) (omega (arith, h)) (omega (arith, h))
       (upto_on n (flow_in body (tree + 2) (at + 2)) (Assign (tree + 2 + statements_in body) ∷ (Jumped (at + 1) ∷ [])) (in_upto body (tree + 2) (at + 2) n (omega (arith, h))) (omega (arith, h), tt))
 
-  in_upto : (list : Acts) (tree at n : ℕ) → at + places_in list ≤ n → Upto n (flow_in list tree at)
+  in_upto : (list : StmtsModel) (tree at n : ℕ) → at + places_in list ≤ n → Upto n (flow_in list tree at)
   in_upto no_acts tree at n h = tt
   in_upto (act a rest) tree at n h =
       upto_on n (flow_of a tree at) (flow_in rest (tree + statements a) (at + places_for a)) (flow_upto a tree at n (omega (arith, h))) (in_upto rest (tree + statements a) (at + places_for a) n (omega (arith, h)))
 
-  else_upto : (o : Otherwise) (tree at n : ℕ) → at + places_else o ≤ n → Upto n (flow_else o tree at)
+  else_upto : (o : ElseModel) (tree at n : ℕ) → at + places_else o ≤ n → Upto n (flow_else o tree at)
   else_upto without tree at n h = tt
   else_upto (otherwise body) tree at n h = (omega (arith, h), in_upto body tree (at + 1) n (omega (arith, h)))
 
-pub program_upto : (l : Listing) → Upto (places_in (acts_of l.body)) (program_flow l)
-program_upto l = upto_on (places_in (acts_of l.body)) (flow_in (acts_of l.body) 0 0) (Ended ∷ []) (in_upto (acts_of l.body) 0 0 (places_in (acts_of l.body)) (omega arith)) tt
+pub program_upto : (l : ProgramModel) → Upto (places_in (stmts_of l.body)) (program_flow l)
+program_upto l = upto_on (places_in (stmts_of l.body)) (flow_in (stmts_of l.body) 0 0) (Ended ∷ []) (in_upto (stmts_of l.body) 0 0 (places_in (stmts_of l.body)) (omega arith)) tt
 
 -- nor do those of tests that are turned
 pub turned_upto : (turned : Turns) (n : ℕ) (flow : List Flow) → Upto n flow → Upto n (turned_flow turned flow)
@@ -108,8 +108,8 @@ get_there [] k l = absurd (omega (arith, l))
 get_there (x ∷ xs) zero l = (x, refl)
 get_there (x ∷ xs) (suc k) l = get_there xs k (omega (arith, l))
 
-fork_upto : (rules : List Rule) (flow : List Flow) (at n : ℕ) (g : Flow) (f : Fork) → FitsPart rules flow at g (Test f) → Upto n (g ∷ []) → (f.to ≤ n) × (f.other ≤ n)
-fork_upto rules flow at n (Tested tree one none) f h u = (subst (λ k. k ≤ n) (sym h.2) (side (rule_at_one (slice_get rules f.form)) one none u.0 u.1), subst (λ k. k ≤ n) (sym h.3) (side (rule_at_one (slice_get rules f.form)) none one u.1 u.0))
+fork_upto : (rules : List FormModel) (flow : List Flow) (at n : ℕ) (g : Flow) (f : BranchedTest) → FitsPart rules flow at g (Test f) → Upto n (g ∷ []) → (f.to ≤ n) × (f.other ≤ n)
+fork_upto rules flow at n (Tested tree one none) f h u = (subst (λ k. k ≤ n) (sym h.2) (side (form_at_one (slice_get rules f.form)) one none u.0 u.1), subst (λ k. k ≤ n) (sym h.3) (side (form_at_one (slice_get rules f.form)) none one u.1 u.0))
   where
     side : (b : Bool) (x y : ℕ) → x ≤ n → y ≤ n → (if b then x else y) ≤ n
     side true x y l k = l
@@ -118,14 +118,14 @@ fork_upto rules flow at n (Assign tree) f h u = absurd h
 fork_upto rules flow at n (Jumped to) f h u = absurd h
 fork_upto rules flow at n Ended f h u = absurd h
 
-jump_upto : (rules : List Rule) (flow : List Flow) (at n : ℕ) (g : Flow) (to : ℕ) → FitsPart rules flow at g (Jump to) → Upto n (g ∷ []) → to ≤ n
+jump_upto : (rules : List FormModel) (flow : List Flow) (at n : ℕ) (g : Flow) (to : ℕ) → FitsPart rules flow at g (Jump to) → Upto n (g ∷ []) → to ≤ n
 jump_upto rules flow at n (Jumped place) to h u = let l = u.0 in omega (arith, h, l)
 jump_upto rules flow at n (Assign tree) to h u = absurd h
 jump_upto rules flow at n (Tested tree one none) to h u = absurd h
 jump_upto rules flow at n Ended to h u = absurd h
 
 -- what stands at a part's place in the flow
-fits_at : (rules : List Rule) (flow : List Flow) (parts : List Part) (k n : ℕ) (p : Part) → PartsFit rules flow 0 flow parts → slice_get parts k ≡ Some p → Upto n flow → (g : Flow) × FitsPart rules flow k g p × Upto n (g ∷ [])
+fits_at : (rules : List FormModel) (flow : List Flow) (parts : List LayoutPart) (k n : ℕ) (p : LayoutPart) → PartsFit rules flow 0 flow parts → slice_get parts k ≡ Some p → Upto n flow → (g : Flow) × FitsPart rules flow k g p × Upto n (g ∷ [])
 fits_at rules flow parts k n p fit e u =
     let l : k < length parts = there parts k p e in
     let m : length parts ≡ length flow = fit_length rules flow 0 flow parts fit in
@@ -133,10 +133,10 @@ fits_at rules flow parts k n p fit e u =
     let q = part_at rules flow 0 flow parts k k g.0 fit g.1 (omega arith) in
     (g.0, subst (λ x. FitsPart rules flow k g.0 x) (one q.0 p (sym q.1 ∙ e)) q.2, upto_get n flow k g.0 u g.1)
   where
-    one : (x y : Part) → Some x ≡ Some y → x ≡ y
+    one : (x y : LayoutPart) → Some x ≡ Some y → x ≡ y
     one x y e = cc
 
-pub ways_inside : (rules : List Rule) (flow : List Flow) (parts : List Part) (end : ℕ) → PartsFit rules flow 0 flow parts → length flow ≡ end + 1 → Upto end flow → (at : ℕ) (f : Fork) → slice_get parts at ≡ Some (Test f) → (f.to < length parts) × (f.other < length parts)
+pub ways_inside : (rules : List FormModel) (flow : List Flow) (parts : List LayoutPart) (end : ℕ) → PartsFit rules flow 0 flow parts → length flow ≡ end + 1 → Upto end flow → (at : ℕ) (f : BranchedTest) → slice_get parts at ≡ Some (Test f) → (f.to < length parts) × (f.other < length parts)
 ways_inside rules flow parts end fit long u at f e =
     let m : length parts ≡ length flow = fit_length rules flow 0 flow parts fit in
     let g = fits_at rules flow parts at end (Test f) fit e u in
@@ -145,7 +145,7 @@ ways_inside rules flow parts end fit long u at f e =
     let b = h.1 in
     (omega (arith, m, long, a), omega (arith, m, long, b))
 
-pub goals_inside : (rules : List Rule) (flow : List Flow) (parts : List Part) (end : ℕ) → PartsFit rules flow 0 flow parts → length flow ≡ end + 1 → Upto end flow → (at to : ℕ) → slice_get parts at ≡ Some (Jump to) → to < length parts
+pub goals_inside : (rules : List FormModel) (flow : List Flow) (parts : List LayoutPart) (end : ℕ) → PartsFit rules flow 0 flow parts → length flow ≡ end + 1 → Upto end flow → (at to : ℕ) → slice_get parts at ≡ Some (Jump to) → to < length parts
 goals_inside rules flow parts end fit long u at to e =
     let m : length parts ≡ length flow = fit_length rules flow 0 flow parts fit in
     let g = fits_at rules flow parts at end (Jump to) fit e u in
@@ -154,59 +154,59 @@ goals_inside rules flow parts end fit long u at to e =
 
 -- ---- only relative branches become three words
 
-abbrev pub IsWide : BranchTarget → Type 0
+abbrev pub IsWide : TargetModel → Type 0
 IsWide (absolute shape) = ⊥
 IsWide (relative shape) = Unit {0}
 
-abbrev pub AreWide : List Rule → List Part → Type 0
-AreWide rules parts = (at : ℕ) (f : Fork) (turn : Rule) (when_one : Bool) (way : BranchTarget) → slice_get parts at ≡ Some (Test f) → slice_get rules f.form ≡ Some turn → turn.goal ≡ branches when_one way → f.long ≡ true → IsWide way
+abbrev pub AreWide : List FormModel → List LayoutPart → Type 0
+AreWide rules parts = (at : ℕ) (f : BranchedTest) (turn : FormModel) (when_one : Bool) (way : TargetModel) → slice_get parts at ≡ Some (Test f) → slice_get rules f.form ≡ Some turn → turn.goal ≡ branches when_one way → f.long ≡ true → IsWide way
 
-new_short : (rules : List Rule) (flow : List Flow) (sizes : List ℕ) (forks : List (ℕ × ℕ)) (g : Flow) (at block test : ℕ) (f : Fork) → part_for rules flow sizes forks g at block test ≡ Test f → f.long ≡ false
+new_short : (rules : List FormModel) (flow : List Flow) (sizes : List ℕ) (forks : List (ℕ × ℕ)) (g : Flow) (at block test : ℕ) (f : BranchedTest) → part_for rules flow sizes forks g at block test ≡ Test f → f.long ≡ false
 new_short rules flow sizes forks (Assign tree) at block test f e = by (continues flow at) e
   where
     by : (c : Bool) → (if c then Inner else Block block (slice_index sizes block)) ≡ Test f → f.long ≡ false
     by true e = absurd (cc e)
     by false e = absurd (cc e)
-new_short rules flow sizes forks (Tested tree one none) at block test f e = by (rule_at_one (slice_get rules (branch_or_zero (slice_get forks test)).0)) e
+new_short rules flow sizes forks (Tested tree one none) at block test f e = by (form_at_one (slice_get rules (branch_or_zero (slice_get forks test)).0)) e
   where
     by : (w : Bool) → (if w then fork_to tree block (slice_index sizes block) (branch_or_zero (slice_get forks test)).0 (branch_or_zero (slice_get forks test)).1 at one none else fork_to tree block (slice_index sizes block) (branch_or_zero (slice_get forks test)).0 (branch_or_zero (slice_get forks test)).1 at none one) ≡ Test f → f.long ≡ false
     by true e = is _ f e
       where
-        is : (x y : Fork) → Test x ≡ Test y → y.long ≡ x.long
+        is : (x y : BranchedTest) → Test x ≡ Test y → y.long ≡ x.long
         is x y e = cc
     by false e = is _ f e
       where
-        is : (x y : Fork) → Test x ≡ Test y → y.long ≡ x.long
+        is : (x y : BranchedTest) → Test x ≡ Test y → y.long ≡ x.long
         is x y e = cc
 new_short rules flow sizes forks (Jumped to) at block test f e = absurd (cc e)
 new_short rules flow sizes forks Ended at block test f e = absurd (cc e)
 
-all_short : (rules : List Rule) (flow : List Flow) (sizes : List ℕ) (forks : List (ℕ × ℕ)) (rest : List Flow) (at k : ℕ) (f : Fork) → slice_get (parts_from rules flow sizes forks rest at) k ≡ Some (Test f) → f.long ≡ false
+all_short : (rules : List FormModel) (flow : List Flow) (sizes : List ℕ) (forks : List (ℕ × ℕ)) (rest : List Flow) (at k : ℕ) (f : BranchedTest) → slice_get (parts_from rules flow sizes forks rest at) k ≡ Some (Test f) → f.long ≡ false
 all_short rules flow sizes forks [] at k f e = absurd (cc e)
 all_short rules flow sizes forks (g ∷ rest) at k f e =
     by k (place_part rules flow sizes forks g at) (parts_from rules flow sizes forks rest (at + 1))
     (new_short rules flow sizes forks g at (blocks_before flow at) (tests_before flow at) f)
     (λ n. all_short rules flow sizes forks rest (at + 1) n f) e
   where
-    one : (x y : Part) → Some x ≡ Some y → x ≡ y
+    one : (x y : LayoutPart) → Some x ≡ Some y → x ≡ y
     one x y e = cc
 
-    by : (k : ℕ) (p : Part) (ps : List Part) → (p ≡ Test f → f.long ≡ false) → ((n : ℕ) → slice_get ps n ≡ Some (Test f) → f.long ≡ false) → slice_get (p ∷ ps) k ≡ Some (Test f) → f.long ≡ false
+    by : (k : ℕ) (p : LayoutPart) (ps : List LayoutPart) → (p ≡ Test f → f.long ≡ false) → ((n : ℕ) → slice_get ps n ≡ Some (Test f) → f.long ≡ false) → slice_get (p ∷ ps) k ≡ Some (Test f) → f.long ≡ false
     by zero p ps new more e = new (one p (Test f) e)
     by (suc k) p ps new more e = more k e
 
 -- a test after a round
-record From (rules : List Rule) (addresses : List ℕ) (parts : List Part) (k : ℕ) (g : Fork) : Type 0 where
-  old : Fork
+record From (rules : List FormModel) (addresses : List ℕ) (parts : List LayoutPart) (k : ℕ) (g : BranchedTest) : Type 0 where
+  old : BranchedTest
   at : slice_get parts k ≡ Some (Test old)
   place : ℕ
   is : g ≡ widened rules addresses place old
 
-test_from : (rules : List Rule) (addresses : List ℕ) (at : ℕ) (parts : List Part) (k : ℕ) (g : Fork) → slice_get (widened_from rules addresses at parts) k ≡ Some (Test g) → From rules addresses parts k g
+test_from : (rules : List FormModel) (addresses : List ℕ) (at : ℕ) (parts : List LayoutPart) (k : ℕ) (g : BranchedTest) → slice_get (widened_from rules addresses at parts) k ≡ Some (Test g) → From rules addresses parts k g
 test_from rules addresses at [] k g e = absurd (cc e)
 test_from rules addresses at (Test f ∷ parts) zero g e = record { old = f; at = refl; place = at; is = same _ g e }
   where
-    same : (x y : Fork) → Some (Test x) ≡ Some (Test y) → y ≡ x
+    same : (x y : BranchedTest) → Some (Test x) ≡ Some (Test y) → y ≡ x
     same x y e = cc
 test_from rules addresses at (Block block words ∷ parts) zero g e = absurd (cc e)
 test_from rules addresses at (Inner ∷ parts) zero g e = absurd (cc e)
@@ -216,11 +216,11 @@ test_from rules addresses at (p ∷ parts) (suc k) g e =
     let r = test_from rules addresses (at + room p) parts k g e in
     record { old = r.old; at = r.at; place = r.place; is = r.is }
 
-round_wide : (rules : List Rule) (parts : List Part) → AreWide rules parts → AreWide rules (round rules parts)
+round_wide : (rules : List FormModel) (parts : List LayoutPart) → AreWide rules parts → AreWide rules (round rules parts)
 round_wide rules parts w at g turn when_one way e form goal long =
     let f = test_from rules (starts parts) 0 parts at g e in
-    let same : slice_get rules f.old.form ≡ Some turn = ap (λ (x : Fork). slice_get rules x.form) (sym f.is) ∙ form in
-    let was : (f.old.long || not (rule_shows (slice_get rules f.old.form) (f.place + f.old.words) (slice_index (starts parts) f.old.to))) ≡ true = ap (λ (x : Fork). x.long) (sym f.is) ∙ long in
+    let same : slice_get rules f.old.form ≡ Some turn = ap (λ (x : BranchedTest). slice_get rules x.form) (sym f.is) ∙ form in
+    let was : (f.old.long || not (form_shows (slice_get rules f.old.form) (f.place + f.old.words) (slice_index (starts parts) f.old.to))) ≡ true = ap (λ (x : BranchedTest). x.long) (sym f.is) ∙ long in
     by way goal f.old same (f.place + f.old.words) (slice_index (starts parts) f.old.to) was (w at f.old turn when_one way f.at same goal)
   where
     plain : (l b : Bool) → b ≡ true → (l || not b) ≡ true → l ≡ true
@@ -228,15 +228,15 @@ round_wide rules parts w at g turn when_one way e form goal long =
     plain false true s e = absurd (cc e)
     plain false false s e = absurd (cc s)
 
-    by : (way : BranchTarget) → turn.goal ≡ branches when_one way → (old : Fork) → slice_get rules old.form ≡ Some turn → (n m : ℕ) → (old.long || not (rule_shows (slice_get rules old.form) n m)) ≡ true → (old.long ≡ true → IsWide way) → IsWide way
+    by : (way : TargetModel) → turn.goal ≡ branches when_one way → (old : BranchedTest) → slice_get rules old.form ≡ Some turn → (n m : ℕ) → (old.long || not (form_shows (slice_get rules old.form) n m)) ≡ true → (old.long ≡ true → IsWide way) → IsWide way
     by (relative shape) goal old same n m was before = tt
-    by (absolute shape) goal old same n m was before = before (plain old.long _ (ap (λ o. rule_shows o n m) same ∙ ap (λ k. kind_shows k n m) goal) was)
+    by (absolute shape) goal old same n m was before = before (plain old.long _ (ap (λ o. form_shows o n m) same ∙ ap (λ k. goal_shows k n m) goal) was)
 
-rounds_wide : (rules : List Rule) (n : ℕ) (parts : List Part) → AreWide rules parts → AreWide rules (rounds rules n parts)
+rounds_wide : (rules : List FormModel) (n : ℕ) (parts : List LayoutPart) → AreWide rules parts → AreWide rules (rounds rules n parts)
 rounds_wide rules zero parts w = w
 rounds_wide rules (suc n) parts w = rounds_wide rules n (round rules parts) (round_wide rules parts w)
 
-pub settled_wide : (rules : List Rule) (flow : List Flow) (sizes : List ℕ) (forks : List (ℕ × ℕ)) (n : ℕ) → AreWide rules (rounds rules n (parts_of rules flow sizes forks))
+pub settled_wide : (rules : List FormModel) (flow : List Flow) (sizes : List ℕ) (forks : List (ℕ × ℕ)) (n : ℕ) → AreWide rules (rounds rules n (parts_of rules flow sizes forks))
 settled_wide rules flow sizes forks n = rounds_wide rules n (parts_of rules flow sizes forks) (λ at f turn when_one way e form goal long. absurd (clash f.long (all_short rules flow sizes forks flow 0 at f e) long))
   where
     clash : (b : Bool) → b ≡ false → b ≡ true → ⊥

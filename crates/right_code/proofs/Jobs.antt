@@ -3,20 +3,20 @@ use Rattle.std.proofs.Common.{ℕ, zero, suc, ◌≡◌, ◌≤◌, ◌<◌, tru
 use Rattle.std.proofs.lemmas.Bool.{cases_eq}
 use Rattle.std.proofs.lemmas.List.{get_or-set_same, get_or-set_other, length-set}
 use Rattle.net_model.specs.declared.states.State.{State}
-use Rattle.net_model.specs.Terms.{Term}
+use Rattle.net_model.specs.Exprs.{ExprModel}
 use Rattle.net_model.specs.Meaning.{mean}
 use Rattle.net_model.specs.Patterns.{Pattern}
 use Rattle.form_model.specs.Trees.{is_tree}
-use Rattle.form_model.specs.Rules.{Destination, into, cell, filed, stored, temporary, tested}
-use Rattle.form_model.specs.Covers.{Stock, Choice}
-use Rattle.form_model.specs.Plans.{Plan}
+use Rattle.form_model.specs.Forms.{DestinationModel, into, cell, filed, stored, temporary, tested}
+use Rattle.form_model.specs.Covers.{StockModel, JobCoverModel}
+use Rattle.form_model.specs.CoverModels.{CoverModel}
 use Rattle.form_model.specs.Effects.{operation_of, steps_effect}
 use Rattle.form_model.specs.Steps.{cover_steps}
 use Rattle.emit_seq.specs.Formed.{AreFormed}
 use Rattle.emit_seq.specs.Leaves.{IsCoverStart, IsOfJob, IsAimWithin, DestinationReads, LeaveValue}
 use Rattle.emit_seq.proofs.Leaving.{leave_value}
 use Rattle.emit_seq.proofs.Walks.{effect-steps}
-use Rattle.src_trees.specs.Lowered.{Work}
+use Rattle.src_trees.specs.Lowered.{JobModel}
 use Rattle.src_trees.specs.Seen.{tree_value, ReadsCells}
 use Rattle.src_trees.specs.Doing.{job_value, put_at, done, all_done, AllRead, DestinationLies, Lies, AllLie}
 use Rattle.src_trees.proofs.Behind.{Alike, all_done_behind, all_lie_behind}
@@ -25,24 +25,24 @@ use Rattle.right_code.specs.Inner.Jobs.{AreCovered, LeavesDone}
 use Rattle.right_code.proofs.Meant.{tree_mean, tree_reads, same_behind}
 
 -- the tree that is used is a tree of the job
-pub used_tree : (trees : List Term) (k : ℕ) (t : Term) → AreTrees trees → slice_get trees k ≡ Some t → is_tree t ≡ true
+pub used_tree : (trees : List ExprModel) (k : ℕ) (t : ExprModel) → AreTrees trees → slice_get trees k ≡ Some t → is_tree t ≡ true
 used_tree [] k t a e = absurd (cc e)
 used_tree (x ∷ trees) zero t a e = subst (λ y. is_tree y ≡ true) (some_same x t e) a.0
   where
-    some_same : (x t : Term) → Some x ≡ Some t → x ≡ t
+    some_same : (x t : ExprModel) → Some x ≡ Some t → x ≡ t
     some_same x t e = cc
 used_tree (x ∷ trees) (suc k) t a e = used_tree trees k t a.1 e
 
-pub used_reads : (at : ℕ) (cells : List ℕ) (trees : List Term) (k : ℕ) (t : Term) → AllRead at cells trees → slice_get trees k ≡ Some t → ReadsCells at cells t
+pub used_reads : (at : ℕ) (cells : List ℕ) (trees : List ExprModel) (k : ℕ) (t : ExprModel) → AllRead at cells trees → slice_get trees k ≡ Some t → ReadsCells at cells t
 used_reads at cells [] k t a e = absurd (cc e)
 used_reads at cells (x ∷ trees) zero t a e = subst (ReadsCells at cells) (some_same x t e) a.0
   where
-    some_same : (x t : Term) → Some x ≡ Some t → x ≡ t
+    some_same : (x t : ExprModel) → Some x ≡ Some t → x ≡ t
     some_same x t e = cc
 used_reads at cells (x ∷ trees) (suc k) t a e = used_reads at cells trees k t a.1 e
 
 -- what a job's cells ask, its steps' state gives
-pub start_at : (stock : Stock) (count : ℕ) (work : Work) (choice : Choice) (s : State) (c : IsCovered stock work choice) → length s.regs ≡ count → stock.file ≤ length s.file → Lies stock.temps s.cells work → IsCoverStart stock count work.destination c.covers.tree s
+pub start_at : (stock : StockModel) (count : ℕ) (work : JobModel) (choice : JobCoverModel) (s : State) (c : IsCovered stock work choice) → length s.regs ≡ count → stock.file ≤ length s.file → Lies stock.temps s.cells work → IsCoverStart stock count work.destination c.covers.tree s
 start_at stock count work choice s c n f l = record {
   regs = n;
   reads = tree_reads stock.temps c.covers.tree s (used_tree work.trees choice.which c.covers.tree c.trees c.covers.used) (used_reads stock.temps s.cells work.trees choice.which c.covers.tree l.reads c.covers.used);
@@ -52,7 +52,7 @@ start_at stock count work choice s c n f l = record {
   file = f;
 }
   where
-    aim_reads : (destination : Destination) → IsTreeDestination destination → DestinationLies stock.temps s.cells destination → DestinationReads stock.temps s destination
+    aim_reads : (destination : DestinationModel) → IsTreeDestination destination → DestinationLies stock.temps s.cells destination → DestinationReads stock.temps s destination
     aim_reads (cell a) t h = tt
     aim_reads (stored a) t h = tree_reads stock.temps a s t h.0
     aim_reads (into id) t h = tt
@@ -60,7 +60,7 @@ start_at stock count work choice s c n f l = record {
     aim_reads temporary t h = tt
     aim_reads tested t h = tt
 
-    aim_within : (destination : Destination) → IsTreeDestination destination → DestinationLies stock.temps s.cells destination → IsAimWithin destination s
+    aim_within : (destination : DestinationModel) → IsTreeDestination destination → DestinationLies stock.temps s.cells destination → IsAimWithin destination s
     aim_within (cell a) t h = h.1
     aim_within (stored a) t h = let e = tree_mean a s t in let b = h.2 in omega (arith, e, b)
     aim_within (into id) t h = tt
@@ -82,13 +82,13 @@ put_same at a b v w xs ys n e f lt put others = record {
       | inr k ↦ get_or-set_other xs a c w 0 k ∙ sym (others c le (λ z. k (z ∙ e)))
     ]
 
-module _ (stock : Stock) (file : Option ℕ) (patterns : List Pattern) (count : ℕ) (formed : AreFormed file patterns count stock.file stock.rules) where
+module _ (stock : StockModel) (file : Option ℕ) (patterns : List Pattern) (count : ℕ) (formed : AreFormed file patterns count stock.file stock.rules) where
   -- what a job that stores something needs
-  abbrev Needs : Destination → Type 0 → Type 0
+  abbrev Needs : DestinationModel → Type 0 → Type 0
   Needs tested x = Unit {0}
   Needs destination x = x
 
-  given : (destination : Destination) (trees : List Term) (x : Type 0) → IsOfJob destination → HasOne destination trees → (IsOne trees → x) → Needs destination x
+  given : (destination : DestinationModel) (trees : List ExprModel) (x : Type 0) → IsOfJob destination → HasOne destination trees → (IsOne trees → x) → Needs destination x
   given (cell a) trees x j o f = f o
   given (stored a) trees x j o f = f o
   given tested trees x j o f = tt
@@ -97,7 +97,7 @@ module _ (stock : Stock) (file : Option ℕ) (patterns : List Pattern) (count : 
   given temporary trees x j o f = absurd j
 
   -- a job's steps, where the job's value is that of this tree
-  left : (destination : Destination) (tree : Term) (plan : Plan) (v : ℕ) (s : State) → IsOfJob destination → IsTreeDestination destination → DestinationLies stock.temps s.cells destination → LeaveValue stock file patterns destination tree plan s → Needs destination (mean tree s 0 ≡ v)
+  left : (destination : DestinationModel) (tree : ExprModel) (plan : CoverModel) (v : ℕ) (s : State) → IsOfJob destination → IsTreeDestination destination → DestinationLies stock.temps s.cells destination → LeaveValue stock file patterns destination tree plan s → Needs destination (mean tree s 0 ≡ v)
       → Alike stock.temps (put_at destination v s.cells) (steps_effect (operation_of file patterns) (cover_steps stock destination tree plan) s).cells
   left (cell a) tree plan v s j t l h e = put_same stock.temps a a (mean tree s 0) v s.cells _ h.cells refl e l.1 h.value h.others
   left (stored a) tree plan v s j t l h e =
@@ -107,21 +107,21 @@ module _ (stock : Stock) (file : Option ℕ) (patterns : List Pattern) (count : 
   left filed tree plan v s j t l h e = absurd j
   left temporary tree plan v s j t l h e = absurd j
 
-  pub leaves : (work : Work) (choice : Choice) (s : State) (c : IsCovered stock work choice) → length s.regs ≡ count → stock.file ≤ length s.file → Lies stock.temps s.cells work
+  pub leaves : (work : JobModel) (choice : JobCoverModel) (s : State) (c : IsCovered stock work choice) → length s.regs ≡ count → stock.file ≤ length s.file → Lies stock.temps s.cells work
       → LeaveValue stock file patterns work.destination c.covers.tree choice.plan s
   leaves work choice s c n f l = leave_value stock file patterns count formed work.destination c.covers.tree choice.plan s c.goes c.covers.orderly c.covers.enough c.few (start_at stock count work choice s c n f l)
 
-  used_is : (work : Work) (choice : Choice) (c : IsCovered stock work choice) → tree_used work choice ≡ c.covers.tree
+  used_is : (work : JobModel) (choice : JobCoverModel) (c : IsCovered stock work choice) → tree_used work choice ≡ c.covers.tree
   used_is work choice c = ap tree_or_none c.covers.used
 
-  value_is : (cells : List ℕ) (trees : List Term) (k : ℕ) (t : Term) → IsOne trees → slice_get trees k ≡ Some t → tree_value cells t ≡ job_value cells trees
+  value_is : (cells : List ℕ) (trees : List ExprModel) (k : ℕ) (t : ExprModel) → IsOne trees → slice_get trees k ≡ Some t → tree_value cells t ≡ job_value cells trees
   value_is cells trees k t o e = subst (λ ts. slice_get ts k ≡ Some t → tree_value cells t ≡ job_value cells ts) (sym o.1) (by k) e
     where
       by : (k : ℕ) → slice_get (o.0 ∷ []) k ≡ Some t → tree_value cells t ≡ tree_value cells o.0
       by zero e = cc
       by (suc k) e = absurd (cc e)
 
-  pub job_left : (work : Work) (choice : Choice) (s : State) → IsCovered stock work choice → HasOne work.destination work.trees → length s.regs ≡ count → stock.file ≤ length s.file → Lies stock.temps s.cells work
+  pub job_left : (work : JobModel) (choice : JobCoverModel) (s : State) → IsCovered stock work choice → HasOne work.destination work.trees → length s.regs ≡ count → stock.file ≤ length s.file → Lies stock.temps s.cells work
       → LeavesDone stock.temps (work ∷ []) s (steps_effect (operation_of file patterns) (job_steps stock work choice) s)
   job_left work choice s c o n f l =
       let h : LeaveValue stock file patterns work.destination c.covers.tree choice.plan s = leaves work choice s c n f l in
@@ -132,7 +132,7 @@ module _ (stock : Stock) (file : Option ℕ) (patterns : List Pattern) (count : 
       subst (λ x. LeavesDone stock.temps (work ∷ []) s (steps_effect (operation_of file patterns) (cover_steps stock work.destination x choice.plan) s)) (sym (used_is work choice c))
       (record { same = a.same; long = a.long; regs = h.regs; file = h.file })
 
-  pub jobs_left : (jobs : List Work) (choices : List Choice) (s : State) → AreCovered stock jobs choices → length s.regs ≡ count → stock.file ≤ length s.file → AllLie stock.temps s.cells jobs
+  pub jobs_left : (jobs : List JobModel) (choices : List JobCoverModel) (s : State) → AreCovered stock jobs choices → length s.regs ≡ count → stock.file ≤ length s.file → AllLie stock.temps s.cells jobs
       → LeavesDone stock.temps jobs s (steps_effect (operation_of file patterns) (jobs_steps stock jobs choices) s)
   jobs_left [] [] s c n f l = record { same = refl; long = refl; regs = refl; file = refl }
   jobs_left [] (choice ∷ choices) s c n f l = absurd c

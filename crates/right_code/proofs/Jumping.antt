@@ -4,15 +4,15 @@ use Rattle.std.specs.Int.{bit_at}
 use Rattle.std.proofs.lemmas.Nat.Bits.{bit_at_and, bit_at_or}
 use Rattle.net_model.specs.declared.hardware.Netlist.{Netlist}
 use Rattle.net_model.specs.CheckedRules.{KeepsRules}
-use Rattle.net_model.specs.Fields.{fields, move_fields}
+use Rattle.net_model.specs.Fields.{fields, transfer_fields}
 use Rattle.net_model.specs.Patterns.{IsPattern, IsWordOf, Pattern}
-use Rattle.net_model.specs.Terms.{Term, keep, select}
+use Rattle.net_model.specs.Exprs.{ExprModel, keep, select}
 use Rattle.form_model.specs.declared.flow.Flow.{Flow}
 use Rattle.form_model.specs.declared.forms.Step.{Step}
-use Rattle.form_model.specs.Covers.{IsOrderly, Stock}
+use Rattle.form_model.specs.Covers.{IsOrderly, StockModel}
 use Rattle.block_words.specs.Laws.{operation_in}
-use Rattle.form_model.specs.Plans.{Plan}
-use Rattle.form_model.specs.Rules.{Rule, tested}
+use Rattle.form_model.specs.CoverModels.{CoverModel}
+use Rattle.form_model.specs.Forms.{FormModel, tested}
 use Rattle.form_model.specs.Shapes.{shape_setting}
 use Rattle.form_model.specs.Steps.{branch_setting}
 use Rattle.form_set.specs.Listing.{greatest_reach}
@@ -24,10 +24,10 @@ use Rattle.branch_fix.specs.Items.{behind, branch_step, groups, items_from, jump
 use Rattle.branch_fix.specs.Parts.{address, room, starts}
 use Rattle.branch_fix.specs.declared.laid.Item.{Item}
 use Rattle.branch_fix.specs.declared.laid.Item.TheVariants.{Group, Jump as Word}
-use Rattle.branch_fix.specs.declared.part.Fork.{Fork}
-use Rattle.branch_fix.specs.declared.part.Part.{Part}
-use Rattle.branch_fix.specs.declared.part.Part.TheVariants.{Block, Inner, Test, Jump, End}
-use Rattle.right_code.specs.Forks.{plan_rule}
+use Rattle.branch_fix.specs.declared.part.BranchedTest.{BranchedTest}
+use Rattle.branch_fix.specs.declared.part.LayoutPart.{LayoutPart}
+use Rattle.branch_fix.specs.declared.part.LayoutPart.TheVariants.{Block, Inner, Test, Jump, End}
+use Rattle.right_code.specs.Forks.{cover_form}
 use Rattle.right_code.specs.Inner.Forks.{IsBranchForm, one_side}
 use Rattle.right_code.specs.Laid.{IsLayout}
 use Rattle.right_code.specs.Inner.Laid.{AreTurns}
@@ -41,7 +41,7 @@ use Rattle.right_code.proofs.Standing.{shown_some}
 use Rattle.right_code.proofs.Turns.{first_jump}
 use Rattle.mode_set.specs.Words.{FitsTurn}
 use Rattle.code_model.specs.Words.{KeepsMode}
-use Rattle.net_model.specs.Transfers.{memory_move}
+use Rattle.net_model.specs.Transfers.{memory_transfer}
 use Rattle.right_code.proofs.Ways.{way_bits}
 
 -- ---- bits of a part of a mask
@@ -52,7 +52,7 @@ in_mask s f k e z =
     omega (arith, a, z)
 
 -- bits of a condition and of a target are bits of the branch
-branch_fields : (w : Bool) (c x y : Term) (s b : ℕ) → bit_and s (fields c) ≡ s → bit_and b (fields x) ≡ b
+branch_fields : (w : Bool) (c x y : ExprModel) (s b : ℕ) → bit_and s (fields c) ≡ s → bit_and b (fields x) ≡ b
     → bit_and (bit_or s b) (fields (select c (one_side w x y) (one_side w y x))) ≡ bit_or s b
 branch_fields true c x y s b p q = within_mask (bit_or s b) (bit_or (bit_or (fields c) (fields x)) (fields y)) at
   where
@@ -76,21 +76,21 @@ branch_fields false c x y s b p q = within_mask (bit_or s b) (bit_or (bit_or (fi
 -- the word is of the pattern's set, and keeps the data memory and the mode
 pub record TurnsWith (netlist : Netlist) (o : Option ℕ) (pattern : Pattern) (word : ℕ) : Type 0 where
   pub given : IsWordOf netlist pattern word
-  pub memory : memory_move netlist word ≡ keep
+  pub memory : memory_transfer netlist word ≡ keep
   pub mode : KeepsMode o netlist word
 
 -- the form's pattern has such a word for each setting
-pub record CanTurnWith (netlist : Netlist) (o : Option ℕ) (patterns : List Pattern) (rule : Rule) : Type 0 where
+pub record CanTurnWith (netlist : Netlist) (o : Option ℕ) (patterns : List Pattern) (rule : FormModel) : Type 0 where
   pub pattern : Pattern
   pub at : slice_get patterns rule.pattern ≡ Some pattern
   pub is : IsPattern netlist pattern
-  pub can : ForEachSetting (move_fields pattern.move) (TurnsWith netlist o pattern)
+  pub can : ForEachSetting (transfer_fields pattern.move) (TurnsWith netlist o pattern)
 
 -- each jump and branch form has
-abbrev pub AllTurn : Netlist → Option ℕ → List Pattern → List Rule → Type 0
-AllTurn netlist o patterns rules = (k : ℕ) (rule : Rule) → slice_get rules k ≡ Some rule → is_control_goal rule.goal ≡ true → CanTurnWith netlist o patterns rule
+abbrev pub AllTurn : Netlist → Option ℕ → List Pattern → List FormModel → Type 0
+AllTurn netlist o patterns rules = (k : ℕ) (rule : FormModel) → slice_get rules k ≡ Some rule → is_control_goal rule.goal ≡ true → CanTurnWith netlist o patterns rule
 
-module _ (netlist : Netlist) (order : List ℕ) (keeps : KeepsRules netlist order) (o : Option ℕ) (patterns : List Pattern) (reach : ℕ) (stock : Stock) (turning : AllTurn netlist o patterns stock.rules) (far : reach ≡ greatest_reach stock.rules)
+module _ (netlist : Netlist) (order : List ℕ) (keeps : KeepsRules netlist order) (o : Option ℕ) (patterns : List Pattern) (reach : ℕ) (stock : StockModel) (turning : AllTurn netlist o patterns stock.rules) (far : reach ≡ greatest_reach stock.rules)
     (turns : AreTurns netlist patterns stock.rules reach) where
   -- a step has a word that does its jump
   abbrev pub HasWord : Step → Type 0
@@ -100,10 +100,10 @@ module _ (netlist : Netlist) (order : List ℕ) (keeps : KeepsRules netlist orde
   same_pattern p q e = cc
 
   -- a step of such a form with bits of its pattern
-  turn_word : (rule : Rule) (p : Pattern) (setting : ℕ) → CanTurnWith netlist o patterns rule → slice_get patterns rule.pattern ≡ Some p → IsSetting (move_fields p.move) setting
+  turn_word : (rule : FormModel) (p : Pattern) (setting : ℕ) → CanTurnWith netlist o patterns rule → slice_get patterns rule.pattern ≡ Some p → IsSetting (transfer_fields p.move) setting
       → HasWord (record { pattern = rule.pattern; setting = setting })
   turn_word rule p setting can at within =
-      let own : IsSetting (move_fields can.pattern.move) setting = subst (λ (q : Pattern). IsSetting (move_fields q.move) setting) (same_pattern p can.pattern (sym at ∙ can.at)) within in
+      let own : IsSetting (transfer_fields can.pattern.move) setting = subst (λ (q : Pattern). IsSetting (transfer_fields q.move) setting) (same_pattern p can.pattern (sym at ∙ can.at)) within in
       let w = can.can setting own in (
         w.0,
         record {
@@ -112,14 +112,14 @@ module _ (netlist : Netlist) (order : List ℕ) (keeps : KeepsRules netlist orde
         },
       )
 
-  same_rule : (a b : Rule) → Some a ≡ Some b → a ≡ b
-  same_rule a b e = cc
+  same_form : (a b : FormModel) → Some a ≡ Some b → a ≡ b
+  same_form a b e = cc
 
   first_turns : 1 ≤ reach → CanTurnWith netlist o patterns turns.rule
   first_turns l =
       let f = first_jump stock.rules reach l far in
-      let same : turns.rule ≡ f.rule = same_rule turns.rule f.rule (sym turns.first ∙ f.first) in
-      turning f.place turns.rule (f.at ∙ ap Some (sym same)) (ap (λ (r : Rule). is_control_goal r.goal) same ∙ ap is_control_goal f.goal)
+      let same : turns.rule ≡ f.rule = same_form turns.rule f.rule (sym turns.first ∙ f.first) in
+      turning f.place turns.rule (f.at ∙ ap Some (sym same)) (ap (λ (r : FormModel). is_control_goal r.goal) same ∙ ap is_control_goal f.goal)
 
   -- a jump to an address below the reach
   jump_word : (to : ℕ) → to < reach → HasWord (jump_step (jump_form stock.rules reach) to)
@@ -155,14 +155,14 @@ module _ (netlist : Netlist) (order : List ℕ) (keeps : KeepsRules netlist orde
   groups_have block at zero = tt
   groups_have block at (suc n) = groups_have block (at + 1) n
 
-  items_have : (rules : List Rule) (jump : Option Rule) (addresses : List ℕ) (at : ℕ) (parts : List Part)
-      → ((k : ℕ) (p : Part) (n : ℕ) → slice_get parts k ≡ Some p → n ≡ at + address parts k → ItemsHave (part_items rules jump addresses n p)) → ItemsHave (items_from rules jump addresses at parts)
+  items_have : (rules : List FormModel) (jump : Option FormModel) (addresses : List ℕ) (at : ℕ) (parts : List LayoutPart)
+      → ((k : ℕ) (p : LayoutPart) (n : ℕ) → slice_get parts k ≡ Some p → n ≡ at + address parts k → ItemsHave (part_items rules jump addresses n p)) → ItemsHave (items_from rules jump addresses at parts)
   items_have rules jump addresses at [] h = tt
   items_have rules jump addresses at (p ∷ parts) h =
       have_on (part_items rules jump addresses at p) (items_from rules jump addresses (at + room p) parts) (h 0 p at refl (omega arith))
       (items_have rules jump addresses (at + room p) parts (λ k q n e z. h (suc k) q n e (omega (arith, z))))
 
-  module _ (flow : List Flow) (parts : List Part) (end : ℕ) (f : IsFlow flow end) (upto : Upto end flow) (layout : IsLayout stock.rules flow parts reach) where
+  module _ (flow : List Flow) (parts : List LayoutPart) (end : ℕ) (f : IsFlow flow end) (upto : Upto end flow) (layout : IsLayout stock.rules flow parts reach) where
     -- a jump to a place
     to_place : (k : ℕ) → k < length parts → HasWord (jump_step (jump_form stock.rules reach) (slice_index (starts parts) k))
     to_place k lt = subst (λ n. HasWord (jump_step (jump_form stock.rules reach) n)) (sym (address_is parts k (omega (arith, lt)))) (jump_word (address parts k) (near netlist order keeps patterns stock reach turns flow parts end f upto layout k lt))
@@ -174,19 +174,19 @@ module _ (netlist : Netlist) (order : List ℕ) (keeps : KeepsRules netlist orde
     behind_have false false to other lt low = (to_place other low, tt)
 
     -- each branch has the form and the setting of an orderly cover
-    pub record IsAsked (g : Fork) : Type 0 where
-      pub tree : Term
-      pub plan : Plan
+    pub record IsAsked (g : BranchedTest) : Type 0 where
+      pub tree : ExprModel
+      pub plan : CoverModel
       pub orderly : IsOrderly stock tested tree true plan
-      pub form : slice_get stock.rules g.form ≡ Some (plan_rule stock plan)
+      pub form : slice_get stock.rules g.form ≡ Some (cover_form stock plan)
       pub setting : g.setting ≡ branch_setting stock tree plan
 
-    branch_word : (at : ℕ) (g : Fork) → slice_get parts at ≡ Some (Test g) → IsAsked g → HasWord (branch_step (slice_get stock.rules g.form) g.setting (address parts at + g.words) (slice_index (starts parts) g.to) g.long)
+    branch_word : (at : ℕ) (g : BranchedTest) → slice_get parts at ≡ Some (Test g) → IsAsked g → HasWord (branch_step (slice_get stock.rules g.form) g.setting (address parts at + g.words) (slice_index (starts parts) g.to) g.long)
     branch_word at g e asked =
         let setting : ℕ = branch_setting stock asked.tree asked.plan in
         let s : IsBranchStep netlist order keeps patterns stock reach turns flow parts end f upto layout setting asked.plan g (address parts at + g.words) (address parts g.to) =
         branch_step_is netlist order keeps patterns stock reach turns flow parts end f upto layout at g e asked.tree asked.plan setting asked.orderly asked.form asked.setting in
-        let rule : Rule = plan_rule stock asked.plan in
+        let rule : FormModel = cover_form stock asked.plan in
         let form : IsBranchForm netlist patterns rule s.when_one s.way = turns.forks g.form rule s.when_one s.way asked.form s.goal in
         let own : bit_and setting (fields form.condition) ≡ setting = subst (λ k. bit_and setting k ≡ setting) form.same_fields (setting_within stock asked.tree asked.plan asked.orderly) in
         let bits : bit_and s.bits (fields form.target) ≡ s.bits = way_bits netlist s.way form.target (address parts at + g.words) (address parts g.to) g.long s.bits form.goes s.shown in
@@ -194,7 +194,7 @@ module _ (netlist : Netlist) (order : List ℕ) (keeps : KeepsRules netlist orde
         (turn_word rule _ (bit_or setting s.bits) (turning g.form rule asked.form (ap is_control_goal s.goal)) form.is
         (branch_fields s.when_one form.condition form.target form.step setting s.bits own bits))
 
-    part_have : ((at : ℕ) (g : Fork) → slice_get parts at ≡ Some (Test g) → IsAsked g) → (k : ℕ) (p : Part) → slice_get parts k ≡ Some p
+    part_have : ((at : ℕ) (g : BranchedTest) → slice_get parts at ≡ Some (Test g) → IsAsked g) → (k : ℕ) (p : LayoutPart) → slice_get parts k ≡ Some p
         → ItemsHave (part_items stock.rules (jump_form stock.rules reach) (starts parts) (address parts k) p)
     part_have asked k (Block block words) e = groups_have block 0 words
     part_have asked k Inner e = tt
@@ -205,7 +205,7 @@ module _ (netlist : Netlist) (order : List ℕ) (keeps : KeepsRules netlist orde
     part_have asked k End e = (jump_word (address parts k) (near netlist order keeps patterns stock reach turns flow parts end f upto layout k (there parts k End e)), tt)
 
     -- each jump and branch word of the layout
-    pub layout_words : ((at : ℕ) (g : Fork) → slice_get parts at ≡ Some (Test g) → IsAsked g) → (k : ℕ) (step : Step)
+    pub layout_words : ((at : ℕ) (g : BranchedTest) → slice_get parts at ≡ Some (Test g) → IsAsked g) → (k : ℕ) (step : Step)
         → slice_get (items_from stock.rules (jump_form stock.rules reach) (starts parts) 0 parts) k ≡ Some (Word step) → HasWord step
     layout_words asked k step e =
         have_get (items_from stock.rules (jump_form stock.rules reach) (starts parts) 0 parts) k step

@@ -3,25 +3,25 @@ use Rattle.std.proofs.Common.{ℕ, zero, suc, ◌≡◌, inl, inr, List, [], ◌
 use Rattle.std.specs.Int.{bit_at}
 use Rattle.net_model.specs.declared.hardware.Netlist.{Netlist}
 use Rattle.net_model.specs.Patterns.{Pattern}
-use Rattle.form_model.specs.Rules.{Kind, Rule, into_reg, into_memory, into_file, jumps, branches}
+use Rattle.form_model.specs.Forms.{GoalModel, FormModel, into_reg, into_memory, into_file, jumps, branches}
 use Rattle.emit_seq.specs.Settles.{IsStepping}
-use Rattle.mode_set.specs.Keeping.{AreKeeping, FormKeeps, FormKeepsMode, KindKeeps}
+use Rattle.mode_set.specs.Keeping.{AreKeeping, FormKeeps, FormKeepsMode, GoalKeeps}
 use Rattle.right_code.proofs.ModeKept.{AllKeep, FormsKeep}
 
 -- each form of one list is one of another
-abbrev pub ArePart : List Rule → List Rule → Type 0
-ArePart rules all = (k : ℕ) (rule : Rule) → slice_get rules k ≡ Some rule → (j : ℕ) × (slice_get all j ≡ Some rule)
+abbrev pub ArePart : List FormModel → List FormModel → Type 0
+ArePart rules all = (k : ℕ) (rule : FormModel) → slice_get rules k ≡ Some rule → (j : ℕ) × (slice_get all j ≡ Some rule)
 
 -- a form that is kept is one of all
-pub part_of : (netlist : Netlist) (patterns : List Pattern) (o : Option ℕ) (all kept : List Rule) → AreKeeping netlist patterns o all kept → ArePart kept all
+pub part_of : (netlist : Netlist) (patterns : List Pattern) (o : Option ℕ) (all kept : List FormModel) → AreKeeping netlist patterns o all kept → ArePart kept all
 part_of netlist patterns o [] kept h k rule at = absurd (none kept h at)
   where
-    none : (list : List Rule) → list ≡ [] → slice_get list k ≡ Some rule → ⊥
+    none : (list : List FormModel) → list ≡ [] → slice_get list k ≡ Some rule → ⊥
     none [] e f = absurd (cc f)
     none (x ∷ list) e f = absurd (cc e)
 part_of netlist patterns o (r ∷ all) kept h k rule at = elim h.2 as (λ _. (j : ℕ) × (slice_get (r ∷ all) j ≡ Some rule)) [
-  | inl x ↦ first k (ap (λ (list : List Rule). slice_get list k) (sym x.1) ∙ at) (λ i f. part_of netlist patterns o all h.0 h.1 i rule f)
-  | inr x ↦ later (part_of netlist patterns o all h.0 h.1 k rule (ap (λ (list : List Rule). slice_get list k) (sym x.1) ∙ at))
+  | inl x ↦ first k (ap (λ (list : List FormModel). slice_get list k) (sym x.1) ∙ at) (λ i f. part_of netlist patterns o all h.0 h.1 i rule f)
+  | inr x ↦ later (part_of netlist patterns o all h.0 h.1 k rule (ap (λ (list : List FormModel). slice_get list k) (sym x.1) ∙ at))
 ]
   where
     later : (j : ℕ) × (slice_get all j ≡ Some rule) → (j : ℕ) × (slice_get (r ∷ all) j ≡ Some rule)
@@ -32,18 +32,18 @@ part_of netlist patterns o (r ∷ all) kept h k rule at = elim h.2 as (λ _. (j 
     first (suc k) f more = later (more k f)
 
 -- and it keeps the mode
-pub kept_form : (netlist : Netlist) (patterns : List Pattern) (o : Option ℕ) (all kept : List Rule) → AreKeeping netlist patterns o all kept → (k : ℕ) (rule : Rule) → slice_get kept k ≡ Some rule → FormKeepsMode netlist patterns o rule
+pub kept_form : (netlist : Netlist) (patterns : List Pattern) (o : Option ℕ) (all kept : List FormModel) → AreKeeping netlist patterns o all kept → (k : ℕ) (rule : FormModel) → slice_get kept k ≡ Some rule → FormKeepsMode netlist patterns o rule
 kept_form netlist patterns o [] kept h k rule at = absurd (none kept h at)
   where
-    none : (list : List Rule) → list ≡ [] → slice_get list k ≡ Some rule → ⊥
+    none : (list : List FormModel) → list ≡ [] → slice_get list k ≡ Some rule → ⊥
     none [] e f = absurd (cc f)
     none (x ∷ list) e f = absurd (cc e)
 kept_form netlist patterns o (r ∷ all) kept h k rule at = elim h.2 as (λ _. FormKeepsMode netlist patterns o rule) [
-  | inl x ↦ first k (ap (λ (list : List Rule). slice_get list k) (sym x.1) ∙ at) x.0 (λ i f. kept_form netlist patterns o all h.0 h.1 i rule f)
-  | inr x ↦ kept_form netlist patterns o all h.0 h.1 k rule (ap (λ (list : List Rule). slice_get list k) (sym x.1) ∙ at)
+  | inl x ↦ first k (ap (λ (list : List FormModel). slice_get list k) (sym x.1) ∙ at) x.0 (λ i f. kept_form netlist patterns o all h.0 h.1 i rule f)
+  | inr x ↦ kept_form netlist patterns o all h.0 h.1 k rule (ap (λ (list : List FormModel). slice_get list k) (sym x.1) ∙ at)
 ]
   where
-    same : (a b : Rule) → Some a ≡ Some b → a ≡ b
+    same : (a b : FormModel) → Some a ≡ Some b → a ≡ b
     same a b e = cc
 
     first : (k : ℕ) → slice_get (r ∷ h.0) k ≡ Some rule → FormKeepsMode netlist patterns o r → ((i : ℕ) → slice_get h.0 i ≡ Some rule → FormKeepsMode netlist patterns o rule) → FormKeepsMode netlist patterns o rule
@@ -51,18 +51,18 @@ kept_form netlist patterns o (r ∷ all) kept h k rule at = elim h.2 as (λ _. F
     first (suc k) f own more = more k f
 
 -- so no clobbers of it hold the mode, unless it is a jump or a branch
-kind_keeps : (netlist : Netlist) (pattern : Pattern) (mode : ℕ) (rule : Rule) (k : Kind) → IsStepping k → KindKeeps netlist pattern mode rule k → bit_at rule.clobbers mode ≡ 0
-kind_keeps netlist pattern mode rule (into_reg id) s h = h
-kind_keeps netlist pattern mode rule into_memory s h = h
-kind_keeps netlist pattern mode rule into_file s h = h
-kind_keeps netlist pattern mode rule (jumps reach) s h = absurd s
-kind_keeps netlist pattern mode rule (branches when_one to) s h = absurd s
+goal_keeps : (netlist : Netlist) (pattern : Pattern) (mode : ℕ) (rule : FormModel) (k : GoalModel) → IsStepping k → GoalKeeps netlist pattern mode rule k → bit_at rule.clobbers mode ≡ 0
+goal_keeps netlist pattern mode rule (into_reg id) s h = h
+goal_keeps netlist pattern mode rule into_memory s h = h
+goal_keeps netlist pattern mode rule into_file s h = h
+goal_keeps netlist pattern mode rule (jumps reach) s h = absurd s
+goal_keeps netlist pattern mode rule (branches when_one to) s h = absurd s
 
-pub keep_of : (netlist : Netlist) (patterns : List Pattern) (mode : ℕ) (all kept : List Rule) → AreKeeping netlist patterns (Some mode) all kept → AllKeep mode kept
+pub keep_of : (netlist : Netlist) (patterns : List Pattern) (mode : ℕ) (all kept : List FormModel) → AreKeeping netlist patterns (Some mode) all kept → AllKeep mode kept
 keep_of netlist patterns mode all kept h k rule at step =
     let f : FormKeeps netlist patterns mode rule = kept_form netlist patterns (Some mode) all kept h k rule at in
-    kind_keeps netlist f.pattern mode rule rule.goal step f.keeps
+    goal_keeps netlist f.pattern mode rule rule.goal step f.keeps
 
-pub forms_keep : (netlist : Netlist) (patterns : List Pattern) (o : Option ℕ) (all kept : List Rule) → AreKeeping netlist patterns o all kept → FormsKeep o kept
+pub forms_keep : (netlist : Netlist) (patterns : List Pattern) (o : Option ℕ) (all kept : List FormModel) → AreKeeping netlist patterns o all kept → FormsKeep o kept
 forms_keep netlist patterns None all kept h = tt
 forms_keep netlist patterns (Some mode) all kept h = keep_of netlist patterns mode all kept h

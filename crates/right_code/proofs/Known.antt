@@ -6,10 +6,10 @@ use Rattle.net_model.specs.declared.hardware.Netlist.{Netlist}
 use Rattle.net_model.specs.CheckedRules.{KeepsRules}
 use Rattle.net_model.specs.Patterns.{ArePatterns, IsPattern, Pattern}
 use Rattle.net_model.proofs.KeptRules.{sound_of}
-use Rattle.transfer_set.specs.Inner.Widths.{MoveFits}
-use Rattle.transfer_set.specs.TextMarks.{IsMoveOf}
+use Rattle.transfer_set.specs.Inner.Widths.{TransferFits}
+use Rattle.transfer_set.specs.TextMarks.{IsTransferOf}
 use Rattle.transfer_set.proofs.TermsFit.{move_fits}
-use Rattle.transfer_set.proofs.TermsOf.{move_terms}
+use Rattle.transfer_set.proofs.TermsOf.{move_exprs}
 use Rattle.right_code.specs.Inner.Known.{AreKnown}
 
 at_or : {A : Type 0} (xs : List A) (n : ℕ) (x d : A) → slice_get xs n ≡ Some x → (n < length xs) × (slice_index_or xs n d ≡ x)
@@ -26,6 +26,6 @@ known_of netlist order keeps patterns are k p at =
     let pattern : IsPattern netlist p = all_at (IsPattern netlist) patterns k p are.each at in
     record {
       is = pattern;
-      terms = subst (IsMoveOf netlist) pattern.given.gives (move_terms netlist order keeps pattern.word p.storage);
-      fits = subst MoveFits pattern.given.gives (move_fits netlist (sound_of netlist order keeps) pattern.word p.storage);
+      terms = subst (IsTransferOf netlist) pattern.given.gives (move_exprs netlist order keeps pattern.word p.storage);
+      fits = subst TransferFits pattern.given.gives (move_fits netlist (sound_of netlist order keeps) pattern.word p.storage);
     }

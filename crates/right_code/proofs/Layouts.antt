@@ -4,26 +4,26 @@ use Rattle.net_model.specs.declared.hardware.Netlist.{Netlist}
 use Rattle.net_model.specs.CheckedRules.{KeepsRules}
 use Rattle.net_model.specs.Nets.{counter_width}
 use Rattle.net_model.specs.Patterns.{Pattern}
-use Rattle.net_model.specs.Terms.{Term, term_width}
+use Rattle.net_model.specs.Exprs.{ExprModel, expr_width}
 use Rattle.form_model.specs.declared.flow.Flow.{Flow}
 use Rattle.form_model.specs.declared.flow.Flow.TheVariants.{End as Ended}
 use Rattle.form_model.specs.Shapes.{shape_setting}
-use Rattle.form_model.specs.Rules.{Rule, Kind, into_reg, into_file, into_memory, jumps, branches, BranchTarget, absolute, relative, tested}
-use Rattle.form_model.specs.Plans.{Plan, use_form}
-use Rattle.form_model.specs.Covers.{Stock, IsOrderly}
+use Rattle.form_model.specs.Forms.{FormModel, GoalModel, into_reg, into_file, into_memory, jumps, branches, TargetModel, absolute, relative, tested}
+use Rattle.form_model.specs.CoverModels.{CoverModel, use_form}
+use Rattle.form_model.specs.Covers.{StockModel, IsOrderly}
 use Rattle.form_model.specs.Matches.{goal_match}
-use Rattle.form_model.specs.Steps.{rule_at, found_at}
-use Rattle.emit_seq.proofs.Opened.{opened_plan}
+use Rattle.form_model.specs.Steps.{form_at, match_at}
+use Rattle.emit_seq.proofs.Opened.{opened_cover}
 use Rattle.branch_fix.specs.Parts.{room, total, starts, address, PartsFit}
-use Rattle.branch_fix.specs.Rounds.{distance, target_shows, kind_shows, rule_shows}
-use Rattle.branch_fix.specs.Items.{target_setting, kind_setting, branch_step}
+use Rattle.branch_fix.specs.Rounds.{distance, target_shows, goal_shows, form_shows}
+use Rattle.branch_fix.specs.Items.{target_setting, goal_setting, branch_step}
 use Rattle.branch_fix.specs.Inner.Flowing.{IsFlow}
-use Rattle.branch_fix.specs.declared.part.Fork.{Fork}
-use Rattle.branch_fix.specs.declared.part.Part.{Part}
-use Rattle.branch_fix.specs.declared.part.Part.TheVariants.{Test, Jump}
+use Rattle.branch_fix.specs.declared.part.BranchedTest.{BranchedTest}
+use Rattle.branch_fix.specs.declared.part.LayoutPart.{LayoutPart}
+use Rattle.branch_fix.specs.declared.part.LayoutPart.TheVariants.{Test, Jump}
 use Rattle.branch_fix.proofs.Addresses.{address_is, address_next, address_rises, part_at, fit_length}
 use Rattle.branch_fix.proofs.Laying.{address_total, settled_fit}
-use Rattle.right_code.specs.Forks.{plan_rule}
+use Rattle.right_code.specs.Forks.{cover_form}
 use Rattle.right_code.specs.Inner.Forks.{IsTargetShown}
 use Rattle.right_code.specs.Laid.{IsLayout}
 use Rattle.right_code.specs.Inner.Laid.{TargetReaches, AreTurns}
@@ -33,10 +33,10 @@ use Rattle.branch_fix.proofs.Rounds.{still_shows}
 use Rattle.right_code.proofs.Standing.{shown_some}
 
 -- the form at the root of a test's cover is a branch form
-pub plan_goal : (stock : Stock) (tree : Term) (plan : Plan) → IsOrderly stock tested tree true plan → (b : Bool) × (way : BranchTarget) × ((plan_rule stock plan).goal ≡ branches b way)
-plan_goal stock tree (use_form k ps cs) o = by (rule_at stock k).goal refl (opened_plan stock k ps cs tested tree true o).takes
+pub cover_goal : (stock : StockModel) (tree : ExprModel) (plan : CoverModel) → IsOrderly stock tested tree true plan → (b : Bool) × (way : TargetModel) × ((cover_form stock plan).goal ≡ branches b way)
+cover_goal stock tree (use_form k ps cs) o = by (form_at stock k).goal refl (opened_cover stock k ps cs tested tree true o).takes
   where
-    by : (g : Kind) → (rule_at stock k).goal ≡ g → goal_match stock.temps (rule_at stock k) g tested tree true ≡ Some (found_at stock k tested tree true) → (b : Bool) × (way : BranchTarget) × ((rule_at stock k).goal ≡ branches b way)
+    by : (g : GoalModel) → (form_at stock k).goal ≡ g → goal_match stock.temps (form_at stock k) g tested tree true ≡ Some (match_at stock k tested tree true) → (b : Bool) × (way : TargetModel) × ((form_at stock k).goal ≡ branches b way)
     by (branches b way) e h = (b, way, e)
     by (into_reg id) e h = absurd (cc h)
     by into_memory e h = absurd (cc h)
@@ -44,7 +44,7 @@ plan_goal stock tree (use_form k ps cs) o = by (rule_at stock k).goal refl (open
     by (jumps reach) e h = absurd (cc h)
 
 -- a part stands in the code
-pub within_code : (rules : List Rule) (flow : List Flow) (end : ℕ) (parts : List Part) (k : ℕ) → IsFlow flow end → PartsFit rules flow 0 flow parts → k < length parts → address parts k < total parts
+pub within_code : (rules : List FormModel) (flow : List Flow) (end : ℕ) (parts : List LayoutPart) (k : ℕ) → IsFlow flow end → PartsFit rules flow 0 flow parts → k < length parts → address parts k < total parts
 within_code rules flow end parts k f fit l =
     let n : length parts ≡ length flow = fit_length rules flow 0 flow parts fit in
     let long : length flow ≡ end + 1 = f.long in
@@ -56,22 +56,22 @@ within_code rules flow end parts k f fit l =
     omega (arith, one, b, c, d)
 
 -- the bits that the layout gives a branch word show its target
-shown_way : (netlist : Netlist) (reach : ℕ) (way : BranchTarget) (long : Bool) (from to : ℕ) → TargetReaches reach way → to < reach → to < 2 ^ counter_width netlist → (long ≡ true → IsWide way)
+shown_way : (netlist : Netlist) (reach : ℕ) (way : TargetModel) (long : Bool) (from to : ℕ) → TargetReaches reach way → to < reach → to < 2 ^ counter_width netlist → (long ≡ true → IsWide way)
     → (long ≡ false → target_shows way from to ≡ true) → IsTargetShown netlist way from to long (target_setting way from to long)
 shown_way netlist reach (absolute shape) true from to r lt low wide still = absurd (wide refl)
 shown_way netlist reach (absolute shape) false from to r lt low wide still = (refl, shown_some (shape_setting shape to) (r to lt))
 shown_way netlist reach (relative shape) true from to r lt low wide still = shown_some (shape_setting shape 2) r
-shown_way netlist reach (relative shape) false from to r lt low wide still = (low, shown_some (shape_setting shape (distance (term_width shape) from to)) (still refl))
+shown_way netlist reach (relative shape) false from to r lt low wide still = (low, shown_some (shape_setting shape (distance (expr_width shape) from to)) (still refl))
 
-module _ (netlist : Netlist) (order : List ℕ) (keeps : KeepsRules netlist order) (patterns : List Pattern) (stock : Stock) (reach : ℕ) (turns : AreTurns netlist patterns stock.rules reach) where
-  module _ (flow : List Flow) (parts : List Part) (end : ℕ) (f : IsFlow flow end) (upto : Upto end flow) (layout : IsLayout stock.rules flow parts reach) where
+module _ (netlist : Netlist) (order : List ℕ) (keeps : KeepsRules netlist order) (patterns : List Pattern) (stock : StockModel) (reach : ℕ) (turns : AreTurns netlist patterns stock.rules reach) where
+  module _ (flow : List Flow) (parts : List LayoutPart) (end : ℕ) (f : IsFlow flow end) (upto : Upto end flow) (layout : IsLayout stock.rules flow parts reach) where
     pub fit : PartsFit stock.rules flow 0 flow parts
     fit = settled_fit stock.rules flow layout.sizes layout.settings parts layout.settled
 
     wide : AreWide stock.rules parts
     wide = subst (AreWide stock.rules) (sym layout.settled.made) (settled_wide stock.rules flow layout.sizes layout.settings layout.settled.count)
 
-    pub ways : (at : ℕ) (g : Fork) → slice_get parts at ≡ Some (Test g) → (g.to < length parts) × (g.other < length parts)
+    pub ways : (at : ℕ) (g : BranchedTest) → slice_get parts at ≡ Some (Test g) → (g.to < length parts) × (g.other < length parts)
     ways = ways_inside stock.rules flow parts end fit f.long upto
 
     pub goals : (at to : ℕ) → slice_get parts at ≡ Some (Jump to) → to < length parts
@@ -91,27 +91,27 @@ module _ (netlist : Netlist) (order : List ℕ) (keeps : KeepsRules netlist orde
         omega (arith, a, r, c)
 
     -- the step of a branch word: the condition's bits, and those that show the target
-    pub record IsBranchStep (setting : ℕ) (plan : Plan) (g : Fork) (from to : ℕ) : Type 0 where
+    pub record IsBranchStep (setting : ℕ) (plan : CoverModel) (g : BranchedTest) (from to : ℕ) : Type 0 where
       pub when_one : Bool
-      pub way : BranchTarget
-      pub goal : (plan_rule stock plan).goal ≡ branches when_one way
+      pub way : TargetModel
+      pub goal : (cover_form stock plan).goal ≡ branches when_one way
       pub bits : ℕ
       pub shown : IsTargetShown netlist way from to g.long bits
-      pub step : branch_step (slice_get stock.rules g.form) g.setting from (slice_index (starts parts) g.to) g.long ≡ record { pattern = (plan_rule stock plan).pattern; setting = bit_or setting bits }
+      pub step : branch_step (slice_get stock.rules g.form) g.setting from (slice_index (starts parts) g.to) g.long ≡ record { pattern = (cover_form stock plan).pattern; setting = bit_or setting bits }
 
-    pub branch_step_is : (at : ℕ) (g : Fork) → slice_get parts at ≡ Some (Test g) → (tree : Term) (plan : Plan) (setting : ℕ) → IsOrderly stock tested tree true plan → slice_get stock.rules g.form ≡ Some (plan_rule stock plan) → g.setting ≡ setting
+    pub branch_step_is : (at : ℕ) (g : BranchedTest) → slice_get parts at ≡ Some (Test g) → (tree : ExprModel) (plan : CoverModel) (setting : ℕ) → IsOrderly stock tested tree true plan → slice_get stock.rules g.form ≡ Some (cover_form stock plan) → g.setting ≡ setting
         → IsBranchStep setting plan g (address parts at + g.words) (address parts g.to)
     branch_step_is at g e tree plan setting orderly form asked =
-        let rule : Rule = plan_rule stock plan in
+        let rule : FormModel = cover_form stock plan in
         let from : ℕ = address parts at + g.words in
         let to : ℕ = address parts g.to in
-        let goal = plan_goal stock tree plan orderly in
-        let way : BranchTarget = goal.1 in
+        let goal = cover_goal stock tree plan orderly in
+        let way : TargetModel = goal.1 in
         let is : rule.goal ≡ branches goal.0 way = goal.2 in
         let in_to = (ways at g e).0 in
         let to_is : slice_index (starts parts) g.to ≡ to = address_is parts g.to (omega (arith, in_to)) in
         let still : g.long ≡ false → target_shows way from to ≡ true =
-        (λ z. sym (ap (λ o. rule_shows o from (slice_index (starts parts) g.to)) form ∙ ap (λ n. kind_shows rule.goal from n) to_is ∙ ap (λ k. kind_shows k from to) is)
+        (λ z. sym (ap (λ o. form_shows o from (slice_index (starts parts) g.to)) form ∙ ap (λ n. goal_shows rule.goal from n) to_is ∙ ap (λ k. goal_shows k from to) is)
         ∙ still_shows stock.rules (starts parts) parts at g e layout.settled.still z) in
         record {
           when_one = goal.0;
@@ -120,5 +120,5 @@ module _ (netlist : Netlist) (order : List ℕ) (keeps : KeepsRules netlist orde
           bits = target_setting way from to g.long;
           shown = shown_way netlist reach way g.long from to (turns.reaches g.form rule goal.0 way form is) (near g.to in_to) (counted g.to in_to) (wide at g rule goal.0 way e form is) still;
           step = ap (λ o. branch_step o g.setting from (slice_index (starts parts) g.to) g.long) form ∙ ap (λ n. branch_step (Some rule) g.setting from n g.long) to_is
-              ∙ ap (λ n. branch_step (Some rule) n from to g.long) asked ∙ ap (λ k. record { pattern = rule.pattern; setting = bit_or setting (kind_setting k from to g.long) }) is;
+              ∙ ap (λ n. branch_step (Some rule) n from to g.long) asked ∙ ap (λ k. record { pattern = rule.pattern; setting = bit_or setting (goal_setting k from to g.long) }) is;
         }

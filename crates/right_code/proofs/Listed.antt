@@ -5,18 +5,18 @@ use Rattle.std.proofs.lemmas.Nat.{and_le_l}
 use Rattle.net_model.specs.declared.hardware.Space.TheVariants.{Memory as InMemory, File as InFile}
 use Rattle.net_model.specs.declared.hardware.Netlist.{Netlist}
 use Rattle.net_model.specs.CheckedRules.{KeepsRules}
-use Rattle.net_model.specs.Fields.{move_fields}
+use Rattle.net_model.specs.Fields.{transfer_fields}
 use Rattle.net_model.specs.Nets.{counter_of, counter_width, file_place, memory_id, memory_width, size_in, word_width}
 use Rattle.net_model.specs.Patterns.{Pattern}
-use Rattle.net_model.specs.Terms.{Term, word, reg, const, read, un, bin, slice, cat, zext, sext, select, Move, keep, write, write_at, next_of, swapped_next_of}
-use Rattle.net_model.specs.Transfers.{move_at}
-use Rattle.transfer_set.specs.TextMarks.{IsMoveOf, IsTermOf}
-use Rattle.form_model.specs.Rules.{Rule, into_file, into_memory, into_reg, jumps, branches}
-use Rattle.form_model.specs.Effects.{register, term_reads}
-use Rattle.form_set.specs.Listing.{AreRules, sides_of}
+use Rattle.net_model.specs.Exprs.{ExprModel, word, reg, const, read, un, bin, slice, cat, zext, sext, select, TransferModel, keep, write, write_at, next_of, swapped_next_of}
+use Rattle.net_model.specs.Transfers.{transfer_at}
+use Rattle.transfer_set.specs.TextMarks.{IsTransferOf, IsExprOf}
+use Rattle.form_model.specs.Forms.{FormModel, into_file, into_memory, into_reg, jumps, branches}
+use Rattle.form_model.specs.Effects.{register, expr_reads}
+use Rattle.form_set.specs.Listing.{AreFormModels, sides_of}
 use Rattle.form_set.specs.Promises.{IsForm, IsFormOf, of_branch, of_jump, of_plain}
 use Rattle.form_set.specs.Static.{is_file_at}
-use Rattle.form_set.specs.Swaps.{Sides, swapped}
+use Rattle.form_set.specs.Swaps.{SidesModel, swapped}
 use Rattle.form_set.proofs.FormLaws.{form_at}
 use Rattle.form_set.proofs.NoForms.{plain_not_branch}
 use Rattle.form_set.proofs.OneList.{clobbers_one}
@@ -33,24 +33,24 @@ module _ (netlist : Netlist) (order : List ℕ) (keeps : KeepsRules netlist orde
   zero_plus : (n : ℕ) → 0 + n ≡ n
   zero_plus n = omega arith
 
-  of_formed : (reach number : ℕ) (p : Pattern) (rule : Rule) → slice_get patterns number ≡ Some p → IsFormOf netlist reach number p rule → IsFormed (file_place netlist.storages) patterns (length netlist.storages) (size_in InFile netlist.storages) rule rule.goal
+  of_formed : (reach number : ℕ) (p : Pattern) (rule : FormModel) → slice_get patterns number ≡ Some p → IsFormOf netlist reach number p rule → IsFormed (file_place netlist.storages) patterns (length netlist.storages) (size_in InFile netlist.storages) rule rule.goal
   of_formed reach number p rule at (of_plain choice clobbers plain are e) =
-      subst (λ (r : Rule). IsFormed (file_place netlist.storages) patterns (length netlist.storages) (size_in InFile netlist.storages) r r.goal) (sym e) (plain_formed netlist order keeps some patterns known p number choice clobbers at plain are)
+      subst (λ (r : FormModel). IsFormed (file_place netlist.storages) patterns (length netlist.storages) (size_in InFile netlist.storages) r r.goal) (sym e) (plain_formed netlist order keeps some patterns known p number choice clobbers at plain are)
   of_formed reach number p rule at (of_jump h e) =
-      subst (λ (r : Rule). IsFormed (file_place netlist.storages) patterns (length netlist.storages) (size_in InFile netlist.storages) r r.goal) (sym e) tt
+      subst (λ (r : FormModel). IsFormed (file_place netlist.storages) patterns (length netlist.storages) (size_in InFile netlist.storages) r r.goal) (sym e) tt
   of_formed reach number p rule at (of_branch choice parts b e) =
-      subst (λ (r : Rule). IsFormed (file_place netlist.storages) patterns (length netlist.storages) (size_in InFile netlist.storages) r r.goal) (sym e)
+      subst (λ (r : FormModel). IsFormed (file_place netlist.storages) patterns (length netlist.storages) (size_in InFile netlist.storages) r r.goal) (sym e)
       (test_once netlist some patterns known reach number p at parts b choice, test_shown netlist some patterns known reach number p at parts b choice)
 
-  module _ (reach : ℕ) (rules : List Rule) (list : AreRules netlist reach 0 patterns rules) where
+  module _ (reach : ℕ) (rules : List FormModel) (list : AreFormModels netlist reach 0 patterns rules) where
     -- a form of the list, with the number of its pattern
-    pub record Placed (rule : Rule) : Type 0 where
+    pub record Placed (rule : FormModel) : Type 0 where
       pub number : ℕ
       pub pattern : Pattern
       pub at : slice_get patterns number ≡ Some pattern
       pub of : IsFormOf netlist reach number pattern rule
 
-    pub placed : (k : ℕ) (rule : Rule) → slice_get rules k ≡ Some rule → Placed rule
+    pub placed : (k : ℕ) (rule : FormModel) → slice_get rules k ≡ Some rule → Placed rule
     placed k rule h =
         let f : IsForm netlist reach 0 patterns rule = form_at netlist reach 0 patterns rules list k rule h in
         record { number = f.place; pattern = f.pattern; at = f.at; of = subst (λ n. IsFormOf netlist reach n f.pattern rule) (zero_plus f.place) f.of }
@@ -58,23 +58,23 @@ module _ (netlist : Netlist) (order : List ℕ) (keeps : KeepsRules netlist orde
     pub are_formed : AreFormed (file_place netlist.storages) patterns (length netlist.storages) (size_in InFile netlist.storages) rules
     are_formed k rule h = let f = placed k rule h in of_formed reach f.number f.pattern rule f.at f.of
 
-    number_is : (number : ℕ) (p : Pattern) (rule : Rule) → IsFormOf netlist reach number p rule → rule.pattern ≡ number
-    number_is number p rule (of_plain choice clobbers plain are e) = ap (λ (r : Rule). r.pattern) e
-    number_is number p rule (of_jump h e) = ap (λ (r : Rule). r.pattern) e
-    number_is number p rule (of_branch choice parts b e) = ap (λ (r : Rule). r.pattern) e
+    number_is : (number : ℕ) (p : Pattern) (rule : FormModel) → IsFormOf netlist reach number p rule → rule.pattern ≡ number
+    number_is number p rule (of_plain choice clobbers plain are e) = ap (λ (r : FormModel). r.pattern) e
+    number_is number p rule (of_jump h e) = ap (λ (r : FormModel). r.pattern) e
+    number_is number p rule (of_branch choice parts b e) = ap (λ (r : FormModel). r.pattern) e
 
     -- ---- forms of one pattern have the same clobbers
 
-    one_pattern : (a b : Rule) (number : ℕ) (p : Pattern) → IsFormOf netlist reach number p a → IsFormOf netlist reach number p b → a.clobbers ≡ b.clobbers
-    one_pattern a b number p (of_plain i x plain are e) (of_plain j y plain' are' f) = ap (λ (r : Rule). r.clobbers) e ∙ clobbers_one netlist p x y are are' ∙ sym (ap (λ (r : Rule). r.clobbers) f)
+    one_pattern : (a b : FormModel) (number : ℕ) (p : Pattern) → IsFormOf netlist reach number p a → IsFormOf netlist reach number p b → a.clobbers ≡ b.clobbers
+    one_pattern a b number p (of_plain i x plain are e) (of_plain j y plain' are' f) = ap (λ (r : FormModel). r.clobbers) e ∙ clobbers_one netlist p x y are are' ∙ sym (ap (λ (r : FormModel). r.clobbers) f)
     one_pattern a b number p (of_plain i x plain are e) (of_jump h f) = absurd (plain_not_jump netlist p plain h)
     one_pattern a b number p (of_plain i x plain are e) (of_branch j parts h f) = absurd (plain_not_branch netlist reach p parts plain h)
     one_pattern a b number p (of_jump h e) (of_plain j y plain are f) = absurd (plain_not_jump netlist p plain h)
-    one_pattern a b number p (of_jump h e) (of_jump h' f) = ap (λ (r : Rule). r.clobbers) e ∙ sym (ap (λ (r : Rule). r.clobbers) f)
-    one_pattern a b number p (of_jump h e) (of_branch j parts h' f) = ap (λ (r : Rule). r.clobbers) e ∙ sym (ap (λ (r : Rule). r.clobbers) f)
+    one_pattern a b number p (of_jump h e) (of_jump h' f) = ap (λ (r : FormModel). r.clobbers) e ∙ sym (ap (λ (r : FormModel). r.clobbers) f)
+    one_pattern a b number p (of_jump h e) (of_branch j parts h' f) = ap (λ (r : FormModel). r.clobbers) e ∙ sym (ap (λ (r : FormModel). r.clobbers) f)
     one_pattern a b number p (of_branch i parts h e) (of_plain j y plain are f) = absurd (plain_not_branch netlist reach p parts plain h)
-    one_pattern a b number p (of_branch i parts h e) (of_jump h' f) = ap (λ (r : Rule). r.clobbers) e ∙ sym (ap (λ (r : Rule). r.clobbers) f)
-    one_pattern a b number p (of_branch i parts h e) (of_branch j parts' h' f) = ap (λ (r : Rule). r.clobbers) e ∙ sym (ap (λ (r : Rule). r.clobbers) f)
+    one_pattern a b number p (of_branch i parts h e) (of_jump h' f) = ap (λ (r : FormModel). r.clobbers) e ∙ sym (ap (λ (r : FormModel). r.clobbers) f)
+    one_pattern a b number p (of_branch i parts h e) (of_branch j parts' h' f) = ap (λ (r : FormModel). r.clobbers) e ∙ sym (ap (λ (r : FormModel). r.clobbers) f)
 
     same_pattern : (m n : ℕ) (p q : Pattern) → slice_get patterns m ≡ Some p → slice_get patterns n ≡ Some q → m ≡ n → p ≡ q
     same_pattern m n p q e f h = let g : Some p ≡ Some q = sym e ∙ ap (λ k. slice_get patterns k) h ∙ f in cc
@@ -89,35 +89,35 @@ module _ (netlist : Netlist) (order : List ℕ) (keeps : KeepsRules netlist orde
 
     -- ---- a form of the program counter is its step
 
-    next_read : (pc w : ℕ) → term_reads 0 (next_of pc w) (register pc) ≡ true
+    next_read : (pc w : ℕ) → expr_reads 0 (next_of pc w) (register pc) ≡ true
     next_read pc w = rw (eq-eqb pc pc refl) refl
 
-    swapped_read : (pc w : ℕ) → term_reads 0 (swapped_next_of pc w) (register pc) ≡ true
+    swapped_read : (pc w : ℕ) → expr_reads 0 (swapped_next_of pc w) (register pc) ≡ true
     swapped_read pc w = eq-eqb pc pc refl
 
-    value_read : (choice : ℕ) (m : Move) (n : Term) (pc : ℕ) → m ≡ write n → term_reads 0 n (register pc) ≡ true → term_reads 0 (swapped choice (sides_of m)).value (register pc) ≡ true
+    value_read : (choice : ℕ) (m : TransferModel) (n : ExprModel) (pc : ℕ) → m ≡ write n → expr_reads 0 n (register pc) ≡ true → expr_reads 0 (swapped choice (sides_of m)).value (register pc) ≡ true
     value_read choice m n pc e h =
         let sw : AreSwapped (record { addr = None; value = n }) (swapped choice (record { addr = None; value = n })) = swapped_sides choice (record { addr = None; value = n }) in
-        ap (λ x. term_reads 0 (swapped choice (sides_of x)).value (register pc)) e ∙ sym (sw.value.reads 0 pc) ∙ h
+        ap (λ x. expr_reads 0 (swapped choice (sides_of x)).value (register pc)) e ∙ sym (sw.value.reads 0 pc) ∙ h
 
     register_goal : (storage pc : ℕ) (b c : Bool) → (if b then into_memory else if c then into_file else into_reg storage) ≡ into_reg pc → storage ≡ pc
     register_goal storage pc true c e = absurd (cc)
     register_goal storage pc false true e = absurd (cc)
     register_goal storage pc false false e = cc
 
-    counter_read : (number : ℕ) (p : Pattern) (rule : Rule) → IsFormOf netlist reach number p rule → rule.goal ≡ into_reg (counter_of netlist.codes) → term_reads 0 rule.value (register (counter_of netlist.codes)) ≡ true
-    counter_read number p rule (of_jump h e) g = let x : jumps _ ≡ into_reg (counter_of netlist.codes) = sym (ap (λ (r : Rule). r.goal) e) ∙ g in absurd (cc)
-    counter_read number p rule (of_branch choice parts h e) g = let x : branches _ _ ≡ into_reg (counter_of netlist.codes) = sym (ap (λ (r : Rule). r.goal) e) ∙ g in absurd (cc)
+    counter_read : (number : ℕ) (p : Pattern) (rule : FormModel) → IsFormOf netlist reach number p rule → rule.goal ≡ into_reg (counter_of netlist.codes) → expr_reads 0 rule.value (register (counter_of netlist.codes)) ≡ true
+    counter_read number p rule (of_jump h e) g = let x : jumps _ ≡ into_reg (counter_of netlist.codes) = sym (ap (λ (r : FormModel). r.goal) e) ∙ g in absurd (cc)
+    counter_read number p rule (of_branch choice parts h e) g = let x : branches _ _ ≡ into_reg (counter_of netlist.codes) = sym (ap (λ (r : FormModel). r.goal) e) ∙ g in absurd (cc)
     counter_read number p rule (of_plain choice clobbers plain are e) g =
         let pc : ℕ = counter_of netlist.codes in
-        let s : p.storage ≡ pc = register_goal p.storage pc (p.storage == memory_id netlist.storages) (is_file_at netlist p.storage) (sym (ap (λ (r : Rule). r.goal) e) ∙ g) in
-        let w = plain.ok 0 (let le = and_le_l 0 (move_fields p.move) in omega (arith, le)) in
-        let to : move_at netlist w.0 pc ≡ p.move = sym (ap (λ n. move_at netlist w.0 n) s) ∙ w.2.given.gives in
-        ap (λ (r : Rule). term_reads 0 r.value (register pc)) e ∙ by w.0 to w.2.steps.step
+        let s : p.storage ≡ pc = register_goal p.storage pc (p.storage == memory_id netlist.storages) (is_file_at netlist p.storage) (sym (ap (λ (r : FormModel). r.goal) e) ∙ g) in
+        let w = plain.ok 0 (let le = and_le_l 0 (transfer_fields p.move) in omega (arith, le)) in
+        let to : transfer_at netlist w.0 pc ≡ p.move = sym (ap (λ n. transfer_at netlist w.0 n) s) ∙ w.2.given.gives in
+        ap (λ (r : FormModel). expr_reads 0 r.value (register pc)) e ∙ by w.0 to w.2.steps.step
       where
-        by : (i : ℕ) → move_at netlist i (counter_of netlist.codes) ≡ p.move
-            → (move_at netlist i (counter_of netlist.codes) ≡ write (next_of (counter_of netlist.codes) (counter_width netlist))) ⊎ (move_at netlist i (counter_of netlist.codes) ≡ write (swapped_next_of (counter_of netlist.codes) (counter_width netlist)))
-            → term_reads 0 (swapped choice (sides_of p.move)).value (register (counter_of netlist.codes)) ≡ true
+        by : (i : ℕ) → transfer_at netlist i (counter_of netlist.codes) ≡ p.move
+            → (transfer_at netlist i (counter_of netlist.codes) ≡ write (next_of (counter_of netlist.codes) (counter_width netlist))) ⊎ (transfer_at netlist i (counter_of netlist.codes) ≡ write (swapped_next_of (counter_of netlist.codes) (counter_width netlist)))
+            → expr_reads 0 (swapped choice (sides_of p.move)).value (register (counter_of netlist.codes)) ≡ true
         by i to (inl h) = value_read choice p.move _ (counter_of netlist.codes) (sym to ∙ h) (next_read (counter_of netlist.codes) (counter_width netlist))
         by i to (inr h) = value_read choice p.move _ (counter_of netlist.codes) (sym to ∙ h) (swapped_read (counter_of netlist.codes) (counter_width netlist))
 
@@ -126,7 +126,7 @@ module _ (netlist : Netlist) (order : List ℕ) (keeps : KeepsRules netlist orde
 
     -- ---- reads are of words of the data memory
 
-    reads_words : (t : Term) → IsTermOf netlist t → ReadsWords (memory_width netlist.storages) t
+    reads_words : (t : ExprModel) → IsExprOf netlist t → ReadsWords (memory_width netlist.storages) t
     reads_words (word w) h = tt
     reads_words (reg r w) h = tt
     reads_words (const w v) h = tt
@@ -140,31 +140,31 @@ module _ (netlist : Netlist) (order : List ℕ) (keeps : KeepsRules netlist orde
     reads_words (sext a w) h = reads_words a h.0
     reads_words (select c a b) h = (reads_words c h.0, reads_words a h.1, reads_words b h.2)
 
-    abbrev Reads : Sides → Type 0
+    abbrev Reads : SidesModel → Type 0
     Reads x = AddressReadsWords (memory_width netlist.storages) x.addr × ReadsWords (memory_width netlist.storages) x.value
 
-    sides_read : (x y : Sides) → AreSwapped x y → Reads x → Reads y
+    sides_read : (x y : SidesModel) → AreSwapped x y → Reads x → Reads y
     sides_read x y s h = (by x.addr y.addr s.addr h.0, s.value.words (memory_width netlist.storages) h.1)
       where
-        by : (a b : Option Term) → AddrSwapped a b → AddressReadsWords (memory_width netlist.storages) a → AddressReadsWords (memory_width netlist.storages) b
+        by : (a b : Option ExprModel) → AddrSwapped a b → AddressReadsWords (memory_width netlist.storages) a → AddressReadsWords (memory_width netlist.storages) b
         by None None s h = tt
         by None (Some b) s h = absurd s
         by (Some a) None s h = absurd s
         by (Some a) (Some b) s h = s.words (memory_width netlist.storages) h
 
-    move_reads : (m : Move) → IsMoveOf netlist m → Reads (sides_of m)
-    move_reads keep h = (tt, tt)
-    move_reads (write e) h = (tt, reads_words e h)
-    move_reads (write_at a e) h = (reads_words a h.0, reads_words e h.1)
+    transfer_reads : (m : TransferModel) → IsTransferOf netlist m → Reads (sides_of m)
+    transfer_reads keep h = (tt, tt)
+    transfer_reads (write e) h = (tt, reads_words e h)
+    transfer_reads (write_at a e) h = (reads_words a h.0, reads_words e h.1)
 
-    of_reads : (number : ℕ) (p : Pattern) (rule : Rule) → slice_get patterns number ≡ Some p → IsFormOf netlist reach number p rule → Reads (record { addr = rule.addr; value = rule.value })
+    of_reads : (number : ℕ) (p : Pattern) (rule : FormModel) → slice_get patterns number ≡ Some p → IsFormOf netlist reach number p rule → Reads (record { addr = rule.addr; value = rule.value })
     of_reads number p rule at (of_plain choice clobbers plain are e) =
-        subst (λ (r : Rule). Reads (record { addr = r.addr; value = r.value })) (sym e)
-        (sides_read (sides_of p.move) (swapped choice (sides_of p.move)) (swapped_sides choice (sides_of p.move)) (move_reads p.move (known number p at).terms))
+        subst (λ (r : FormModel). Reads (record { addr = r.addr; value = r.value })) (sym e)
+        (sides_read (sides_of p.move) (swapped choice (sides_of p.move)) (swapped_sides choice (sides_of p.move)) (transfer_reads p.move (known number p at).terms))
     of_reads number p rule at (of_jump h e) =
-        subst (λ (r : Rule). Reads (record { addr = r.addr; value = r.value })) (sym e) (tt, (move_reads (write h.target) (subst (IsMoveOf netlist) h.move (known number p at).terms)).1)
+        subst (λ (r : FormModel). Reads (record { addr = r.addr; value = r.value })) (sym e) (tt, (transfer_reads (write h.target) (subst (IsTransferOf netlist) h.move (known number p at).terms)).1)
     of_reads number p rule at (of_branch choice parts b e) =
-        subst (λ (r : Rule). Reads (record { addr = r.addr; value = r.value })) (sym e)
+        subst (λ (r : FormModel). Reads (record { addr = r.addr; value = r.value })) (sym e)
         (tt, (test_swapped netlist some patterns known reach number p at parts b choice).words (memory_width netlist.storages) (reads_words parts.test (test_terms netlist some patterns known reach number p at parts b)))
 
     pub all_read : AllReadWords (memory_width netlist.storages) rules

@@ -12,9 +12,9 @@ use Rattle.src_model.specs.Trace.{strace}
 use Rattle.code_model.specs.declared.image.Image.{Image}
 use Rattle.code_model.specs.Places.{words_of}
 use Rattle.form_model.specs.declared.forms.Step.{Step}
-use Rattle.form_model.specs.Covers.{Choice, Stock}
+use Rattle.form_model.specs.Covers.{JobCoverModel, StockModel}
 use Rattle.form_model.specs.Live.{Regs, no_regs}
-use Rattle.form_model.specs.Rules.{Rule, tested}
+use Rattle.form_model.specs.Forms.{FormModel, tested}
 use Rattle.form_model.specs.Shapes.{shape_setting}
 use Rattle.form_set.specs.Listing.{greatest_reach}
 use Rattle.emit_seq.specs.ReadWords.{AllReadWords}
@@ -26,7 +26,7 @@ use Rattle.code_model.specs.Right.{TracesRight}
 use Rattle.net_model.proofs.Bases.{base_of}
 use Rattle.mode_set.specs.Keeping.{AreKeeping, IsModeRegister, held}
 use Rattle.src_trees.specs.Blocks.{jobs_at}
-use Rattle.src_trees.specs.Lowered.{Work}
+use Rattle.src_trees.specs.Lowered.{JobModel}
 use Rattle.src_trees.specs.Measures.{AllSmall}
 use Rattle.branch_fix.specs.Parts.{PartsFit}
 use Rattle.branch_fix.specs.Sections.{Section, section_jobs}
@@ -35,7 +35,7 @@ use Rattle.right_code.specs.Jobs.{IsCovered, job_steps, jobs_steps, tree_used}
 use Rattle.mode_set.specs.ModeWords.{FitsModeWord}
 use Rattle.right_code.specs.Cuts.{AreBlockCuts, AreCutWords, AreJobWords, Cut, cuts_of, plans_at, with_mode}
 use Rattle.right_code.specs.Images.{AreTestWords, IsMadeFor}
-use Rattle.right_code.specs.Tasks.{HasJobs, Task, task_memory, task_works}
+use Rattle.right_code.specs.Tasks.{HasJobs, Task, task_memory, task_jobs}
 use Rattle.right_code.specs.Inner.Blocks.{IsKit, IsModeWordMade, Kit, Machine}
 use Rattle.right_code.specs.Inner.Forks.{test_of}
 use Rattle.right_code.specs.Inner.Jobs.{AreCovered}
@@ -47,23 +47,23 @@ use Rattle.right_code.proofs.ModeKept.{StepsApart, job_apart, jobs_apart, packed
 use Rattle.right_code.proofs.Ordered.{ordered_right}
 use Rattle.right_code.proofs.Standing.{shown_some}
 use Rattle.right_code.specs.Works.{AllOne, AreFlowJobs, IsTestJob}
-use Rattle.right_code.proofs.Tasks.{test_work_of}
+use Rattle.right_code.proofs.Tasks.{test_job_of}
 
 -- ---- what forms of a mode give
 
-pub record FormsGive (netlist : Netlist) (patterns : List Pattern) (width size : ℕ) (rules : List Rule) : Type 0 where
+pub record FormsGive (netlist : Netlist) (patterns : List Pattern) (width size : ℕ) (rules : List FormModel) : Type 0 where
   pub formed : AreFormed (file_place netlist.storages) patterns (length netlist.storages) size rules
   pub shared : AreShared rules
   pub reads : AllReadWords width rules
 
-jobs_spare : (o : Option ℕ) (netlist : Netlist) (patterns : List Pattern) (width : ℕ) (all : List Rule) (stock : Stock) → AreKeeping netlist patterns o all stock.rules → FormsGive netlist patterns width stock.file stock.rules
-    → (jobs : List Work) (choices : List Choice) → AreCovered stock jobs choices → StepsApart o netlist patterns (jobs_steps stock jobs choices)
+jobs_spare : (o : Option ℕ) (netlist : Netlist) (patterns : List Pattern) (width : ℕ) (all : List FormModel) (stock : StockModel) → AreKeeping netlist patterns o all stock.rules → FormsGive netlist patterns width stock.file stock.rules
+    → (jobs : List JobModel) (choices : List JobCoverModel) → AreCovered stock jobs choices → StepsApart o netlist patterns (jobs_steps stock jobs choices)
 jobs_spare None netlist patterns width all stock k g jobs choices c = tt
 jobs_spare (Some mode) netlist patterns width all stock k g jobs choices c =
     jobs_apart stock (file_place netlist.storages) patterns (length netlist.storages) mode g.formed g.shared (keep_of netlist patterns mode all stock.rules k) jobs choices c
 
-job_spare : (o : Option ℕ) (netlist : Netlist) (patterns : List Pattern) (width : ℕ) (all : List Rule) (stock : Stock) → AreKeeping netlist patterns o all stock.rules → FormsGive netlist patterns width stock.file stock.rules
-    → (job : Work) (choice : Choice) → IsCovered stock job choice → StepsApart o netlist patterns (job_steps stock job choice)
+job_spare : (o : Option ℕ) (netlist : Netlist) (patterns : List Pattern) (width : ℕ) (all : List FormModel) (stock : StockModel) → AreKeeping netlist patterns o all stock.rules → FormsGive netlist patterns width stock.file stock.rules
+    → (job : JobModel) (choice : JobCoverModel) → IsCovered stock job choice → StepsApart o netlist patterns (job_steps stock job choice)
 job_spare None netlist patterns width all stock k g job choice c = tt
 job_spare (Some mode) netlist patterns width all stock k g job choice c =
     job_apart stock (file_place netlist.storages) patterns (length netlist.storages) mode g.formed g.shared (keep_of netlist patterns mode all stock.rules k) job choice c
@@ -73,7 +73,7 @@ has_in None a b e h = tt
 has_in (Some mode) a b e h = subst (λ (list : List Storage). IsRegister (slice_get list mode)) e h
 
 -- a mode word puts its number
-word_made : (netlist : Netlist) (special : Option ℕ) (patterns : List Pattern) (rules : List Rule) (to number word : ℕ) → IsModeRegister special netlist → FitsModeWord netlist special patterns rules to number word → IsModeWordMade netlist special word to
+word_made : (netlist : Netlist) (special : Option ℕ) (patterns : List Pattern) (rules : List FormModel) (to number word : ℕ) → IsModeRegister special netlist → FitsModeWord netlist special patterns rules to number word → IsModeWordMade netlist special word to
 word_made netlist special patterns rules to number word h f = record {
   clean = f.given.clean;
   id = f.mode;
@@ -103,7 +103,7 @@ module _ (task : Task) (image : Image) (made : IsMadeFor task image) where
   machine = record { netlist = task.netlist; temps = temp_count task.width task.listing }
 
   module _ (keeps : (v : ℕ) → KeepsInOrder (net_in v)) (give : (v : ℕ) → FormsGive (net_in v) (made.isas v).patterns task.width (size_in InFile task.netlist.storages) (made.isas v).rules) (register : IsModeRegister task.netlist.special task.netlist) (most : ℕ)
-      (small : AllSmall task.width (temp_count task.width task.listing) most (task_works task)) (one : AllOne (task_works task)) (tests : AreFlowJobs (task_works task) task.flow) where
+      (small : AllSmall task.width (temp_count task.width task.listing) most (task_jobs task)) (one : AllOne (task_jobs task)) (tests : AreFlowJobs (task_jobs task) task.flow) where
     pub is_kit : (v : ℕ) → held task.netlist v ≡ v → IsKit machine v (kit_in v)
     is_kit v e = record {
       base = subst (λ x. IsBase task.netlist task.netlist.special x (net_in v)) e (base_of task.netlist task.netlist.special (held task.netlist v));
@@ -119,7 +119,7 @@ module _ (task : Task) (image : Image) (made : IsMadeFor task image) where
 
     -- ---- sections
 
-    jobs_ready : (v : ℕ) (jobs : List Work) (choices : List Choice) (groups : List (List Step)) (words : List ℕ) → AreCovered (kit_in v).stock jobs choices
+    jobs_ready : (v : ℕ) (jobs : List JobModel) (choices : List JobCoverModel) (groups : List (List Step)) (words : List ℕ) → AreCovered (kit_in v).stock jobs choices
         → AreJobWords (net_in v) task.netlist.special (made.isas v).patterns (kit_in v).stock jobs choices groups words → IsBlockReady (net_in v) task.netlist.special (made.isas v).patterns (kit_in v).stock jobs words (length words)
     jobs_ready v jobs choices groups words c p = record {
       choices = choices;
@@ -133,7 +133,7 @@ module _ (task : Task) (image : Image) (made : IsMadeFor task image) where
           (jobs_spare task.netlist.special (net_in v) (made.isas v).patterns task.width (made.isas v).all (kit_in v).stock (made.isas v).kept (give v) jobs choices c) p.packing p.least;
     }
 
-    cut_ready : (v : ℕ) (jobs : List Work) (choices : List Choice) (groups : List (List Step)) (words : List ℕ) → AreCovered (kit_in v).stock jobs choices → AreCutWords task made.isas v jobs choices groups words
+    cut_ready : (v : ℕ) (jobs : List JobModel) (choices : List JobCoverModel) (groups : List (List Step)) (words : List ℕ) → AreCovered (kit_in v).stock jobs choices → AreCutWords task made.isas v jobs choices groups words
         → (n : ℕ) × IsSectionReady machine (kit_in 0) v jobs n words
     cut_ready zero jobs choices groups words c p = (length words, jobs_ready 0 jobs choices groups words c p)
     cut_ready (suc v) jobs choices groups words c p =
@@ -164,17 +164,17 @@ module _ (task : Task) (image : Image) (made : IsMadeFor task image) where
         let r : CutsReady cuts p.3 = cuts_ready cuts p.1 p.3 c.1 p.7 in
         record {
           sections = record { mode = x.mode; jobs = x.jobs; words = one_cut.0 } ∷ r.sections;
-          jobs = ap (λ (list : List Work). x.jobs ++ list) r.jobs;
+          jobs = ap (λ (list : List JobModel). x.jobs ++ list) r.jobs;
           ready = (p.2, p.3, p.5, one_cut.1, r.ready);
         }
 
     -- ---- the code
 
-    one_work : (x y : Work) → Some x ≡ Some y → x ≡ y
-    one_work x y e = cc
+    one_job : (x y : JobModel) → Some x ≡ Some y → x ≡ y
+    one_job x y e = cc
 
     pub made_laid : length (words_of image) ≤ code_size task.netlist.codes → length (words_of image) ≤ greatest_reach (made.isas 0).rules
-        → IsLaidCode machine (kit_in 0) image task.flow (task_works task) made.parts (greatest_reach (made.isas 0).rules)
+        → IsLaidCode machine (kit_in 0) image task.flow (task_jobs task) made.parts (greatest_reach (made.isas 0).rules)
     made_laid room reached =
         let fit : PartsFit (made.isas 0).rules task.flow 0 task.flow made.parts = settled_fit (made.isas 0).rules task.flow made.sizes made.settings made.parts made.settled in
         let long = made.long in
@@ -189,18 +189,18 @@ module _ (task : Task) (image : Image) (made : IsMadeFor task image) where
           blocks = λ at n block size b e.
               (let p = made.blocks at n block size b e in
               let c = block_covered task made.isas (λ v. (give v).reads) most small one made.plans made.planned task.flow at n in
-              let r : CutsReady (cuts_of (jobs_at task.flow (task_works task) at n) (plans_at task.flow made.plans at n)) (made.words block) =
-              cuts_ready (cuts_of (jobs_at task.flow (task_works task) at n) (plans_at task.flow made.plans at n)) (made.groups block) (made.words block)
-              (cuts_covered task made.isas (jobs_at task.flow (task_works task) at n) (plans_at task.flow made.plans at n) c) p.0 in
-              record { sections = r.sections; are = cuts_jobs task made.isas (jobs_at task.flow (task_works task) at n) (plans_at task.flow made.plans at n) c ∙ r.jobs; ready = r.ready; long = p.1 });
+              let r : CutsReady (cuts_of (jobs_at task.flow (task_jobs task) at n) (plans_at task.flow made.plans at n)) (made.words block) =
+              cuts_ready (cuts_of (jobs_at task.flow (task_jobs task) at n) (plans_at task.flow made.plans at n)) (made.groups block) (made.words block)
+              (cuts_covered task made.isas (jobs_at task.flow (task_jobs task) at n) (plans_at task.flow made.plans at n) c) p.0 in
+              record { sections = r.sections; are = cuts_jobs task made.isas (jobs_at task.flow (task_jobs task) at n) (plans_at task.flow made.plans at n) c ∙ r.jobs; ready = r.ready; long = p.1 });
           forks = λ at f e job has_job.
-              (let t : IsTestJob (task_works task) f.tree = test_work_of (task_works task) (made.isas 0).rules task.flow made.parts at f fit tests e in
-              let aim : job.destination ≡ tested = ap (λ (x : Work). x.destination) (one_work job t.work (sym has_job ∙ t.at)) ∙ t.destination in
-              let d = test_plan task made.isas (λ v. (give v).reads) most small one made.plans made.planned (task_works task) made.plans f.tree job small made.planned has_job aim in
+              (let t : IsTestJob (task_jobs task) f.tree = test_job_of (task_jobs task) (made.isas 0).rules task.flow made.parts at f fit tests e in
+              let aim : job.destination ≡ tested = ap (λ (x : JobModel). x.destination) (one_job job t.work (sym has_job ∙ t.at)) ∙ t.destination in
+              let d = test_plan task made.isas (λ v. (give v).reads) most small one made.plans made.planned (task_jobs task) made.plans f.tree job small made.planned has_job aim in
               let same : test_of job ≡ job = as_test job aim in
               let p : AreTestWords (net_in 0) task.netlist.special (made.isas 0).patterns (kit_in 0).stock (test_of job) d.0.choice (made.groups f.block) (made.words f.block) f =
-              subst (λ (x : Work). AreTestWords (net_in 0) task.netlist.special (made.isas 0).patterns (kit_in 0).stock x d.0.choice (made.groups f.block) (made.words f.block) f) (sym same) (made.tests at f e job has_job d.0 d.1) in
-              let c : IsCovered (kit_in 0).stock (test_of job) d.0.choice = subst (λ (x : Work). IsCovered (kit_in 0).stock x d.0.choice) (sym same) d.2 in
+              subst (λ (x : JobModel). AreTestWords (net_in 0) task.netlist.special (made.isas 0).patterns (kit_in 0).stock x d.0.choice (made.groups f.block) (made.words f.block) f) (sym same) (made.tests at f e job has_job d.0 d.1) in
+              let c : IsCovered (kit_in 0).stock (test_of job) d.0.choice = subst (λ (x : JobModel). IsCovered (kit_in 0).stock x d.0.choice) (sym same) d.2 in
               record {
                 choice = d.0.choice;
                 covered = c;
@@ -222,4 +222,4 @@ module _ (task : Task) (image : Image) (made : IsMadeFor task image) where
         → first_fault task.width task.listing ≡ None → memory_width task.netlist.storages ≡ task.width → HasJobs task → TracesRight task.netlist image (strace task.width task.listing)
     made_traces room reached turns program wide jobs =
         ordered_right machine (kit_in 0) (is_kit 0 refl) image (greatest_reach (made.isas 0).rules) turns (task_memory task) task.listing jobs.turned task.works made.parts program wide jobs.held jobs.room made.layout.places jobs.only jobs.meant
-        (subst (λ flow. IsLaidCode machine (kit_in 0) image flow (task_works task) made.parts (greatest_reach (made.isas 0).rules)) jobs.flow (made_laid room reached))
+        (subst (λ flow. IsLaidCode machine (kit_in 0) image flow (task_jobs task) made.parts (greatest_reach (made.isas 0).rules)) jobs.flow (made_laid room reached))

@@ -2,7 +2,7 @@
 use Rattle.std.proofs.Common.{◌≡◌, ℕ, zero, suc, ◌<◌, min, max, bit_and, bit_or, Some, refl, sym, ◌∙◌, ap, arith}
 use Rattle.std.specs.Int.{bit_at}
 use Rattle.std.proofs.lemmas.Nat.Bits.{bit_at_and, bit_at_or, bit_at-lt, same_from_bits, bit_at-zero}
-use Rattle.net_model.specs.Terms.{Term}
+use Rattle.net_model.specs.Exprs.{ExprModel}
 use Rattle.net_model.specs.Fields.{fields}
 use Rattle.form_model.specs.Shapes.{shape_setting}
 use Rattle.emit_seq.proofs.Within.{shape_within}
@@ -64,5 +64,5 @@ or_none b f = same_from_bits (bit_and b (bit_or f 0)) (bit_and b f) at
         omega (arith, bit_at-lt b i, bit_at-lt f i)
 
 -- the bits that show a value are bits of the shape
-pub shape_bits : (e : Term) (v b : ℕ) → shape_setting e v ≡ Some b → bit_and b (fields e) ≡ b
+pub shape_bits : (e : ExprModel) (v b : ℕ) → shape_setting e v ≡ Some b → bit_and b (fields e) ≡ b
 shape_bits e v b h = within_mask b (fields e) (shape_within e v b h)

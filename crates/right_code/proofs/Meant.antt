@@ -4,31 +4,31 @@ use Rattle.rec_bits.proofs.Booleans.{both}
 use Rattle.rec_bits.specs.Operators.{apply1_of, apply2_of, slice_of, sext_of as extended_of}
 use Rattle.net_model.specs.declared.hardware.Space.TheVariants.{Memory as InMemory, File as InFile}
 use Rattle.net_model.specs.declared.states.State.{State}
-use Rattle.net_model.specs.Terms.{Term, word, reg, const, read, un, bin, slice, cat, zext, sext, select, term_width}
+use Rattle.net_model.specs.Exprs.{ExprModel, word, reg, const, read, un, bin, slice, cat, zext, sext, select, expr_width}
 use Rattle.net_model.specs.Meaning.{mean}
 use Rattle.form_model.specs.Trees.{is_tree}
 use Rattle.src_trees.specs.Seen.{tree_value, ReadsCells}
 use Rattle.emit_seq.specs.Leaves.{ReadsFrom as StateReads}
 
-pub tree_mean : (t : Term) (s : State) → is_tree t ≡ true → mean t s 0 ≡ tree_value s.cells t
+pub tree_mean : (t : ExprModel) (s : State) → is_tree t ≡ true → mean t s 0 ≡ tree_value s.cells t
 tree_mean (word w) s h = absurd (cc h)
 tree_mean (reg r w) s h = absurd (cc h)
 tree_mean (const w v) s h = refl
 tree_mean (read InMemory a w) s h = ap (slice_index s.cells) (tree_mean a s h)
 tree_mean (read InFile a w) s h = absurd (cc h)
-tree_mean (un o a) s h = ap (apply1_of o (term_width a)) (tree_mean a s h)
+tree_mean (un o a) s h = ap (apply1_of o (expr_width a)) (tree_mean a s h)
 tree_mean (bin o a b) s h =
     let k = both (is_tree a) (is_tree b) h in
     let p = tree_mean a s k.0 in
     let q = tree_mean b s k.1 in
-    (λ j. apply2_of o (term_width a) (p j) (q j))
+    (λ j. apply2_of o (expr_width a) (p j) (q j))
 tree_mean (slice a hi lo) s h = ap (λ n. slice_of n hi lo) (tree_mean a s h)
 tree_mean (cat a b) s h = absurd (cc h)
 tree_mean (zext a w) s h = tree_mean a s h
-tree_mean (sext a w) s h = ap (λ n. extended_of n (term_width a) w) (tree_mean a s h)
+tree_mean (sext a w) s h = ap (λ n. extended_of n (expr_width a) w) (tree_mean a s h)
 tree_mean (select c a b) s h = absurd (cc h)
 
-pub tree_reads : (at : ℕ) (t : Term) (s : State) → is_tree t ≡ true → ReadsCells at s.cells t → StateReads at s t
+pub tree_reads : (at : ℕ) (t : ExprModel) (s : State) → is_tree t ≡ true → ReadsCells at s.cells t → StateReads at s t
 tree_reads at (word w) s h r = tt
 tree_reads at (reg n w) s h r = tt
 tree_reads at (const w v) s h r = tt

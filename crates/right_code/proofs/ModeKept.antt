@@ -9,10 +9,10 @@ use Rattle.net_model.specs.declared.hardware.Netlist.{Netlist}
 use Rattle.net_model.specs.Nets.{IsRegister}
 use Rattle.net_model.specs.Patterns.{Pattern}
 use Rattle.form_model.specs.declared.forms.Step.{Step}
-use Rattle.form_model.specs.Covers.{Choice, Stock}
+use Rattle.form_model.specs.Covers.{JobCoverModel, StockModel}
 use Rattle.form_model.specs.Effects.{Operation, operation_of, writes}
 use Rattle.form_model.specs.Live.{Regs, group_reads, group_writes, live_before}
-use Rattle.form_model.specs.Rules.{Kind, Rule}
+use Rattle.form_model.specs.Forms.{GoalModel, FormModel}
 use Rattle.emit_seq.specs.Formed.{AreFormed, IsFormed, IsIntoReg}
 use Rattle.emit_seq.specs.Settles.{IsStepping}
 use Rattle.emit_seq.specs.Spares.{AreApart, AreShared, AreSpare, ReadsCounter}
@@ -24,7 +24,7 @@ use Rattle.word_fit.proofs.Least.{all_fit}
 use Rattle.compaction.specs.Packing.{all_steps}
 use Rattle.code_model.specs.Words.{KeepsMode}
 use Rattle.mode_set.specs.Keeping.{IsModeRegister}
-use Rattle.src_trees.specs.Lowered.{Work}
+use Rattle.src_trees.specs.Lowered.{JobModel}
 use Rattle.right_code.specs.Jobs.{IsCovered, job_steps, jobs_steps, tree_or_none, tree_used}
 use Rattle.right_code.specs.Inner.Jobs.{AreCovered}
 use Rattle.right_code.specs.Cuts.{with_mode}
@@ -87,11 +87,11 @@ module _ {A : Type 0} (m : A → Operation) (mode : ℕ) where
 -- ---- steps of covers by forms that keep the mode
 
 -- no clobbers of a form that goes into a register or into cells hold the mode
-abbrev pub AllKeep : ℕ → List Rule → Type 0
-AllKeep mode rules = (k : ℕ) (rule : Rule) → slice_get rules k ≡ Some rule → IsStepping rule.goal → bit_at rule.clobbers mode ≡ 0
+abbrev pub AllKeep : ℕ → List FormModel → Type 0
+AllKeep mode rules = (k : ℕ) (rule : FormModel) → slice_get rules k ≡ Some rule → IsStepping rule.goal → bit_at rule.clobbers mode ≡ 0
 
 -- of any forms, where there is no mode
-abbrev pub FormsKeep : Option ℕ → List Rule → Type 0
+abbrev pub FormsKeep : Option ℕ → List FormModel → Type 0
 FormsKeep None rules = Unit {0}
 FormsKeep (Some mode) rules = AllKeep mode rules
 
@@ -99,23 +99,23 @@ apart_both : {A : Type 0} (m : A → Operation) (mode : ℕ) (xs ys : List A) �
 apart_both m mode [] ys h k = k
 apart_both m mode (x ∷ xs) ys h k = (h.0, h.1, apart_both m mode xs ys h.2 k)
 
-module _ (stock : Stock) (file : Option ℕ) (patterns : List Pattern) (count mode : ℕ) (formed : AreFormed file patterns count stock.file stock.rules) (shared : AreShared stock.rules) (keep : AllKeep mode stock.rules) where
+module _ (stock : StockModel) (file : Option ℕ) (patterns : List Pattern) (count mode : ℕ) (formed : AreFormed file patterns count stock.file stock.rules) (shared : AreShared stock.rules) (keep : AllKeep mode stock.rules) where
   -- none of these forms goes into the mode, since it would clobber it
   no_form : ReadsCounter stock.rules mode
   no_form k rule at goal =
-      let f : IsIntoReg patterns count stock.file rule mode = subst (λ (g : Kind). IsFormed file patterns count stock.file rule g) goal (formed k rule at) in
+      let f : IsIntoReg patterns count stock.file rule mode = subst (λ (g : GoalModel). IsFormed file patterns count stock.file rule g) goal (formed k rule at) in
       let one : bit_at rule.clobbers mode ≡ 1 = f.clobbered in
       let none : bit_at rule.clobbers mode ≡ 0 = keep k rule at (subst IsStepping (sym goal) tt) in
       absurd (omega (arith, one, none))
 
   -- so no step of a cover reads or writes it
-  pub job_apart : (work : Work) (choice : Choice) → IsCovered stock work choice → AreApart (operation_of file patterns) mode (job_steps stock work choice)
+  pub job_apart : (work : JobModel) (choice : JobCoverModel) → IsCovered stock work choice → AreApart (operation_of file patterns) mode (job_steps stock work choice)
   job_apart work choice c =
       let s : AreSpare stock file patterns mode work.destination c.covers.tree choice.plan = steps_spare stock file patterns count mode formed shared no_form work.destination c.covers.tree choice.plan c.goes c.covers.orderly in
       let is : AreSpare stock file patterns mode work.destination (tree_used work choice) choice.plan = subst (λ t. AreSpare stock file patterns mode work.destination t choice.plan) (sym (ap tree_or_none c.covers.used)) s in
       is.apart
 
-  pub jobs_apart : (jobs : List Work) (choices : List Choice) → AreCovered stock jobs choices → AreApart (operation_of file patterns) mode (jobs_steps stock jobs choices)
+  pub jobs_apart : (jobs : List JobModel) (choices : List JobCoverModel) → AreCovered stock jobs choices → AreApart (operation_of file patterns) mode (jobs_steps stock jobs choices)
   jobs_apart [] [] c = tt
   jobs_apart [] (d ∷ choices) c = absurd c
   jobs_apart (t ∷ jobs) [] c = absurd c

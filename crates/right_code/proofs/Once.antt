@@ -6,7 +6,7 @@ use Rattle.std.proofs.lemmas.Nat.{and_comm}
 use Rattle.std.proofs.lemmas.Nat.Bits.{bit_at-zero, bit_at-lt, bit_at_ones, bit_at_mask_inside, bit_at_and, bit_at_or, same_from_bits as bit_same}
 use Rattle.net_model.specs.Fields.{fields}
 use Rattle.net_model.specs.Occurs.{registers}
-use Rattle.net_model.specs.Terms.{Term, word, reg, const, read, un, bin, slice, cat, zext, sext, select}
+use Rattle.net_model.specs.Exprs.{ExprModel, word, reg, const, read, un, bin, slice, cat, zext, sext, select}
 use Rattle.form_set.specs.Inner.Linear.{are_apart, is_linear, meet_in}
 use Rattle.form_model.specs.Bits.{uses}
 use Rattle.emit_seq.specs.Formed.{BitsApart, IsOnce}
@@ -14,7 +14,7 @@ use Rattle.emit_seq.proofs.BitUnions.{zero_left}
 use Rattle.right_code.proofs.Swapping.{is_word}
 
 -- instruction words have this many bits, and slices of them lie in it
-abbrev pub WordsIn : ℕ → Term → Type 0
+abbrev pub WordsIn : ℕ → ExprModel → Type 0
 WordsIn n (word w) = w ≡ n
 WordsIn n (reg r w) = Unit {0}
 WordsIn n (const w v) = Unit {0}
@@ -43,7 +43,7 @@ or_some : (a b : Bool) → (a || b) ≡ true → (a ≡ true) ⊎ (b ≡ true)
 or_some true b h = inl refl
 or_some false b h = inr h
 
-occurs : (n : ℕ) (t : Term) → WordsIn n t → (k : ℕ) → uses t k ≡ true → Occurs n (fields t) k
+occurs : (n : ℕ) (t : ExprModel) → WordsIn n t → (k : ℕ) → uses t k ≡ true → Occurs n (fields t) k
 occurs n (word w) f k u = inr (λ j l. bit_at_ones w j (omega (arith, f, l)))
 occurs n (reg r w) f k u = absurd (true≢false (sym u))
 occurs n (const w v) f k u = absurd (true≢false (sym u))
@@ -78,7 +78,7 @@ occurs n (select c a b) f k u =
     ]
 
 -- masks without a common bit
-pub apart_of : (n : ℕ) (a b : Term) → 0 < n → WordsIn n a → WordsIn n b → bit_and (fields a) (fields b) ≡ 0 → BitsApart a b
+pub apart_of : (n : ℕ) (a b : ExprModel) → 0 < n → WordsIn n a → WordsIn n b → bit_and (fields a) (fields b) ≡ 0 → BitsApart a b
 apart_of n a b p fa fb e k u = no_use (uses b k) refl
   where
     none : (j : ℕ) → bit_at (fields a) j ≡ 1 → bit_at (fields b) j ≡ 1 → ⊥
@@ -95,7 +95,7 @@ apart_of n a b p fa fb e k u = no_use (uses b k) refl
     no_use false q = q
 
 -- expressions that are apart have no common bit
-pub meet_none : (free : ℕ) (a b : Term) → are_apart free a b ≡ true → bit_and (fields a) (fields b) ≡ 0
+pub meet_none : (free : ℕ) (a b : ExprModel) → are_apart free a b ≡ true → bit_and (fields a) (fields b) ≡ 0
 meet_none free a b h =
     let p : (meet_in free (registers a) (registers b) ≡ true) × (meet_in 0 (fields a) (fields b) ≡ true) = and_parts _ _ h in
     let q : bit_or (bit_and (fields a) (fields b)) 0 ≡ 0 = eqb-true _ 0 p.1 in
@@ -103,7 +103,7 @@ meet_none free a b h =
     zero_left (bit_and (fields a) (fields b)) 0 i z ∙ sym (bit_at-zero i))
 
 -- a linear expression
-pub once_of : (n : ℕ) (free : ℕ) (t : Term) → 0 < n → WordsIn n t → is_linear free t ≡ true → IsOnce t
+pub once_of : (n : ℕ) (free : ℕ) (t : ExprModel) → 0 < n → WordsIn n t → is_linear free t ≡ true → IsOnce t
 once_of n free (word w) p f h = tt
 once_of n free (reg r w) p f h = tt
 once_of n free (const w v) p f h = tt

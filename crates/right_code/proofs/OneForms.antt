@@ -2,7 +2,7 @@
 use Rattle.std.proofs.Common.{ℕ, ◌≡◌, inl, inr, List, [], ◌∷◌, Option, sym, ◌∙◌, ap, subst}
 use Rattle.net_model.specs.declared.hardware.Netlist.{Netlist}
 use Rattle.net_model.specs.Patterns.{Pattern}
-use Rattle.form_model.specs.Rules.{Rule}
+use Rattle.form_model.specs.Forms.{FormModel}
 use Rattle.form_set.specs.Listing.{AreForms}
 use Rattle.form_set.proofs.OneList.{forms_one}
 use Rattle.transfer_set.proofs.OnePatterns.{patterns_one}
@@ -10,19 +10,19 @@ use Rattle.mode_set.specs.Keeping.{AreKeeping, Isa, Isas, held}
 use Rattle.net_model.specs.ModeRules.{base_at}
 use Rattle.right_code.specs.Forms.{AreFormsOf}
 
-pub forms_of_one : (netlist : Netlist) (rules others : List Rule) (reach other : ℕ) → AreFormsOf netlist rules reach → AreFormsOf netlist others other → (rules ≡ others) × (reach ≡ other)
+pub forms_of_one : (netlist : Netlist) (rules others : List FormModel) (reach other : ℕ) → AreFormsOf netlist rules reach → AreFormsOf netlist others other → (rules ≡ others) × (reach ≡ other)
 forms_of_one netlist rules others reach other a b =
     forms_one netlist b.patterns rules others reach other
     (subst (λ ps. AreForms netlist ps rules reach) (patterns_one netlist a.patterns b.patterns a.are b.are) a.forms) b.forms
 
 -- ---- forms that keep the mode
 
-pub kept_one : (netlist : Netlist) (patterns : List Pattern) (o : Option ℕ) (all kept others : List Rule) → AreKeeping netlist patterns o all kept → AreKeeping netlist patterns o all others → kept ≡ others
+pub kept_one : (netlist : Netlist) (patterns : List Pattern) (o : Option ℕ) (all kept others : List FormModel) → AreKeeping netlist patterns o all kept → AreKeeping netlist patterns o all others → kept ≡ others
 kept_one netlist patterns o [] kept others h k = h ∙ sym k
 kept_one netlist patterns o (rule ∷ all) kept others h k =
     elim h.2 as (λ _. kept ≡ others) [
       | inl x ↦ elim k.2 as (λ _. kept ≡ others) [
-        | inl y ↦ x.1 ∙ ap (λ (list : List Rule). rule ∷ list) (kept_one netlist patterns o all h.0 k.0 h.1 k.1) ∙ sym y.1
+        | inl y ↦ x.1 ∙ ap (λ (list : List FormModel). rule ∷ list) (kept_one netlist patterns o all h.0 k.0 h.1 k.1) ∙ sym y.1
         | inr y ↦ absurd (y.0 x.0)
       ]
       | inr x ↦ elim k.2 as (λ _. kept ≡ others) [
@@ -49,7 +49,7 @@ module _ (netlist : Netlist) (v : ℕ) (a b : Isa netlist v) where
       (subst (λ ps. AreKeeping (base_at netlist v) ps netlist.special a.all a.rules) patterns_alike a.kept)) b.kept
 
 -- in every mode
-pub all_one : (netlist : Netlist) (a b : Isas netlist) → ◌≡◌ {A = ℕ → List Rule} (λ v. (a v).all) (λ v. (b v).all)
+pub all_one : (netlist : Netlist) (a b : Isas netlist) → ◌≡◌ {A = ℕ → List FormModel} (λ v. (a v).all) (λ v. (b v).all)
 all_one netlist a b = λ j v. all_alike netlist (held netlist v) (a v) (b v) j
 
 pub rules_one : (netlist : Netlist) (a b : Isas netlist) (v : ℕ) → (a v).rules ≡ (b v).rules

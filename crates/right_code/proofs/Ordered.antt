@@ -4,31 +4,31 @@ use Rattle.net_model.specs.declared.hardware.Netlist.{Netlist}
 use Rattle.net_model.specs.CheckedRules.{KeepsRules}
 use Rattle.net_model.specs.Nets.{memory_size, memory_width}
 use Rattle.net_model.specs.Patterns.{Pattern}
-use Rattle.src_model.specs.Written.{Listing, acts_of}
+use Rattle.src_model.specs.Written.{ProgramModel, stmts_of}
 use Rattle.src_model.specs.Rules.{first_fault}
 use Rattle.src_model.specs.Trace.{strace}
 use Rattle.code_model.specs.declared.image.Image.{Image}
 use Rattle.code_model.specs.Places.{words_of}
 use Rattle.form_model.specs.declared.flow.Flow.{Flow}
 use Rattle.form_model.specs.Shapes.{shape_setting}
-use Rattle.form_model.specs.Rules.{Rule}
-use Rattle.form_model.specs.Covers.{Stock}
+use Rattle.form_model.specs.Forms.{FormModel}
+use Rattle.form_model.specs.Covers.{StockModel}
 use Rattle.block_words.specs.Laws.{operation_in}
 use Rattle.form_model.specs.Steps.{branch_setting}
 use Rattle.word_fit.specs.Fits.{fits_over, FitsJump}
 use Rattle.word_fit.proofs.Least.{all_fit}
-use Rattle.src_trees.specs.Lowered.{MemoryMap, Work}
+use Rattle.src_trees.specs.Lowered.{MemoryMap, JobModel}
 use Rattle.src_trees.specs.Flows.{places_in, program_flow}
 use Rattle.src_trees.specs.Held.{HasCellRoom, HoldsVars}
 use Rattle.src_trees.specs.Meant.{DoProgram}
-use Rattle.src_trees.specs.Turned.{Turns, TurnsTests, told_works, turned_flow}
-use Rattle.branch_fix.specs.Parts.{rule_at_one, kind_at_one, room, starts, address}
+use Rattle.src_trees.specs.Turned.{Turns, TurnsTests, jobs_of_told, turned_flow}
+use Rattle.branch_fix.specs.Parts.{form_at_one, goal_at_one, room, starts, address}
 use Rattle.branch_fix.specs.Items.{groups, jump_form, jump_step, branch_step, behind, part_items}
 use Rattle.branch_fix.specs.Made.{image_word}
 use Rattle.branch_fix.specs.Inner.Flowing.{IsFlow}
-use Rattle.branch_fix.specs.declared.part.Fork.{Fork}
-use Rattle.branch_fix.specs.declared.part.Part.{Part}
-use Rattle.branch_fix.specs.declared.part.Part.TheVariants.{Block, Test, Jump, End}
+use Rattle.branch_fix.specs.declared.part.BranchedTest.{BranchedTest}
+use Rattle.branch_fix.specs.declared.part.LayoutPart.{LayoutPart}
+use Rattle.branch_fix.specs.declared.part.LayoutPart.TheVariants.{Block, Test, Jump, End}
 use Rattle.branch_fix.proofs.Shapes.{program_is_flow}
 use Rattle.branch_fix.proofs.TurnedFlows.{turned_is_flow}
 use Rattle.branch_fix.proofs.Words.{groups_length}
@@ -36,7 +36,7 @@ use Rattle.right_code.specs.Jobs.{tree_used}
 use Rattle.word_fit.specs.Runs.{StandAt}
 use Rattle.branch_fix.specs.Sections.{Section, section_room, sections_room}
 use Rattle.right_code.specs.Inner.Blocks.{AreSectionsMade, IsBlockMade, IsKit, IsModeBlockMade, IsModeWordMade, IsSectionMade, Kit, Machine}
-use Rattle.right_code.specs.Forks.{plan_rule}
+use Rattle.right_code.specs.Forks.{cover_form}
 use Rattle.right_code.specs.Inner.Forks.{IsJumpMade, IsForkMade, BehindMade, test_of}
 use Rattle.code_model.specs.Right.{TracesRight}
 use Rattle.right_code.specs.Inner.Code.{IsMadeCode}
@@ -64,7 +64,7 @@ length_both (x ∷ xs) ys = let h = length_both xs ys in omega (arith, h)
 
 module _ (m : Machine) (kit : Kit) (image : Image) where
   -- jobs of one mode
-  jobs_made : (own : Kit) (works : List Work) (at n : ℕ) (words : List ℕ) → IsBlockReady own.netlist m.netlist.special own.patterns own.stock works words n → StandAt (words_of image) at words
+  jobs_made : (own : Kit) (works : List JobModel) (at n : ℕ) (words : List ℕ) → IsBlockReady own.netlist m.netlist.special own.patterns own.stock works words n → StandAt (words_of image) at words
       → IsBlockMade own.netlist m.netlist.special own.patterns own.stock image works at n
   jobs_made own works at n words r there = record {
     choices = r.choices;
@@ -79,11 +79,11 @@ module _ (m : Machine) (kit : Kit) (image : Image) where
     kept = r.kept;
   }
 
-  pub record SectionStands (v : ℕ) (works : List Work) (at n : ℕ) (words : List ℕ) : Type 0 where
+  pub record SectionStands (v : ℕ) (works : List JobModel) (at n : ℕ) (words : List ℕ) : Type 0 where
     pub made : IsSectionMade m kit image v works at n
     pub long : length words ≡ section_room v n
 
-  section_made : (v : ℕ) (works : List Work) (at n : ℕ) (words : List ℕ) → IsSectionReady m kit v works n words → StandAt (words_of image) at words → SectionStands v works at n words
+  section_made : (v : ℕ) (works : List JobModel) (at n : ℕ) (words : List ℕ) → IsSectionReady m kit v works n words → StandAt (words_of image) at words → SectionStands v works at n words
   section_made zero works at n words r there = record { made = jobs_made kit works at n words r there; long = sym r.long }
   section_made (suc v) works at n words r there =
       let other : Kit = r.0 in
@@ -131,7 +131,7 @@ module _ (m : Machine) (kit : Kit) (order : List ℕ) (keeps : KeepsRules kit.ne
   abbrev patterns : List Pattern
   patterns = kit.patterns
 
-  abbrev stock : Stock
+  abbrev stock : StockModel
   stock = kit.stock
 
   jump_made : (i to : ℕ) → FitsTurn netlist special i (operation_in netlist patterns (jump_step (jump_form stock.rules reach) to)) → to < reach → IsJumpMade netlist special patterns i to
@@ -154,15 +154,15 @@ module _ (m : Machine) (kit : Kit) (order : List ℕ) (keeps : KeepsRules kit.ne
 
   -- ---- the words of its parts
 
-  module _ (flow : List Flow) (jobs : List Work) (parts : List Part) (end : ℕ) (f : IsFlow flow end) (upto : Upto end flow) (laid : IsLaidCode m kit image flow jobs parts reach) where
-    stands : (k : ℕ) (p : Part) → slice_get parts k ≡ Some p
+  module _ (flow : List Flow) (jobs : List JobModel) (parts : List LayoutPart) (end : ℕ) (f : IsFlow flow end) (upto : Upto end flow) (laid : IsLaidCode m kit image flow jobs parts reach) where
+    stands : (k : ℕ) (p : LayoutPart) → slice_get parts k ≡ Some p
         → StandItems netlist special patterns laid.words (words_of image) (address parts k) (part_items stock.rules (jump_form stock.rules reach) (starts parts) (address parts k) p)
     stands k p e = part_stands netlist special patterns laid.words (words_of image) stock.rules (jump_form stock.rules reach) (starts parts) 0 parts k p (address parts k) e (omega arith) laid.stand
 
-    fork_made : (at : ℕ) (g : Fork) → slice_get parts at ≡ Some (Test g) → (job : Work) → IsForkReady netlist special patterns stock job (laid.words g.block) g
-        → IsForkMade netlist special patterns stock image job (rule_at_one (slice_get stock.rules g.form)) g (address parts at) (address parts g.to) (address parts g.other)
+    fork_made : (at : ℕ) (g : BranchedTest) → slice_get parts at ≡ Some (Test g) → (job : JobModel) → IsForkReady netlist special patterns stock job (laid.words g.block) g
+        → IsForkMade netlist special patterns stock image job (form_at_one (slice_get stock.rules g.form)) g (address parts at) (address parts g.to) (address parts g.other)
     fork_made at g e job r =
-        let rule : Rule = plan_rule stock r.choice.plan in
+        let rule : FormModel = cover_form stock r.choice.plan in
         let a : ℕ = address parts at in
         let from : ℕ = a + g.words in
         let setting : ℕ = branch_setting stock (tree_used (test_of job) r.choice) r.choice.plan in
@@ -174,7 +174,7 @@ module _ (m : Machine) (kit : Kit) (order : List ℕ) (keeps : KeepsRules kit.ne
         let other_is : slice_index (starts parts) g.other ≡ address parts g.other = address_is parts g.other (omega (arith, in_other)) in
         let s = stand_split netlist special patterns laid.words (words_of image) (groups g.block 0 g.words) _ a from (ap (λ n. a + n) (sym (groups_length g.block 0 g.words))) (stands at (Test g) e) in
         let word : FitsTurn netlist special (image_word image from) (operation_in netlist patterns (branch_step (slice_get stock.rules g.form) g.setting from (slice_index (starts parts) g.to) g.long)) = s.1.0.is in
-        subst (λ b. IsForkMade netlist special patterns stock image job b g a (address parts g.to) (address parts g.other)) (sym (ap rule_at_one r.form ∙ ap kind_at_one step.goal)) (record {
+        subst (λ b. IsForkMade netlist special patterns stock image job b g a (address parts g.to) (address parts g.other)) (sym (ap form_at_one r.form ∙ ap goal_at_one step.goal)) (record {
           choice = r.choice;
           operands = record {
             covered = r.covered;
@@ -201,7 +201,7 @@ module _ (m : Machine) (kit : Kit) (order : List ℕ) (keeps : KeepsRules kit.ne
         })
 
     -- the words of a block, where they stand
-    block_made : (at n block size : ℕ) → slice_get parts at ≡ Some (Block block size) → (works : List Work) → IsModeBlockReady m kit works (laid.words block) size
+    block_made : (at n block size : ℕ) → slice_get parts at ≡ Some (Block block size) → (works : List JobModel) → IsModeBlockReady m kit works (laid.words block) size
         → IsModeBlockMade m kit image works (address parts at) size
     block_made at n block size e works r =
         let there : StandAt (words_of image) (address parts at) (laid.words block) =
@@ -227,12 +227,12 @@ module _ (m : Machine) (kit : Kit) (order : List ℕ) (keeps : KeepsRules kit.ne
 
 -- and traces the program, with each mark in mode 0
 pub ordered_right : (m : Machine) (kit : Kit) (are : IsKit m 0 kit) (image : Image) (reach : ℕ)
-    → AreTurns kit.netlist kit.patterns kit.stock.rules reach → (mem : MemoryMap) (l : Listing) (turned : Turns) (jobs : List Work) (parts : List Part) → first_fault mem.word l ≡ None → memory_width m.netlist.storages ≡ mem.word
-    → HoldsVars m.temps l.vars mem → HasCellRoom m.temps mem (memory_size m.netlist.storages) → image.places ≡ mem.places → TurnsTests turned (program_flow l) → DoProgram mem m.temps l (told_works turned jobs)
+    → AreTurns kit.netlist kit.patterns kit.stock.rules reach → (mem : MemoryMap) (l : ProgramModel) (turned : Turns) (jobs : List JobModel) (parts : List LayoutPart) → first_fault mem.word l ≡ None → memory_width m.netlist.storages ≡ mem.word
+    → HoldsVars m.temps l.vars mem → HasCellRoom m.temps mem (memory_size m.netlist.storages) → image.places ≡ mem.places → TurnsTests turned (program_flow l) → DoProgram mem m.temps l (jobs_of_told turned jobs)
     → IsLaidCode m kit image (turned_flow turned (program_flow l)) jobs parts reach
     → TracesRight m.netlist image (strace mem.word l)
 ordered_right m kit are image reach turns mem l turned jobs parts kept wide held room places only does laid =
-    let end : ℕ = places_in (acts_of l.body) in
+    let end : ℕ = places_in (stmts_of l.body) in
     code_right m kit are image mem l turned jobs parts kept wide held room places only does
     (laid_made m kit are.order are.keeps image reach turns (turned_flow turned (program_flow l)) jobs parts end (turned_is_flow turned (program_flow l) end (program_is_flow l)) (turned_upto turned end (program_flow l) (program_upto l)) laid)
     laid.long

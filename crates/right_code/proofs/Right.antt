@@ -5,14 +5,14 @@ use Rattle.std.proofs.Common.{◌≡◌, zero, suc, [], ◌∷◌, Option, Some,
 use Rattle.net_model.specs.declared.hardware.Space.TheVariants.{File as InFile}
 use Rattle.net_model.specs.CheckedRules.{code_size, IsMode}
 use Rattle.net_model.specs.Widths.{WordFits}
-use Rattle.src_model.specs.Written.{acts_of}
+use Rattle.src_model.specs.Written.{stmts_of}
 use Rattle.src_model.specs.Rules.{temp_count}
 use Rattle.src_model.specs.Trace.{strace}
 use Rattle.code_model.specs.declared.image.Image.{Image}
 use Rattle.code_model.specs.Places.{words_of}
 use Rattle.code_model.specs.Right.{TracesRight}
-use Rattle.form_model.specs.Covers.{Choice, IsChosen}
-use Rattle.form_model.specs.Rules.{Rule, tested}
+use Rattle.form_model.specs.Covers.{JobCoverModel, IsChosen}
+use Rattle.form_model.specs.Forms.{FormModel, tested}
 use Rattle.form_model.specs.declared.forms.Step.{Step}
 use Rattle.form_model.specs.Live.{Regs, no_regs, singles}
 use Rattle.form_model.specs.Steps.{branch_setting}
@@ -24,20 +24,20 @@ use Rattle.net_model.proofs.WordWidths.{has_bits}
 use Rattle.form_set.specs.Listing.{greatest_reach}
 use Rattle.net_model.proofs.Bases.{base_of}
 use Rattle.net_model.proofs.ModeFaults.{some_modes}
-use Rattle.mode_set.specs.Costs.{Planned}
+use Rattle.mode_set.specs.Costs.{PlanModel}
 use Rattle.mode_set.specs.Keeping.{IsModeRegister, Isas, held}
 use Rattle.net_model.specs.ModeRules.{KeepsInOrder, base_at, modes_in}
 use Rattle.src_trees.specs.Blocks.{jobs_at}
 use Rattle.src_trees.specs.Flows.{places_in}
-use Rattle.src_trees.specs.Lowered.{Work}
+use Rattle.src_trees.specs.Lowered.{JobModel}
 use Rattle.src_trees.specs.Measures.{AllSmall, IsSmall}
 use Rattle.branch_fix.specs.Inner.Flowing.{IsFlow}
 use Rattle.branch_fix.specs.Items.{items_from, jump_form}
 use Rattle.branch_fix.specs.Parts.{PartsFit, address, starts, total}
 use Rattle.branch_fix.specs.declared.laid.Item.TheVariants.{Jump}
-use Rattle.branch_fix.specs.declared.part.Fork.{Fork}
-use Rattle.branch_fix.specs.declared.part.Part.TheVariants.{Test}
-use Rattle.branch_fix.specs.declared.part.Part.{Part}
+use Rattle.branch_fix.specs.declared.part.BranchedTest.{BranchedTest}
+use Rattle.branch_fix.specs.declared.part.LayoutPart.TheVariants.{Test}
+use Rattle.branch_fix.specs.declared.part.LayoutPart.{LayoutPart}
 use Rattle.branch_fix.proofs.Addresses.{fit_length}
 use Rattle.branch_fix.proofs.Laying.{settled_fit}
 use Rattle.right_code.specs.Bounded.{HasBound}
@@ -51,7 +51,7 @@ use Rattle.right_code.specs.Images.{IsBranchOf, IsMadeFor, IsRightImage}
 use Rattle.right_code.specs.Inner.Blocks.{IsKit}
 use Rattle.right_code.specs.Inner.Laid.{AreTurns, IsLaidCode}
 use Rattle.right_code.specs.Jobs.{IsCovered, job_steps, jobs_steps, tree_or_none, tree_used}
-use Rattle.right_code.specs.Tasks.{IsChecked, Task, task_works}
+use Rattle.right_code.specs.Tasks.{IsChecked, Task, task_jobs}
 use Rattle.right_code.proofs.Chosen.{AllMode, CutsCovered, as_test, block_covered, cuts_covered, own_net, run_covered, test_plan}
 use Rattle.right_code.proofs.Covered.{covered_of}
 use Rattle.right_code.proofs.Fitting.{code_fits, word_in}
@@ -65,14 +65,14 @@ use Rattle.right_code.proofs.Made.{FormsGive, has_in, is_kit, kit_in, machine, m
 use Rattle.right_code.proofs.OneBound.{made_reached}
 use Rattle.right_code.specs.Works.{AllOne, IsTestJob, node_limit}
 use Rattle.right_code.proofs.TaskFlows.{task_is_flow, task_upto}
-use Rattle.right_code.proofs.Tasks.{test_work_of}
+use Rattle.right_code.proofs.Tasks.{test_job_of}
 
 -- a job of small jobs is small
-small_at : (bits temps most : ℕ) (works : List Work) (k : ℕ) (job : Work) → AllSmall bits temps most works → slice_get works k ≡ Some job → IsSmall bits temps most job
+small_at : (bits temps most : ℕ) (works : List JobModel) (k : ℕ) (job : JobModel) → AllSmall bits temps most works → slice_get works k ≡ Some job → IsSmall bits temps most job
 small_at bits temps most [] k job h e = absurd (cc e)
 small_at bits temps most (w ∷ works) zero job h e = subst (IsSmall bits temps most) (same w job e) h.0
   where
-    same : (x y : Work) → Some x ≡ Some y → x ≡ y
+    same : (x y : JobModel) → Some x ≡ Some y → x ≡ y
     same x y e = cc
 small_at bits temps most (w ∷ works) (suc k) job h e = small_at bits temps most works k job h.1 e
 
@@ -108,16 +108,16 @@ module _ (task : Task) (checked : IsChecked task) where
   same_codes v = (base_of task.netlist task.netlist.special (held task.netlist v)).codes
 
   -- the trees are small
-  pub small : AllSmall task.width (temp_count task.width task.listing) node_limit (task_works task)
+  pub small : AllSmall task.width (temp_count task.width task.listing) node_limit (task_jobs task)
   small = checked.jobs.small
 
   -- parts of the program have words
-  some_total : (rules : List Rule) (parts : List Part) → PartsFit rules task.flow 0 task.flow parts → 1 ≤ total parts
+  some_total : (rules : List FormModel) (parts : List LayoutPart) → PartsFit rules task.flow 0 task.flow parts → 1 ≤ total parts
   some_total rules parts fits =
-      let f : IsFlow task.flow (places_in (acts_of task.listing.body)) = task_is_flow task checked.jobs in
+      let f : IsFlow task.flow (places_in (stmts_of task.listing.body)) = task_is_flow task checked.jobs in
       let n = fit_length rules task.flow 0 task.flow parts fits in
       let l = f.long in
-      let a : address parts 0 < total parts = within_code rules task.flow (places_in (acts_of task.listing.body)) parts 0 f fits (omega (arith, n, l)) in
+      let a : address parts 0 < total parts = within_code rules task.flow (places_in (stmts_of task.listing.body)) parts 0 f fits (omega (arith, n, l)) in
       omega (arith, a)
 
   -- ---- the forms
@@ -134,8 +134,8 @@ module _ (task : Task) (checked : IsChecked task) where
     turns some =
         given_turns (base_at task.netlist 0) (keeps 0).order (keeps 0).rules (isas 0).patterns (isas 0).are (isas 0).all (isas 0).most (isas 0).forms task.netlist.special (isas 0).rules (isas 0).kept some
 
-    pub job_covered : (v number : ℕ) (job : Work) → slice_get (task_works task) number ≡ Some job → (choice : Choice) → IsChosen (mode_stock task isas v) job.destination job.trees choice → IsCovered (mode_stock task isas v) job choice
-    job_covered v number job at choice c = covered_of task.width (mode_stock task isas v) (give v).reads node_limit job choice (small_at task.width (temp_count task.width task.listing) node_limit (task_works task) number job small at) c
+    pub job_covered : (v number : ℕ) (job : JobModel) → slice_get (task_jobs task) number ≡ Some job → (choice : JobCoverModel) → IsChosen (mode_stock task isas v) job.destination job.trees choice → IsCovered (mode_stock task isas v) job choice
+    job_covered v number job at choice c = covered_of task.width (mode_stock task isas v) (give v).reads node_limit job choice (small_at task.width (temp_count task.width task.listing) node_limit (task_jobs task) number job small at) c
 
     -- ---- words of steps
 
@@ -145,7 +145,7 @@ module _ (task : Task) (checked : IsChecked task) where
     register_in : (v : ℕ) → IsModeRegister task.netlist.special (own_net task isas v)
     register_in v = has_in task.netlist.special task.netlist (own_net task isas v) (sym (same_storages v)) register
 
-    one : AllOne (task_works task)
+    one : AllOne (task_jobs task)
     one = checked.jobs.one
 
     covers_at : (cuts : List Cut) (k : ℕ) (x : Cut) → CutsCovered task isas cuts → slice_get cuts k ≡ Some x → AreCovered (mode_stock task isas x.mode) x.jobs x.choices
@@ -157,65 +157,65 @@ module _ (task : Task) (checked : IsChecked task) where
     covers_at (y ∷ cuts) (suc k) x c e = covers_at cuts k x c.1 e
 
     -- the steps of covers by the forms of a mode have words
-    steps_words : (v : ℕ) (jobs : List Work) (choices : List Choice) (live : Regs) → AreCovered (mode_stock task isas v) jobs choices → ((r : ℕ) → live r ≡ true → with_mode task.netlist.special no_regs r ≡ true)
+    steps_words : (v : ℕ) (jobs : List JobModel) (choices : List JobCoverModel) (live : Regs) → AreCovered (mode_stock task isas v) jobs choices → ((r : ℕ) → live r ≡ true → with_mode task.netlist.special no_regs r ≡ true)
         → AllHaveWords (operation_in (own_net task isas v) (isas v).patterns) (fits_over (own_net task isas v) (operation_in (own_net task isas v) (isas v).patterns)) (singles (jobs_steps (mode_stock task isas v) jobs choices)) live
     steps_words v jobs choices live c f =
         block_words (own_net task isas v) (keeps v).order (keeps v).rules (has_bits (own_net task isas v) (keeps v).order (keeps v).rules) (isas v).patterns (known_of (own_net task isas v) (keeps v).order (keeps v).rules (isas v).patterns (isas v).are) (isas v).most (isas v).all (isas v).forms.list
         (mode_stock task isas v) (sized v) (part_of (own_net task isas v) (isas v).patterns task.netlist.special (isas v).all (isas v).rules (isas v).kept) task.netlist.special
         (forms_keep (own_net task isas v) (isas v).patterns task.netlist.special (isas v).all (isas v).rules (isas v).kept) jobs choices live c f
 
-    module _ (plans : List Planned) (planned : ArePlans task isas plans) where
-      pub cut_words_of : (at n k : ℕ) (x : Cut) → slice_get (cuts_of (jobs_at task.flow (task_works task) at n) (plans_at task.flow plans at n)) k ≡ Some x
+    module _ (plans : List PlanModel) (planned : ArePlans task isas plans) where
+      pub cut_words_of : (at n k : ℕ) (x : Cut) → slice_get (cuts_of (jobs_at task.flow (task_jobs task) at n) (plans_at task.flow plans at n)) k ≡ Some x
           → (live : Regs) → ((r : ℕ) → live r ≡ true → with_mode task.netlist.special no_regs r ≡ true)
           → AllHaveWords (operation_in (own_net task isas x.mode) (isas x.mode).patterns) (fits_over (own_net task isas x.mode) (operation_in (own_net task isas x.mode) (isas x.mode).patterns)) (singles (jobs_steps (mode_stock task isas x.mode) x.jobs x.choices)) live
       cut_words_of at n k x e live less =
           steps_words x.mode x.jobs x.choices live
-          (covers_at (cuts_of (jobs_at task.flow (task_works task) at n) (plans_at task.flow plans at n)) k x
-          (cuts_covered task isas (jobs_at task.flow (task_works task) at n) (plans_at task.flow plans at n)
+          (covers_at (cuts_of (jobs_at task.flow (task_jobs task) at n) (plans_at task.flow plans at n)) k x
+          (cuts_covered task isas (jobs_at task.flow (task_jobs task) at n) (plans_at task.flow plans at n)
           (block_covered task isas (λ v. (give v).reads) node_limit small one plans planned task.flow at n)) e) less
 
       -- and each step of neighbouring jobs whose plans are of one mode
       pub run_words_of : (v at n : ℕ) → AllMode v (plans_at task.flow plans at n) → (live : Regs) → ((r : ℕ) → live r ≡ true → with_mode task.netlist.special no_regs r ≡ true)
           → AllHaveWords (operation_in (own_net task isas v) (isas v).patterns) (fits_over (own_net task isas v) (operation_in (own_net task isas v) (isas v).patterns))
-          (singles (jobs_steps (mode_stock task isas v) (jobs_at task.flow (task_works task) at n) (plan_choices (plans_at task.flow plans at n)))) live
+          (singles (jobs_steps (mode_stock task isas v) (jobs_at task.flow (task_jobs task) at n) (plan_choices (plans_at task.flow plans at n)))) live
       run_words_of v at n all live less =
-          steps_words v (jobs_at task.flow (task_works task) at n) (plan_choices (plans_at task.flow plans at n)) live
-          (run_covered task isas v (jobs_at task.flow (task_works task) at n) (plans_at task.flow plans at n) all
+          steps_words v (jobs_at task.flow (task_jobs task) at n) (plan_choices (plans_at task.flow plans at n)) live
+          (run_covered task isas v (jobs_at task.flow (task_jobs task) at n) (plans_at task.flow plans at n) all
           (block_covered task isas (λ v. (give v).reads) node_limit small one plans planned task.flow at n)) less
 
-      test_covered : (number : ℕ) (job : Work) (own : Planned) → slice_get (task_works task) number ≡ Some job → slice_get plans number ≡ Some own → job.destination ≡ tested → IsCovered (mode_stock task isas 0) (test_of job) own.choice
+      test_covered : (number : ℕ) (job : JobModel) (own : PlanModel) → slice_get (task_jobs task) number ≡ Some job → slice_get plans number ≡ Some own → job.destination ≡ tested → IsCovered (mode_stock task isas 0) (test_of job) own.choice
       test_covered number job own at there e =
-          let d = test_plan task isas (λ v. (give v).reads) node_limit small one plans planned (task_works task) plans number job small planned at e in
+          let d = test_plan task isas (λ v. (give v).reads) node_limit small one plans planned (task_jobs task) plans number job small planned at e in
           let same : d.0 ≡ own = one_plan d.0 own (sym d.1 ∙ there) in
-          subst (λ (x : Work). IsCovered (mode_stock task isas 0) x own.choice) (sym (as_test job e)) (subst (λ (p : Planned). IsCovered (mode_stock task isas 0) job p.choice) same d.2)
+          subst (λ (x : JobModel). IsCovered (mode_stock task isas 0) x own.choice) (sym (as_test job e)) (subst (λ (p : PlanModel). IsCovered (mode_stock task isas 0) job p.choice) same d.2)
         where
-          one_plan : (a b : Planned) → Some a ≡ Some b → a ≡ b
+          one_plan : (a b : PlanModel) → Some a ≡ Some b → a ≡ b
           one_plan a b e = cc
 
       -- and each step of a test
-      pub test_words_of : (number : ℕ) (job : Work) (own : Planned) → slice_get (task_works task) number ≡ Some job → slice_get plans number ≡ Some own → job.destination ≡ tested
+      pub test_words_of : (number : ℕ) (job : JobModel) (own : PlanModel) → slice_get (task_jobs task) number ≡ Some job → slice_get plans number ≡ Some own → job.destination ≡ tested
           → (live : Regs) → ((r : ℕ) → live r ≡ true → with_mode task.netlist.special (wanted (mode_stock task isas 0) tested (tree_used job own.choice) own.choice.plan) r ≡ true)
           → AllHaveWords (operation_in (own_net task isas 0) (isas 0).patterns) (fits_over (own_net task isas 0) (operation_in (own_net task isas 0) (isas 0).patterns)) (singles (job_steps (mode_stock task isas 0) job own.choice)) live
       test_words_of number job own at there e live less =
-          subst (λ (x : Work). AllHaveWords (operation_in (own_net task isas 0) (isas 0).patterns) (fits_over (own_net task isas 0) (operation_in (own_net task isas 0) (isas 0).patterns)) (singles (job_steps (mode_stock task isas 0) x own.choice)) live) (as_test job e)
+          subst (λ (x : JobModel). AllHaveWords (operation_in (own_net task isas 0) (isas 0).patterns) (fits_over (own_net task isas 0) (operation_in (own_net task isas 0) (isas 0).patterns)) (singles (job_steps (mode_stock task isas 0) x own.choice)) live) (as_test job e)
           (test_words (own_net task isas 0) (keeps 0).order (keeps 0).rules (has_bits (own_net task isas 0) (keeps 0).order (keeps 0).rules) (isas 0).patterns (known_of (own_net task isas 0) (keeps 0).order (keeps 0).rules (isas 0).patterns (isas 0).are) (isas 0).most (isas 0).all (isas 0).forms.list
           (mode_stock task isas 0) (sized 0) (part_of (own_net task isas 0) (isas 0).patterns task.netlist.special (isas 0).all (isas 0).rules (isas 0).kept) task.netlist.special
           (forms_keep (own_net task isas 0) (isas 0).patterns task.netlist.special (isas 0).all (isas 0).rules (isas 0).kept) job own.choice live (test_covered number job own at there e) less)
 
       -- and each jump and branch of a layout
-      some_reach : (parts : List Part) → IsLayout (isas 0).rules task.flow parts (greatest_reach (isas 0).rules) → 1 ≤ greatest_reach (isas 0).rules
+      some_reach : (parts : List LayoutPart) → IsLayout (isas 0).rules task.flow parts (greatest_reach (isas 0).rules) → 1 ≤ greatest_reach (isas 0).rules
       some_reach parts layout =
           let fits : PartsFit (isas 0).rules task.flow 0 task.flow parts = settled_fit (isas 0).rules task.flow layout.sizes layout.settings parts layout.settled in
           let a = some_total (isas 0).rules parts fits in
           let r = layout.reached in
           omega (arith, a, r)
 
-      pub jump_words_of : (parts : List Part) → IsLayout (isas 0).rules task.flow parts (greatest_reach (isas 0).rules)
-          → ((at : ℕ) (f : Fork) → slice_get parts at ≡ Some (Test f) → (job : Work) → slice_get (task_works task) f.tree ≡ Some job → (own : Planned) → slice_get plans f.tree ≡ Some own → IsBranchOf (mode_stock task isas 0) job own.choice f)
+      pub jump_words_of : (parts : List LayoutPart) → IsLayout (isas 0).rules task.flow parts (greatest_reach (isas 0).rules)
+          → ((at : ℕ) (f : BranchedTest) → slice_get parts at ≡ Some (Test f) → (job : JobModel) → slice_get (task_jobs task) f.tree ≡ Some job → (own : PlanModel) → slice_get plans f.tree ≡ Some own → IsBranchOf (mode_stock task isas 0) job own.choice f)
           → (k : ℕ) (step : Step) → slice_get (items_from (isas 0).rules (jump_form (isas 0).rules (greatest_reach (isas 0).rules)) (starts parts) 0 parts) k ≡ Some (Jump step)
           → (word : ℕ) × FitsTurn (own_net task isas 0) task.netlist.special word (operation_in (own_net task isas 0) (isas 0).patterns step)
       jump_words_of parts layout branch k step e =
-          layout_words (own_net task isas 0) (keeps 0).order (keeps 0).rules task.netlist.special (isas 0).patterns (greatest_reach (isas 0).rules) (mode_stock task isas 0) turning refl (turns (some_reach parts layout)) task.flow parts (places_in (acts_of task.listing.body))
+          layout_words (own_net task isas 0) (keeps 0).order (keeps 0).rules task.netlist.special (isas 0).patterns (greatest_reach (isas 0).rules) (mode_stock task isas 0) turning refl (turns (some_reach parts layout)) task.flow parts (places_in (stmts_of task.listing.body))
           (task_is_flow task checked.jobs) (task_upto task checked.jobs) layout asked k step e
         where
           turning : AllTurn (own_net task isas 0) task.netlist.special (isas 0).patterns (isas 0).rules
@@ -224,11 +224,11 @@ module _ (task : Task) (checked : IsChecked task) where
           fits : PartsFit (isas 0).rules task.flow 0 task.flow parts
           fits = settled_fit (isas 0).rules task.flow layout.sizes layout.settings parts layout.settled
 
-          asked : (at : ℕ) (f : Fork) → slice_get parts at ≡ Some (Test f)
-              → IsAsked (own_net task isas 0) (keeps 0).order (keeps 0).rules task.netlist.special (isas 0).patterns (greatest_reach (isas 0).rules) (mode_stock task isas 0) turning refl (turns (some_reach parts layout)) task.flow parts (places_in (acts_of task.listing.body)) (task_is_flow task checked.jobs) (task_upto task checked.jobs) layout f
+          asked : (at : ℕ) (f : BranchedTest) → slice_get parts at ≡ Some (Test f)
+              → IsAsked (own_net task isas 0) (keeps 0).order (keeps 0).rules task.netlist.special (isas 0).patterns (greatest_reach (isas 0).rules) (mode_stock task isas 0) turning refl (turns (some_reach parts layout)) task.flow parts (places_in (stmts_of task.listing.body)) (task_is_flow task checked.jobs) (task_upto task checked.jobs) layout f
           asked at f e =
-              let t : IsTestJob (task_works task) f.tree = test_work_of (task_works task) (isas 0).rules task.flow parts at f fits checked.jobs.tests e in
-              let d = test_plan task isas (λ v. (give v).reads) node_limit small one plans planned (task_works task) plans f.tree t.work small planned t.at t.destination in
+              let t : IsTestJob (task_jobs task) f.tree = test_job_of (task_jobs task) (isas 0).rules task.flow parts at f fits checked.jobs.tests e in
+              let d = test_plan task isas (λ v. (give v).reads) node_limit small one plans planned (task_jobs task) plans f.tree t.work small planned t.at t.destination in
               let c : IsCovered (mode_stock task isas 0) (test_of t.work) d.0.choice = test_covered f.tree t.work d.0 t.at d.1 t.destination in
               let b : IsBranchOf (mode_stock task isas 0) t.work d.0.choice f = branch at f e t.work t.at d.0 d.1 in
               let is : tree_used t.work d.0.choice ≡ c.covers.tree = ap tree_or_none c.covers.used in
@@ -248,7 +248,7 @@ module _ (task : Task) (checked : IsChecked task) where
     kit = is_kit task image made keeps (give made.isas) register node_limit small checked.jobs.one checked.jobs.tests 0 refl
 
     laid : length (words_of image) ≤ code_size task.netlist.codes → length (words_of image) ≤ greatest_reach (made.isas 0).rules
-        → IsLaidCode (machine task image made) (kit_in task image made 0) image task.flow (task_works task) made.parts (greatest_reach (made.isas 0).rules)
+        → IsLaidCode (machine task image made) (kit_in task image made 0) image task.flow (task_jobs task) made.parts (greatest_reach (made.isas 0).rules)
     laid room reached =
         made_laid task image made keeps (give made.isas) register node_limit small checked.jobs.one checked.jobs.tests room reached
 
@@ -264,7 +264,7 @@ module _ (task : Task) (checked : IsChecked task) where
         let s = some_words in
         let m = made.long in
         word_in (base_at task.netlist 0) task.netlist (slice_index (words_of image) a) (same_codes 0)
-        (code_fits (machine task image made) (kit_in task image made 0) kit image task.flow (task_works task) made.parts (greatest_reach (made.isas 0).rules) checked.jobs.tests (laid room reached) (omega (arith, s, m)) a)
+        (code_fits (machine task image made) (kit_in task image made 0) kit image task.flow (task_jobs task) made.parts (greatest_reach (made.isas 0).rules) checked.jobs.tests (laid room reached) (omega (arith, s, m)) a)
 
     pub right_image : length (words_of image) ≤ code_size task.netlist.codes → length (words_of image) ≤ greatest_reach (made.isas 0).rules → IsRightImage task image
     right_image room reached = record { made = made; traces = traces room reached }

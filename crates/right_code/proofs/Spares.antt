@@ -4,14 +4,14 @@ use Rattle.std.proofs.lemmas.Bool.{eqb-true}
 use Rattle.std.proofs.Common.{ℕ, ◌≡◌, ◌==◌, ◌||◌, ◌&&◌, Bool, true, false, not, List, [], ◌∷◌, Option, refl, sym, ◌∙◌, ap, subst}
 use Rattle.net_model.specs.Patterns.{Pattern}
 use Rattle.form_model.specs.declared.forms.Step.{Step}
-use Rattle.form_model.specs.Covers.{Stock, Choice}
+use Rattle.form_model.specs.Covers.{StockModel, JobCoverModel}
 use Rattle.form_model.specs.Effects.{Operation, operation_of, register, reads, writes}
 use Rattle.form_model.specs.Live.{Regs, no_regs, group_reads, group_writes, live_before, singles, AllSpare}
 use Rattle.emit_seq.specs.Formed.{AreFormed}
 use Rattle.emit_seq.specs.Spares.{AreDefined, AreShared, ReadsCounter, AreSpare, step_clobbers, wanted}
 use Rattle.emit_seq.proofs.Lives.{live-steps, spare-append}
 use Rattle.emit_seq.proofs.Spared.{steps_spare}
-use Rattle.src_trees.specs.Lowered.{Work}
+use Rattle.src_trees.specs.Lowered.{JobModel}
 use Rattle.right_code.specs.Jobs.{tree_or_none, tree_used, job_steps, jobs_steps, IsCovered}
 use Rattle.right_code.specs.Inner.Jobs.{AreCovered}
 
@@ -77,11 +77,11 @@ module _ {A : Type 0} (m : A → Operation) (clobbers : A → Regs) where
       let p : (r : ℕ) → live_before m (singles xs) no_regs r ≡ false = (λ r. not_live (live_before m (singles xs) no_regs r) false (h r) refl) in
       (λ j r. p r j)
 
-module _ (stock : Stock) (file : Option ℕ) (patterns : List Pattern) (count pc : ℕ) (formed : AreFormed file patterns count stock.file stock.rules) (shared : AreShared stock.rules) (counter : ReadsCounter stock.rules pc) where
+module _ (stock : StockModel) (file : Option ℕ) (patterns : List Pattern) (count pc : ℕ) (formed : AreFormed file patterns count stock.file stock.rules) (shared : AreShared stock.rules) (counter : ReadsCounter stock.rules pc) where
   abbrev Spares : List Step → Type 0
   Spares xs = AllSpare (operation_of file patterns) (step_clobbers stock.rules) xs no_regs × AreDefined (operation_of file patterns) no_regs xs no_regs
 
-  job_spares : (work : Work) (choice : Choice) → IsCovered stock work choice → Spares (job_steps stock work choice)
+  job_spares : (work : JobModel) (choice : JobCoverModel) → IsCovered stock work choice → Spares (job_steps stock work choice)
   job_spares work choice c =
       let s : AreSpare stock file patterns pc work.destination c.covers.tree choice.plan = steps_spare stock file patterns count pc formed shared counter work.destination c.covers.tree choice.plan c.goes c.covers.orderly in
       let is : AreSpare stock file patterns pc work.destination (tree_used work choice) choice.plan = subst (λ t. AreSpare stock file patterns pc work.destination t choice.plan) (sym (ap tree_or_none c.covers.used)) s in (
@@ -90,7 +90,7 @@ module _ (stock : Stock) (file : Option ℕ) (patterns : List Pattern) (count pc
       )
 
   -- the steps of a block spare what is still needed, where nothing is live behind it
-  pub jobs_spare : (jobs : List Work) (choices : List Choice) → AreCovered stock jobs choices
+  pub jobs_spare : (jobs : List JobModel) (choices : List JobCoverModel) → AreCovered stock jobs choices
       → AllSpare (operation_of file patterns) (step_clobbers stock.rules) (jobs_steps stock jobs choices) no_regs × (live_before (operation_of file patterns) (singles (jobs_steps stock jobs choices)) no_regs ≡ no_regs)
   jobs_spare [] [] c = (tt, refl)
   jobs_spare [] (d ∷ choices) c = absurd c

@@ -2,12 +2,12 @@
 use Rattle.std.proofs.Common.{ℕ, zero, suc, ◌≡◌, ◌+◌, unwrap_or, is_some, true, List, [], ◌∷◌, ◌++◌, length, Option, Some, None, slice_get, slice_index, refl, sym, ◌∙◌, ap, arith, subst}
 use Rattle.net_model.specs.declared.hardware.Netlist.{Netlist}
 use Rattle.net_model.specs.Patterns.{Pattern}
-use Rattle.form_model.specs.Rules.{Rule}
+use Rattle.form_model.specs.Forms.{FormModel}
 use Rattle.word_fit.specs.Runs.{StandAt}
 use Rattle.branch_fix.specs.Parts.{room, address}
 use Rattle.branch_fix.specs.Items.{groups, part_items, items_from}
 use Rattle.branch_fix.specs.declared.laid.Item.{Item}
-use Rattle.branch_fix.specs.declared.part.Part.{Part}
+use Rattle.branch_fix.specs.declared.part.LayoutPart.{LayoutPart}
 use Rattle.branch_fix.proofs.Words.{part_length}
 use Rattle.right_code.specs.Words.{StandItems}
 
@@ -22,7 +22,7 @@ module _ (netlist : Netlist) (special : Option ℕ) (patterns : List Pattern) (w
   stand_split (x ∷ xs) ys at n e h = let r = stand_split xs ys (at + 1) n (omega (arith, e)) h.1 in ((h.0, r.0), r.1)
 
   -- the words of a part
-  pub part_stands : (rules : List Rule) (jump : Option Rule) (addresses : List ℕ) (at : ℕ) (parts : List Part) (k : ℕ) (p : Part) (n : ℕ) → slice_get parts k ≡ Some p → n ≡ at + address parts k
+  pub part_stands : (rules : List FormModel) (jump : Option FormModel) (addresses : List ℕ) (at : ℕ) (parts : List LayoutPart) (k : ℕ) (p : LayoutPart) (n : ℕ) → slice_get parts k ≡ Some p → n ≡ at + address parts k
       → StandItems netlist special patterns words code at (items_from rules jump addresses at parts) → StandItems netlist special patterns words code n (part_items rules jump addresses n p)
   part_stands rules jump addresses at [] k p n e z h = absurd (cc e)
   part_stands rules jump addresses at (q ∷ parts) zero p n e z h =
@@ -30,7 +30,7 @@ module _ (netlist : Netlist) (special : Option ℕ) (patterns : List Pattern) (w
       let s = stand_split (part_items rules jump addresses at q) (items_from rules jump addresses (at + room q) parts) at (at + length (part_items rules jump addresses at q)) refl h in
       subst (λ a. StandItems netlist special patterns words code a (part_items rules jump addresses a p)) same (subst (λ r. StandItems netlist special patterns words code at (part_items rules jump addresses at r)) (one q p e) s.0)
     where
-      one : (q p : Part) → Some q ≡ Some p → q ≡ p
+      one : (q p : LayoutPart) → Some q ≡ Some p → q ≡ p
       one q p e = cc
   part_stands rules jump addresses at (q ∷ parts) (suc k) p n e z h =
       let l = part_length rules jump addresses at q in

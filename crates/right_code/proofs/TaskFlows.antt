@@ -2,7 +2,7 @@
 -- and it has the bound of the program's flow.
 use Rattle.std.proofs.Common.{ℕ, ◌≡◌, ◌≤◌, ◌+◌, List, length, sym, ◌∙◌, ap, subst}
 use Rattle.src_model.specs.Sizes.{statements_in}
-use Rattle.src_model.specs.Written.{acts_of}
+use Rattle.src_model.specs.Written.{stmts_of}
 use Rattle.form_model.specs.declared.flow.Flow.{Flow}
 use Rattle.src_trees.specs.Flows.{places_in, program_flow}
 use Rattle.branch_fix.specs.Bounds.{bound_of, control_words, program_bound, sum_of}
@@ -14,21 +14,21 @@ use Rattle.branch_fix.proofs.TurnedFlows.{turned_is_flow}
 use Rattle.right_code.specs.Tasks.{HasJobs, Task}
 use Rattle.right_code.proofs.Inside.{Upto, program_upto, turned_upto}
 
-pub task_is_flow : (task : Task) → HasJobs task → IsFlow task.flow (places_in (acts_of task.listing.body))
+pub task_is_flow : (task : Task) → HasJobs task → IsFlow task.flow (places_in (stmts_of task.listing.body))
 task_is_flow task jobs =
-    let end = places_in (acts_of task.listing.body) in
+    let end = places_in (stmts_of task.listing.body) in
     subst (λ (flow : List Flow). IsFlow flow end) (sym jobs.flow) (turned_is_flow jobs.turned (program_flow task.listing) end (program_is_flow task.listing))
 
-pub task_upto : (task : Task) → HasJobs task → Upto (places_in (acts_of task.listing.body)) task.flow
+pub task_upto : (task : Task) → HasJobs task → Upto (places_in (stmts_of task.listing.body)) task.flow
 task_upto task jobs =
-    let end = places_in (acts_of task.listing.body) in
+    let end = places_in (stmts_of task.listing.body) in
     subst (Upto end) (sym jobs.flow) (turned_upto jobs.turned end (program_flow task.listing) (program_upto task.listing))
 
 -- the bound of the flow is the program's, and blocks that have no more words than they cost keep to it
 pub task_words : (task : Task) → HasJobs task → (costs : List ℕ) → bound_of task.flow costs ≡ program_bound task.listing costs
 task_words task jobs costs = ap (λ (flow : List Flow). bound_of flow costs) jobs.flow ∙ turned_words task.listing jobs.turned costs
 
-pub task_bound : (task : Task) → HasJobs task → (costs sizes : List ℕ) → length costs ≡ statements_in (acts_of task.listing.body) → SizesWithin sizes (block_costs task.flow costs task.flow 0)
+pub task_bound : (task : Task) → HasJobs task → (costs sizes : List ℕ) → length costs ≡ statements_in (stmts_of task.listing.body) → SizesWithin sizes (block_costs task.flow costs task.flow 0)
     → sum_of sizes + control_words task.flow ≤ bound_of task.flow costs
 task_bound task jobs costs sizes long within =
     subst (λ (flow : List Flow). sum_of sizes + control_words flow ≤ bound_of flow costs) (sym jobs.flow)

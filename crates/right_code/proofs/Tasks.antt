@@ -2,22 +2,22 @@
 -- store nothing.
 use Rattle.right_code.specs.Works.{AllOne, AreFlowJobs, IsTestJob}
 use Rattle.std.proofs.Common.{ℕ, zero, suc, ◌≡◌, ◌<◌, ◌+◌, Bool, true, false, if◌then◌else◌, List, [], ◌∷◌, ◌++◌, length, Option, None, Some, refl, sym, ◌∙◌, subst, arith, slice_get}
-use Rattle.net_model.specs.Terms.{Term, const}
+use Rattle.net_model.specs.Exprs.{ExprModel, const}
 use Rattle.src_model.specs.declared.program.Cmp.{Cmp}
 use Rattle.src_model.specs.declared.program.Cmp.TheVariants.{Ne}
-use Rattle.src_model.specs.Written.{Phrase, Act, assign, choice, while, count, Acts, no_acts, act, Otherwise, without, otherwise, Listing, acts_of}
+use Rattle.src_model.specs.Written.{SrcExprModel, StmtModel, assign, choice, while, count, StmtsModel, no_acts, act, ElseModel, without, otherwise, ProgramModel, stmts_of}
 use Rattle.src_model.specs.Sizes.{statements, statements_in}
 use Rattle.form_model.specs.declared.flow.Flow.{Flow}
 use Rattle.form_model.specs.declared.flow.Flow.TheVariants.{Assign, Test as Tested, Jump as Jumped, End as Ended}
-use Rattle.form_model.specs.Rules.{Rule, Destination, into, cell, filed, stored, temporary, tested}
+use Rattle.form_model.specs.Forms.{FormModel, DestinationModel, into, cell, filed, stored, temporary, tested}
 use Rattle.src_model.specs.Indexes.{number_of}
-use Rattle.src_trees.specs.Lowered.{MemoryMap, Work, assigned_destination, element_destination, holds_at_one, start_work, step_work, tree_of, works, works_in, works_else}
-use Rattle.src_trees.specs.Flows.{places_for, places_in, else_entry, asked, flow_of, flow_in, flow_else, program_flow, program_works}
+use Rattle.src_trees.specs.Lowered.{MemoryMap, JobModel, assigned_destination, element_destination, holds_at_one, job_of_start, job_of_step, tree_of, works, jobs_in, jobs_else}
+use Rattle.src_trees.specs.Flows.{places_for, places_in, else_entry, asked, flow_of, flow_in, flow_else, program_flow, program_jobs}
 use Rattle.src_trees.proofs.Parts.{Stand, stand_left, stand_right, stand_all, works_length, works_in_length}
 use Rattle.branch_fix.specs.Parts.{FitsPart, PartsFit}
-use Rattle.branch_fix.specs.declared.part.Fork.{Fork}
-use Rattle.branch_fix.specs.declared.part.Part.{Part}
-use Rattle.branch_fix.specs.declared.part.Part.TheVariants.{Test}
+use Rattle.branch_fix.specs.declared.part.BranchedTest.{BranchedTest}
+use Rattle.branch_fix.specs.declared.part.LayoutPart.{LayoutPart}
+use Rattle.branch_fix.specs.declared.part.LayoutPart.TheVariants.{Test}
 use Rattle.branch_fix.proofs.Addresses.{part_at, fit_length}
 use Rattle.right_code.specs.Jobs.{HasOne}
 use Rattle.right_code.proofs.Coded.{there}
@@ -25,11 +25,11 @@ use Rattle.right_code.proofs.Inside.{get_there}
 
 -- ---- one tree
 
-one_on : (xs ys : List Work) → AllOne xs → AllOne ys → AllOne (xs ++ ys)
+one_on : (xs ys : List JobModel) → AllOne xs → AllOne ys → AllOne (xs ++ ys)
 one_on [] ys g h = h
 one_on (x ∷ xs) ys g h = (g.0, one_on xs ys g.1 h)
 
-one_any : (destination : Destination) (t : Term) → HasOne destination (t ∷ [])
+one_any : (destination : DestinationModel) (t : ExprModel) → HasOne destination (t ∷ [])
 one_any (into id) t = (t, refl)
 one_any (cell a) t = (t, refl)
 one_any (stored a) t = (t, refl)
@@ -38,23 +38,23 @@ one_any filed t = (t, refl)
 one_any tested t = tt
 
 mutual
-  work_one : (m : MemoryMap) (a : Act) → AllOne (works m a)
-  work_one m (assign place e) = (one_any _ _, tt)
-  work_one m (choice test taken other) = (tt, one_on (works_in m taken) (works_else m other) (works_one m taken) (else_one m other))
-  work_one m (while test body) = (tt, works_one m body)
-  work_one m (count counter at from to body) = (one_any (start_work m counter from).destination (const m.word from), (tt, one_on (works_in m body) (step_work m counter ∷ []) (works_one m body) ((_, refl), tt)))
+  job_one : (m : MemoryMap) (a : StmtModel) → AllOne (works m a)
+  job_one m (assign place e) = (one_any _ _, tt)
+  job_one m (choice test taken other) = (tt, one_on (jobs_in m taken) (jobs_else m other) (jobs_one m taken) (else_one m other))
+  job_one m (while test body) = (tt, jobs_one m body)
+  job_one m (count counter at from to body) = (one_any (job_of_start m counter from).destination (const m.word from), (tt, one_on (jobs_in m body) (job_of_step m counter ∷ []) (jobs_one m body) ((_, refl), tt)))
 
-  pub works_one : (m : MemoryMap) (list : Acts) → AllOne (works_in m list)
-  works_one m no_acts = tt
-  works_one m (act a rest) = one_on (works m a) (works_in m rest) (work_one m a) (works_one m rest)
+  pub jobs_one : (m : MemoryMap) (list : StmtsModel) → AllOne (jobs_in m list)
+  jobs_one m no_acts = tt
+  jobs_one m (act a rest) = one_on (works m a) (jobs_in m rest) (job_one m a) (jobs_one m rest)
 
-  else_one : (m : MemoryMap) (o : Otherwise) → AllOne (works_else m o)
+  else_one : (m : MemoryMap) (o : ElseModel) → AllOne (jobs_else m o)
   else_one m without = tt
-  else_one m (otherwise body) = works_one m body
+  else_one m (otherwise body) = jobs_one m body
 
 -- ---- the jobs of the flow
 
-assigned_stores : (m : MemoryMap) (name : List ℕ) (index : Option Phrase) → assigned_destination m name index ≡ tested → ⊥
+assigned_stores : (m : MemoryMap) (name : List ℕ) (index : Option SrcExprModel) → assigned_destination m name index ≡ tested → ⊥
 assigned_stores m name None e = absurd (cc e)
 assigned_stores m name (Some x) e = by (number_of x.shape) e
   where
@@ -62,61 +62,61 @@ assigned_stores m name (Some x) e = by (number_of x.shape) e
     by None e = absurd (cc e)
     by (Some n) e = absurd (cc e)
 
-tests_on : (all : List Work) (xs ys : List Flow) → AreFlowJobs all xs → AreFlowJobs all ys → AreFlowJobs all (xs ++ ys)
+tests_on : (all : List JobModel) (xs ys : List Flow) → AreFlowJobs all xs → AreFlowJobs all ys → AreFlowJobs all (xs ++ ys)
 tests_on all [] ys g h = h
 tests_on all (Assign tree ∷ xs) ys g h = (g.0, tests_on all xs ys g.1 h)
 tests_on all (Tested tree one none ∷ xs) ys g h = (g.0, tests_on all xs ys g.1 h)
 tests_on all (Jumped to ∷ xs) ys g h = tests_on all xs ys g h
 tests_on all (Ended ∷ xs) ys g h = tests_on all xs ys g h
 
-asked_tests : (all : List Work) (cmp : Cmp) (tree on_true on_false : ℕ) (rest : List Flow) → IsTestJob all tree → AreFlowJobs all rest → AreFlowJobs all (asked cmp tree on_true on_false ∷ rest)
+asked_tests : (all : List JobModel) (cmp : Cmp) (tree on_true on_false : ℕ) (rest : List Flow) → IsTestJob all tree → AreFlowJobs all rest → AreFlowJobs all (asked cmp tree on_true on_false ∷ rest)
 asked_tests all cmp tree on_true on_false rest t g = by (holds_at_one cmp)
   where
     by : (b : Bool) → AreFlowJobs all ((if b then Tested tree on_true on_false else Tested tree on_false on_true) ∷ rest)
     by true = (t, g)
     by false = (t, g)
 
-module _ (m : MemoryMap) (all : List Work) where
+module _ (m : MemoryMap) (all : List JobModel) where
   mutual
-    flow_tests : (a : Act) (tree at : ℕ) → Stand all tree (works m a) → AreFlowJobs all (flow_of a tree at)
+    flow_tests : (a : StmtModel) (tree at : ℕ) → Stand all tree (works m a) → AreFlowJobs all (flow_of a tree at)
     flow_tests (assign place e) tree at h = (record { work = _; at = h.0; destination = assigned_stores m place.name place.index }, tt)
     flow_tests (choice test taken other) tree at h =
         let n = works_in_length m taken in
         asked_tests all test.cmp tree (at + 1) (else_entry other (at + 1 + places_in taken)) (flow_in taken (tree + 1) (at + 1) ++ flow_else other (tree + 1 + statements_in taken) (at + 1 + places_in taken))
         (record { work = _; at = h.0; destination = refl })
         (tests_on all (flow_in taken (tree + 1) (at + 1)) (flow_else other (tree + 1 + statements_in taken) (at + 1 + places_in taken))
-        (in_tests taken (tree + 1) (at + 1) (stand_left all (tree + 1) (works_in m taken) (works_else m other) h.1))
-        (else_tests other (tree + 1 + statements_in taken) (at + 1 + places_in taken) (stand_right all (tree + 1) (tree + 1 + statements_in taken) (works_in m taken) (works_else m other) (omega (arith, n)) h.1)))
+        (in_tests taken (tree + 1) (at + 1) (stand_left all (tree + 1) (jobs_in m taken) (jobs_else m other) h.1))
+        (else_tests other (tree + 1 + statements_in taken) (at + 1 + places_in taken) (stand_right all (tree + 1) (tree + 1 + statements_in taken) (jobs_in m taken) (jobs_else m other) (omega (arith, n)) h.1)))
     flow_tests (while test body) tree at h =
         asked_tests all test.cmp tree (at + 1) (at + 1 + places_in body + 1) (flow_in body (tree + 1) (at + 1) ++ Jumped at ∷ []) (record { work = _; at = h.0; destination = refl })
         (tests_on all (flow_in body (tree + 1) (at + 1)) (Jumped at ∷ []) (in_tests body (tree + 1) (at + 1) h.1) tt)
     flow_tests (count counter from_at from to body) tree at h =
         let z : tree + 1 + 1 ≡ tree + 2 = omega arith in
         let n = works_in_length m body in
-        let next : Stand all (tree + 2) (works_in m body ++ step_work m counter ∷ []) = subst (λ k. Stand all k (works_in m body ++ step_work m counter ∷ [])) z h.1.1 in
-        let step = stand_right all (tree + 2) (tree + 2 + statements_in body) (works_in m body) (step_work m counter ∷ []) (omega (arith, n)) next in (
-          record { work = start_work m counter from; at = h.0; destination = λ e. absurd (cc e) },
+        let next : Stand all (tree + 2) (jobs_in m body ++ job_of_step m counter ∷ []) = subst (λ k. Stand all k (jobs_in m body ++ job_of_step m counter ∷ [])) z h.1.1 in
+        let step = stand_right all (tree + 2) (tree + 2 + statements_in body) (jobs_in m body) (job_of_step m counter ∷ []) (omega (arith, n)) next in (
+          record { work = job_of_start m counter from; at = h.0; destination = λ e. absurd (cc e) },
           asked_tests all Ne (tree + 1) (at + 2) (at + 2 + places_in body + 2) (flow_in body (tree + 2) (at + 2) ++ Assign (tree + 2 + statements_in body) ∷ (Jumped (at + 1) ∷ [])) (record { work = _; at = h.1.0; destination = refl })
               (tests_on all (flow_in body (tree + 2) (at + 2)) (Assign (tree + 2 + statements_in body) ∷ (Jumped (at + 1) ∷ []))
-              (in_tests body (tree + 2) (at + 2) (stand_left all (tree + 2) (works_in m body) (step_work m counter ∷ []) next))
-              (record { work = step_work m counter; at = step.0; destination = λ e. absurd (cc e) }, tt)),
+              (in_tests body (tree + 2) (at + 2) (stand_left all (tree + 2) (jobs_in m body) (job_of_step m counter ∷ []) next))
+              (record { work = job_of_step m counter; at = step.0; destination = λ e. absurd (cc e) }, tt)),
         )
 
-    pub in_tests : (list : Acts) (tree at : ℕ) → Stand all tree (works_in m list) → AreFlowJobs all (flow_in list tree at)
+    pub in_tests : (list : StmtsModel) (tree at : ℕ) → Stand all tree (jobs_in m list) → AreFlowJobs all (flow_in list tree at)
     in_tests no_acts tree at h = tt
     in_tests (act a rest) tree at h =
         let n = works_length m a in
-        tests_on all (flow_of a tree at) (flow_in rest (tree + statements a) (at + places_for a)) (flow_tests a tree at (stand_left all tree (works m a) (works_in m rest) h))
-        (in_tests rest (tree + statements a) (at + places_for a) (stand_right all tree (tree + statements a) (works m a) (works_in m rest) (omega (arith, n)) h))
+        tests_on all (flow_of a tree at) (flow_in rest (tree + statements a) (at + places_for a)) (flow_tests a tree at (stand_left all tree (works m a) (jobs_in m rest) h))
+        (in_tests rest (tree + statements a) (at + places_for a) (stand_right all tree (tree + statements a) (works m a) (jobs_in m rest) (omega (arith, n)) h))
 
-    else_tests : (o : Otherwise) (tree at : ℕ) → Stand all tree (works_else m o) → AreFlowJobs all (flow_else o tree at)
+    else_tests : (o : ElseModel) (tree at : ℕ) → Stand all tree (jobs_else m o) → AreFlowJobs all (flow_else o tree at)
     else_tests without tree at h = tt
     else_tests (otherwise body) tree at h = in_tests body tree (at + 1) h
 
-pub program_tests : (m : MemoryMap) (l : Listing) → AreFlowJobs (program_works m l) (program_flow l)
-program_tests m l = tests_on (program_works m l) (flow_in (acts_of l.body) 0 0) (Ended ∷ []) (in_tests m (program_works m l) (acts_of l.body) 0 0 (stand_all (program_works m l))) tt
+pub program_tests : (m : MemoryMap) (l : ProgramModel) → AreFlowJobs (program_jobs m l) (program_flow l)
+program_tests m l = tests_on (program_jobs m l) (flow_in (stmts_of l.body) 0 0) (Ended ∷ []) (in_tests m (program_jobs m l) (stmts_of l.body) 0 0 (stand_all (program_jobs m l))) tt
 
-pub tests_get : (all : List Work) (xs : List Flow) (k tree one none : ℕ) → AreFlowJobs all xs → slice_get xs k ≡ Some (Tested tree one none) → IsTestJob all tree
+pub tests_get : (all : List JobModel) (xs : List Flow) (k tree one none : ℕ) → AreFlowJobs all xs → slice_get xs k ≡ Some (Tested tree one none) → IsTestJob all tree
 tests_get all [] k tree one none h e = absurd (cc e)
 tests_get all (Tested t a b ∷ xs) zero tree one none h e = let p : t ≡ tree = cc in subst (IsTestJob all) p h.0
 tests_get all (Assign t ∷ xs) zero tree one none h e = absurd (cc e)
@@ -128,15 +128,15 @@ tests_get all (Jumped to ∷ xs) (suc k) tree one none h e = tests_get all xs k 
 tests_get all (Ended ∷ xs) (suc k) tree one none h e = tests_get all xs k tree one none h e
 
 -- the job of a test's part
-pub test_work_of : (all : List Work) (rules : List Rule) (flow : List Flow) (parts : List Part) (k : ℕ) (f : Fork) → PartsFit rules flow 0 flow parts → AreFlowJobs all flow → slice_get parts k ≡ Some (Test f) → IsTestJob all f.tree
-test_work_of all rules flow parts k f fit tests e =
+pub test_job_of : (all : List JobModel) (rules : List FormModel) (flow : List Flow) (parts : List LayoutPart) (k : ℕ) (f : BranchedTest) → PartsFit rules flow 0 flow parts → AreFlowJobs all flow → slice_get parts k ≡ Some (Test f) → IsTestJob all f.tree
+test_job_of all rules flow parts k f fit tests e =
     let l : k < length parts = there parts k (Test f) e in
     let n : length parts ≡ length flow = fit_length rules flow 0 flow parts fit in
     let g = get_there flow k (omega (arith, l, n)) in
     let q = part_at rules flow 0 flow parts k k g.0 fit g.1 (omega arith) in
     by g.0 g.1 (subst (λ x. FitsPart rules flow k g.0 x) (one q.0 (Test f) (sym q.1 ∙ e)) q.2)
   where
-    one : (x y : Part) → Some x ≡ Some y → x ≡ y
+    one : (x y : LayoutPart) → Some x ≡ Some y → x ≡ y
     one x y e = cc
 
     by : (g : Flow) → slice_get flow k ≡ Some g → FitsPart rules flow k g (Test f) → IsTestJob all f.tree

@@ -5,7 +5,7 @@ use Rattle.net_model.specs.declared.hardware.Netlist.{Netlist}
 use Rattle.net_model.specs.CheckedRules.{KeepsRules}
 use Rattle.net_model.specs.Nets.{counter_width, memory_id, word_width}
 use Rattle.net_model.specs.Patterns.{IsPattern, Pattern}
-use Rattle.form_model.specs.Rules.{BranchTarget, absolute, relative, Kind, Rule, into_file, into_memory, into_reg, jumps, branches}
+use Rattle.form_model.specs.Forms.{TargetModel, absolute, relative, GoalModel, FormModel, into_file, into_memory, into_reg, jumps, branches}
 use Rattle.form_set.specs.Static.{is_file_at}
 use Rattle.form_model.specs.Shapes.{reach_of, shows}
 use Rattle.form_set.specs.Listing.{AreForms, goal_at, goal_reach, greatest_reach}
@@ -20,28 +20,28 @@ use Rattle.right_code.proofs.Listed.{placed}
 use Rattle.right_code.proofs.Turning.{branch_made, branch_reaches, jump_made, jump_narrow, jump_shows}
 
 -- the first jump form of a reach
-pub record IsFirstJump (rules : List Rule) (reach : ℕ) : Type 0 where
-  pub rule : Rule
+pub record IsFirstJump (rules : List FormModel) (reach : ℕ) : Type 0 where
+  pub rule : FormModel
   pub first : jump_form rules reach ≡ Some rule
   pub place : ℕ
   pub at : slice_get rules place ≡ Some rule
   pub goal : rule.goal ≡ jumps reach
 
-reached : (k : Kind) (reach : ℕ) → reaches k reach ≡ true → k ≡ jumps reach
+reached : (k : GoalModel) (reach : ℕ) → reaches k reach ≡ true → k ≡ jumps reach
 reached (jumps r) reach e = ap jumps (eqb-true r reach e)
 reached (into_reg id) reach e = absurd (cc)
 reached into_memory reach e = absurd (cc)
 reached into_file reach e = absurd (cc)
 reached (branches b to) reach e = absurd (cc)
 
-unreached : (k : Kind) (reach : ℕ) → 1 ≤ reach → reaches k reach ≡ false → goal_reach k ≡ reach → ⊥
+unreached : (k : GoalModel) (reach : ℕ) → 1 ≤ reach → reaches k reach ≡ false → goal_reach k ≡ reach → ⊥
 unreached (jumps r) reach l e g = eqb-false r reach e g
 unreached (into_reg id) reach l e g = omega (arith, l, g)
 unreached into_memory reach l e g = omega (arith, l, g)
 unreached into_file reach l e g = omega (arith, l, g)
 unreached (branches b to) reach l e g = omega (arith, l, g)
 
-pub first_jump : (rules : List Rule) (reach : ℕ) → 1 ≤ reach → reach ≡ greatest_reach rules → IsFirstJump rules reach
+pub first_jump : (rules : List FormModel) (reach : ℕ) → 1 ≤ reach → reach ≡ greatest_reach rules → IsFirstJump rules reach
 first_jump [] reach l e = absurd (omega (arith, l, e))
 first_jump (rule ∷ rules) reach l e = by (reaches rule.goal reach) refl (first_jump rules reach l)
   where
@@ -59,7 +59,7 @@ first_jump (rule ∷ rules) reach l e = by (reaches rule.goal reach) refl (first
         record { rule = f.rule; first = ap (λ b. if b then Some rule else jump_form rules reach) q ∙ f.first; place = suc f.place; at = f.at; goal = f.goal })
 
 -- a plain form is none of the two
-plain_goal : (netlist : Netlist) (storage : ℕ) (k : Kind) → k ≡ goal_at netlist storage → is_control_goal k ≡ true → ⊥
+plain_goal : (netlist : Netlist) (storage : ℕ) (k : GoalModel) → k ≡ goal_at netlist storage → is_control_goal k ≡ true → ⊥
 plain_goal netlist storage k e h = true≢false (sym h ∙ ap is_control_goal e ∙ by (storage == memory_id netlist.storages) (is_file_at netlist storage))
   where
     by : (b c : Bool) → is_control_goal (if b then into_memory else if c then into_file else into_reg storage) ≡ false
@@ -67,15 +67,15 @@ plain_goal netlist storage k e h = true≢false (sym h ∙ ap is_control_goal e 
     by false true = refl
     by false false = refl
 
-module _ (netlist : Netlist) (order : List ℕ) (keeps : KeepsRules netlist order) (some : 0 < word_width netlist) (patterns : List Pattern) (known : AreKnown netlist patterns) (reach : ℕ) (rules : List Rule) (forms : AreForms netlist patterns rules reach) where
-  record IsJumping (far : ℕ) (rule : Rule) : Type 0 where
+module _ (netlist : Netlist) (order : List ℕ) (keeps : KeepsRules netlist order) (some : 0 < word_width netlist) (patterns : List Pattern) (known : AreKnown netlist patterns) (reach : ℕ) (rules : List FormModel) (forms : AreForms netlist patterns rules reach) where
+  record IsJumping (far : ℕ) (rule : FormModel) : Type 0 where
     form : IsJumpForm netlist patterns rule
     shown : (v : ℕ) → v < far → shows rule.value v ≡ true
     narrow : far ≤ 2 ^ counter_width netlist
 
-  jumping : (far number : ℕ) (p : Pattern) (rule : Rule) → slice_get patterns number ≡ Some p → IsFormOf netlist reach number p rule → rule.goal ≡ jumps far → IsJumping far rule
+  jumping : (far number : ℕ) (p : Pattern) (rule : FormModel) → slice_get patterns number ≡ Some p → IsFormOf netlist reach number p rule → rule.goal ≡ jumps far → IsJumping far rule
   jumping far number p rule at (of_plain choice clobbers plain are e) g =
-      absurd (plain_goal netlist p.storage rule.goal (ap (λ (r : Rule). r.goal) e) (ap is_control_goal g))
+      absurd (plain_goal netlist p.storage rule.goal (ap (λ (r : FormModel). r.goal) e) (ap is_control_goal g))
   jumping far number p rule at (of_jump h e) g =
       subst (IsJumping far) (sym e)
       (record {
@@ -88,47 +88,47 @@ module _ (netlist : Netlist) (order : List ℕ) (keeps : KeepsRules netlist orde
       same a b e = cc
 
       is_reach : reach_of h.target ≡ far
-      is_reach = same (reach_of h.target) far (sym (ap (λ (r : Rule). r.goal) e) ∙ g)
-  jumping far number p rule at (of_branch choice parts b e) g = let x : branches parts.when_one parts.to ≡ jumps far = sym (ap (λ (r : Rule). r.goal) e) ∙ g in absurd (cc)
+      is_reach = same (reach_of h.target) far (sym (ap (λ (r : FormModel). r.goal) e) ∙ g)
+  jumping far number p rule at (of_branch choice parts b e) g = let x : branches parts.when_one parts.to ≡ jumps far = sym (ap (λ (r : FormModel). r.goal) e) ∙ g in absurd (cc)
 
-  record IsTurning (rule : Rule) (when_one : Bool) (way : BranchTarget) : Type 0 where
+  record IsTurning (rule : FormModel) (when_one : Bool) (way : TargetModel) : Type 0 where
     form : IsBranchForm netlist patterns rule when_one way
     reached : TargetReaches reach way
 
-  turning : (number : ℕ) (p : Pattern) (rule : Rule) (when_one : Bool) (way : BranchTarget) → slice_get patterns number ≡ Some p → IsFormOf netlist reach number p rule → rule.goal ≡ branches when_one way → IsTurning rule when_one way
+  turning : (number : ℕ) (p : Pattern) (rule : FormModel) (when_one : Bool) (way : TargetModel) → slice_get patterns number ≡ Some p → IsFormOf netlist reach number p rule → rule.goal ≡ branches when_one way → IsTurning rule when_one way
   turning number p rule when_one way at (of_plain choice clobbers plain are e) g =
-      absurd (plain_goal netlist p.storage rule.goal (ap (λ (r : Rule). r.goal) e) (ap is_control_goal g))
-  turning number p rule when_one way at (of_jump h e) g = let x : jumps _ ≡ branches when_one way = sym (ap (λ (r : Rule). r.goal) e) ∙ g in absurd (cc)
+      absurd (plain_goal netlist p.storage rule.goal (ap (λ (r : FormModel). r.goal) e) (ap is_control_goal g))
+  turning number p rule when_one way at (of_jump h e) g = let x : jumps _ ≡ branches when_one way = sym (ap (λ (r : FormModel). r.goal) e) ∙ g in absurd (cc)
   turning number p rule when_one way at (of_branch choice parts b e) g =
-      let s = same parts.when_one when_one parts.to way (sym (ap (λ (r : Rule). r.goal) e) ∙ g) in
+      let s = same parts.when_one when_one parts.to way (sym (ap (λ (r : FormModel). r.goal) e) ∙ g) in
       subst (λ w. IsTurning rule w way) s.0
       (subst (λ w. IsTurning rule parts.when_one w) s.1
-      (subst (λ (r : Rule). IsTurning r parts.when_one parts.to) (sym e)
+      (subst (λ (r : FormModel). IsTurning r parts.when_one parts.to) (sym e)
       (record { form = branch_made netlist some patterns known reach number p at parts b choice; reached = branch_reaches netlist some patterns known reach number p at parts b })))
     where
-      same : (a b : Bool) (c d : BranchTarget) → branches a c ≡ branches b d → (a ≡ b) × (c ≡ d)
+      same : (a b : Bool) (c d : TargetModel) → branches a c ≡ branches b d → (a ≡ b) × (c ≡ d)
       same a b c d e = (cc, cc)
 
   -- a form that branches is made of its pattern
-  pub fork_form : (k : ℕ) (turn : Rule) (when_one : Bool) (way : BranchTarget) → slice_get rules k ≡ Some turn → turn.goal ≡ branches when_one way → IsBranchForm netlist patterns turn when_one way
+  pub fork_form : (k : ℕ) (turn : FormModel) (when_one : Bool) (way : TargetModel) → slice_get rules k ≡ Some turn → turn.goal ≡ branches when_one way → IsBranchForm netlist patterns turn when_one way
   fork_form k turn when_one way at g =
       let r = placed netlist order keeps some patterns known reach rules forms.list k turn at in
       (turning r.number r.pattern turn when_one way r.at r.of g).form
 
-  reach_in : (list : List Rule) (k : ℕ) (rule : Rule) → slice_get list k ≡ Some rule → goal_reach rule.goal ≤ greatest_reach list
+  reach_in : (list : List FormModel) (k : ℕ) (rule : FormModel) → slice_get list k ≡ Some rule → goal_reach rule.goal ≤ greatest_reach list
   reach_in [] k rule e = absurd (cc e)
-  reach_in (x ∷ list) zero rule e = let same : goal_reach x.goal ≡ goal_reach rule.goal = ap (λ (r : Rule). goal_reach r.goal) (one x rule e) in omega (arith, same)
+  reach_in (x ∷ list) zero rule e = let same : goal_reach x.goal ≡ goal_reach rule.goal = ap (λ (r : FormModel). goal_reach r.goal) (one x rule e) in omega (arith, same)
     where
-      one : (a b : Rule) → Some a ≡ Some b → a ≡ b
+      one : (a b : FormModel) → Some a ≡ Some b → a ≡ b
       one a b e = cc
   reach_in (x ∷ list) (suc k) rule e = let h = reach_in list k rule e in omega (arith, h)
 
-  less_reaches : (way : BranchTarget) (far : ℕ) → far ≤ reach → TargetReaches reach way → TargetReaches far way
+  less_reaches : (way : TargetModel) (far : ℕ) → far ≤ reach → TargetReaches reach way → TargetReaches far way
   less_reaches (absolute shape) far le h = λ v lt. h v (omega (arith, lt, le))
   less_reaches (relative shape) far le h = h
 
   -- some of the forms, among them a jump form
-  pub turns_of : (kept : List Rule) (far : ℕ) → ArePart kept rules → far ≡ greatest_reach kept → 1 ≤ far → AreTurns netlist patterns kept far
+  pub turns_of : (kept : List FormModel) (far : ℕ) → ArePart kept rules → far ≡ greatest_reach kept → 1 ≤ far → AreTurns netlist patterns kept far
   turns_of kept far of is l =
       let f = first_jump kept far l is in
       let p = of f.place f.rule f.at in
@@ -158,16 +158,16 @@ module _ (netlist : Netlist) (order : List ℕ) (keeps : KeepsRules netlist orde
   -- ---- words of jumps and branches
 
   -- the form's pattern has a word for each setting
-  pub record CanTurn (rule : Rule) : Type 0 where
+  pub record CanTurn (rule : FormModel) : Type 0 where
     pub pattern : Pattern
     pub at : slice_get patterns rule.pattern ≡ Some pattern
     pub is : IsPattern netlist pattern
     pub can : CanJump netlist pattern
 
-  can_turn : (number : ℕ) (p : Pattern) (rule : Rule) → slice_get patterns number ≡ Some p → IsFormOf netlist reach number p rule → is_control_goal rule.goal ≡ true → CanTurn rule
-  can_turn number p rule at (of_plain choice clobbers plain are e) g = absurd (plain_goal netlist p.storage rule.goal (ap (λ (r : Rule). r.goal) e) g)
-  can_turn number p rule at (of_jump h e) g = record { pattern = p; at = ap (λ (r : Rule). slice_get patterns r.pattern) e ∙ at; is = (known number p at).is; can = h.can }
-  can_turn number p rule at (of_branch choice parts b e) g = record { pattern = p; at = ap (λ (r : Rule). slice_get patterns r.pattern) e ∙ at; is = (known number p at).is; can = b.can }
+  can_turn : (number : ℕ) (p : Pattern) (rule : FormModel) → slice_get patterns number ≡ Some p → IsFormOf netlist reach number p rule → is_control_goal rule.goal ≡ true → CanTurn rule
+  can_turn number p rule at (of_plain choice clobbers plain are e) g = absurd (plain_goal netlist p.storage rule.goal (ap (λ (r : FormModel). r.goal) e) g)
+  can_turn number p rule at (of_jump h e) g = record { pattern = p; at = ap (λ (r : FormModel). slice_get patterns r.pattern) e ∙ at; is = (known number p at).is; can = h.can }
+  can_turn number p rule at (of_branch choice parts b e) g = record { pattern = p; at = ap (λ (r : FormModel). slice_get patterns r.pattern) e ∙ at; is = (known number p at).is; can = b.can }
 
-  pub turn_can : (k : ℕ) (rule : Rule) → slice_get rules k ≡ Some rule → is_control_goal rule.goal ≡ true → CanTurn rule
+  pub turn_can : (k : ℕ) (rule : FormModel) → slice_get rules k ≡ Some rule → is_control_goal rule.goal ≡ true → CanTurn rule
   turn_can k rule at g = let r = placed netlist order keeps some patterns known reach rules forms.list k rule at in can_turn r.number r.pattern rule r.at r.of g

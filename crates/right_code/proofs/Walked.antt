@@ -19,7 +19,7 @@ use Rattle.code_model.specs.declared.image.Image.{Image}
 use Rattle.code_model.specs.Places.{words_of}
 use Rattle.code_model.specs.Machine.{IsAt}
 use Rattle.code_model.proofs.Fixed.{fixed_is}
-use Rattle.form_model.specs.Covers.{Stock}
+use Rattle.form_model.specs.Covers.{StockModel}
 use Rattle.block_words.specs.Laws.{operation_in}
 use Rattle.form_model.specs.Effects.{Operation, steps_effect}
 use Rattle.form_model.specs.Live.{Regs, live_before}
@@ -33,7 +33,7 @@ use Rattle.net_model.specs.Fixed.{mode_in}
 use Rattle.net_model.specs.Modes.{IsBase}
 use Rattle.code_model.specs.Words.{KeepsMode}
 use Rattle.code_model.proofs.Bases.{at_in}
-use Rattle.src_trees.specs.Lowered.{Work}
+use Rattle.src_trees.specs.Lowered.{JobModel}
 use Rattle.branch_fix.specs.Made.{Walks, image_word}
 use Rattle.branch_fix.specs.Sections.{DoesIn, PutsMode}
 use Rattle.right_code.specs.Jobs.{jobs_steps}
@@ -116,7 +116,7 @@ module _ (netlist base : Netlist) (v : ℕ) (is : IsBase netlist netlist.special
         record { last = w.last; walks = w.outer; mode = w.mode; agree = subst (λ t. Agree after t (steps_effect m xs s)) e r.agree }
 
   -- the words of jobs of the mode do them
-  pub block_does : (patterns : List Pattern) (stock : Stock) → stock.file ≡ size_in InFile base.storages → AreFormed (file_place base.storages) patterns (length base.storages) stock.file stock.rules → (jobs : List Work) (at n : ℕ) → IsBlockMade base netlist.special patterns stock image jobs at n
+  pub block_does : (patterns : List Pattern) (stock : StockModel) → stock.file ≡ size_in InFile base.storages → AreFormed (file_place base.storages) patterns (length base.storages) stock.file stock.rules → (jobs : List JobModel) (at n : ℕ) → IsBlockMade base netlist.special patterns stock image jobs at n
       → at + n < 2 ^ counter_width base → DoesIn netlist image stock.temps v jobs at n
   block_does patterns stock sized formed jobs at n made b = record {
     walks = λ s here mode lie.

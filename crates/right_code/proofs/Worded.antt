@@ -11,22 +11,22 @@ use Rattle.net_model.specs.Nets.{file_place, size_in, counter_of, word_width}
 use Rattle.emit_seq.specs.Formed.{AreFormed}
 use Rattle.net_model.specs.declared.hardware.Netlist.{Netlist}
 use Rattle.net_model.specs.CheckedRules.{KeepsRules}
-use Rattle.net_model.specs.Fields.{fields, move_fields}
+use Rattle.net_model.specs.Fields.{fields, transfer_fields}
 use Rattle.net_model.specs.Patterns.{Pattern}
-use Rattle.net_model.specs.Terms.{Term, Move, keep, write, write_at}
+use Rattle.net_model.specs.Exprs.{ExprModel, TransferModel, keep, write, write_at}
 use Rattle.form_model.specs.declared.forms.Step.{Step}
-use Rattle.form_model.specs.Rules.{Kind, Rule, tested}
-use Rattle.form_model.specs.Covers.{Stock, Choice}
+use Rattle.form_model.specs.Forms.{GoalModel, FormModel, tested}
+use Rattle.form_model.specs.Covers.{StockModel, JobCoverModel}
 use Rattle.block_words.specs.Laws.{operation_in}
 use Rattle.form_model.specs.Steps.{cover_steps}
-use Rattle.form_set.specs.Listing.{AreRules, sides_of}
+use Rattle.form_set.specs.Listing.{AreFormModels, sides_of}
 use Rattle.form_set.specs.Promises.{IsFormOf, of_branch, of_jump, of_plain}
-use Rattle.form_set.specs.Swaps.{Sides, swapped}
+use Rattle.form_set.specs.Swaps.{SidesModel, swapped}
 use Rattle.form_set.proofs.FormLaws.{plain_words}
-use Rattle.emit_seq.specs.Settles.{AreOfForms, IsOfForm, IsStepping, addr_fields, rule_fields}
+use Rattle.emit_seq.specs.Settles.{AreOfForms, IsOfForm, IsStepping, addr_fields, form_fields}
 use Rattle.emit_seq.proofs.Settled.{steps_of_forms}
 use Rattle.emit_seq.proofs.Spared.{clobbers_at, steps_spare}
-use Rattle.src_trees.specs.Lowered.{Work}
+use Rattle.src_trees.specs.Lowered.{JobModel}
 use Rattle.word_fit.specs.Fits.{fits_over}
 use Rattle.word_fit.specs.Groups.{AllHaveWords}
 use Rattle.block_words.specs.Formed.{AreWorded, IsWorded}
@@ -46,23 +46,23 @@ zero_or : (n : ℕ) → bit_or 0 n ≡ n
 zero_or n = let a = or_add_and 0 n in let b = and_le_l 0 n in omega (arith, a, b)
 
 -- the bits of a form are those of its pattern
-sides_fields : (a b : Option Term) (v u : Term) → AreSwapped (record { addr = a; value = v }) (record { addr = b; value = u }) → bit_or (addr_fields b) (fields u) ≡ bit_or (addr_fields a) (fields v)
+sides_fields : (a b : Option ExprModel) (v u : ExprModel) → AreSwapped (record { addr = a; value = v }) (record { addr = b; value = u }) → bit_or (addr_fields b) (fields u) ≡ bit_or (addr_fields a) (fields v)
 sides_fields None None v u s = ap (λ n. bit_or 0 n) (sym s.value.fields_same)
 sides_fields None (Some b) v u s = absurd s.addr
 sides_fields (Some a) None v u s = absurd s.addr
 sides_fields (Some a) (Some b) v u s = ap (λ n. bit_or n (fields u)) (sym s.addr.fields_same) ∙ ap (λ n. bit_or (fields a) n) (sym s.value.fields_same)
 
-swapped_fields : (choice : ℕ) (move : Move) → move ≢ keep → bit_or (addr_fields (swapped choice (sides_of move)).addr) (fields (swapped choice (sides_of move)).value) ≡ move_fields move
+swapped_fields : (choice : ℕ) (move : TransferModel) → move ≢ keep → bit_or (addr_fields (swapped choice (sides_of move)).addr) (fields (swapped choice (sides_of move)).value) ≡ transfer_fields move
 swapped_fields choice keep n = absurd (n refl)
 swapped_fields choice (write v) n =
-    let x : Sides = record { addr = None; value = v } in
+    let x : SidesModel = record { addr = None; value = v } in
     sides_fields None (swapped choice x).addr v (swapped choice x).value (swapped_sides choice x) ∙ zero_or (fields v)
 swapped_fields choice (write_at a v) n =
-    let x : Sides = record { addr = Some a; value = v } in
+    let x : SidesModel = record { addr = Some a; value = v } in
     sides_fields (Some a) (swapped choice x).addr v (swapped choice x).value (swapped_sides choice x)
 
-module _ (netlist : Netlist) (order : List ℕ) (keeps : KeepsRules netlist order) (some : 0 < word_width netlist) (patterns : List Pattern) (known : AreKnown netlist patterns) (reach : ℕ) (all : List Rule) (list : AreRules netlist reach 0 patterns all)
-    (stock : Stock) (sized : stock.file ≡ size_in InFile netlist.storages) (of : ArePart stock.rules all) where
+module _ (netlist : Netlist) (order : List ℕ) (keeps : KeepsRules netlist order) (some : 0 < word_width netlist) (patterns : List Pattern) (known : AreKnown netlist patterns) (reach : ℕ) (all : List FormModel) (list : AreFormModels netlist reach 0 patterns all)
+    (stock : StockModel) (sized : stock.file ≡ size_in InFile netlist.storages) (of : ArePart stock.rules all) where
   -- what holds of all forms holds of these
   shared : AreShared stock.rules
   shared j k a b ha hb e =
@@ -73,27 +73,27 @@ module _ (netlist : Netlist) (order : List ℕ) (keeps : KeepsRules netlist orde
   counts : ReadsCounter stock.rules (counter_of netlist.codes)
   counts k rule at goal = let p = of k rule at in is_counter netlist order keeps some patterns known reach all list p.0 rule p.1 goal
 
-  no_step : (goal other : Kind) → goal ≡ other → IsStepping goal → (IsStepping other → ⊥) → ⊥
+  no_step : (goal other : GoalModel) → goal ≡ other → IsStepping goal → (IsStepping other → ⊥) → ⊥
   no_step goal other e h n = n (subst IsStepping e h)
 
   -- a step of a plain form has a word for its setting
-  of_form : (x : Step) (rule : Rule) (k : ℕ) → slice_get stock.rules k ≡ Some rule → IsStepping rule.goal → x.pattern ≡ rule.pattern → bit_and x.setting (rule_fields rule) ≡ x.setting → (number : ℕ) (p : Pattern) → slice_get patterns number ≡ Some p
+  of_form : (x : Step) (rule : FormModel) (k : ℕ) → slice_get stock.rules k ≡ Some rule → IsStepping rule.goal → x.pattern ≡ rule.pattern → bit_and x.setting (form_fields rule) ≡ x.setting → (number : ℕ) (p : Pattern) → slice_get patterns number ≡ Some p
       → IsFormOf netlist reach number p rule → IsWorded netlist patterns x (step_clobbers stock.rules x)
-  of_form x rule k listed goal same within number p at (of_jump h e) = absurd (no_step rule.goal _ (ap (λ (r : Rule). r.goal) e) goal (λ z. z))
-  of_form x rule k listed goal same within number p at (of_branch choice parts h e) = absurd (no_step rule.goal _ (ap (λ (r : Rule). r.goal) e) goal (λ z. z))
+  of_form x rule k listed goal same within number p at (of_jump h e) = absurd (no_step rule.goal _ (ap (λ (r : FormModel). r.goal) e) goal (λ z. z))
+  of_form x rule k listed goal same within number p at (of_branch choice parts h e) = absurd (no_step rule.goal _ (ap (λ (r : FormModel). r.goal) e) goal (λ z. z))
   of_form x rule k listed goal same within number p at (of_plain choice clobbers plain are e) =
       let q : IsKnownPattern netlist p = known number p at in
-      let f : rule_fields rule ≡ move_fields p.move = ap (λ (r : Rule). rule_fields r) e ∙ swapped_fields choice p.move q.is.changes in
+      let f : form_fields rule ≡ transfer_fields p.move = ap (λ (r : FormModel). form_fields r) e ∙ swapped_fields choice p.move q.is.changes in
       record {
         of = record {
           pattern = p;
-          at = ap (λ n. slice_get patterns n) (same ∙ ap (λ (r : Rule). r.pattern) e) ∙ at;
+          at = ap (λ n. slice_get patterns n) (same ∙ ap (λ (r : FormModel). r.pattern) e) ∙ at;
           is = q.is;
           setting = ap (λ n. bit_and x.setting n) (sym f) ∙ within;
         };
         mask = clobbers;
         same = ap (λ n. step_clobbers stock.rules (record { pattern = n; setting = x.setting })) same
-            ∙ ap (λ n. regs_of n) (clobbers_at stock.rules shared k rule listed ∙ ap (λ (r : Rule). r.clobbers) e);
+            ∙ ap (λ n. regs_of n) (clobbers_at stock.rules shared k rule listed ∙ ap (λ (r : FormModel). r.clobbers) e);
         words = plain_words netlist p clobbers plain are;
       }
 
@@ -109,11 +109,11 @@ module _ (netlist : Netlist) (order : List ℕ) (keeps : KeepsRules netlist orde
   forms_on [] ys g h = h
   forms_on (x ∷ xs) ys g h = (g.0, forms_on xs ys g.1 h)
 
-  job_forms : (work : Work) (choice : Choice) → IsCovered stock work choice → AreOfForms stock.rules (job_steps stock work choice)
+  job_forms : (work : JobModel) (choice : JobCoverModel) → IsCovered stock work choice → AreOfForms stock.rules (job_steps stock work choice)
   job_forms work choice c =
       subst (λ t. AreOfForms stock.rules (cover_steps stock work.destination t choice.plan)) (sym (ap tree_or_none c.covers.used)) (steps_of_forms stock work.destination c.covers.tree choice.plan c.covers.orderly)
 
-  jobs_forms : (jobs : List Work) (choices : List Choice) → AreCovered stock jobs choices → AreOfForms stock.rules (jobs_steps stock jobs choices)
+  jobs_forms : (jobs : List JobModel) (choices : List JobCoverModel) → AreCovered stock jobs choices → AreOfForms stock.rules (jobs_steps stock jobs choices)
   jobs_forms [] [] c = tt
   jobs_forms [] (d ∷ choices) c = absurd c
   jobs_forms (t ∷ jobs) [] c = absurd c
@@ -142,7 +142,7 @@ module _ (netlist : Netlist) (order : List ℕ) (keeps : KeepsRules netlist orde
     spare_mode (Some mode) k xs after h s = spare_with (operation_in netlist patterns) (step_clobbers stock.rules) mode xs after (all_spare mode k xs h) s
 
     -- the steps of jobs, where at most the mode is live behind them
-    pub block_words : (jobs : List Work) (choices : List Choice) (live : Regs) → AreCovered stock jobs choices → ((r : ℕ) → live r ≡ true → with_mode o no_regs r ≡ true)
+    pub block_words : (jobs : List JobModel) (choices : List JobCoverModel) (live : Regs) → AreCovered stock jobs choices → ((r : ℕ) → live r ≡ true → with_mode o no_regs r ≡ true)
         → AllHaveWords (operation_in netlist patterns) (fits_over netlist (operation_in netlist patterns)) (singles (jobs_steps stock jobs choices)) live
     block_words jobs choices live c f =
         let xs : List Step = jobs_steps stock jobs choices in
@@ -152,10 +152,10 @@ module _ (netlist : Netlist) (order : List ℕ) (keeps : KeepsRules netlist orde
         (spare_mode o keep xs no_regs h (jobs_spare stock (file_place netlist.storages) patterns (length netlist.storages) (counter_of netlist.codes) formed shared counts jobs choices c).0))
 
     -- the steps of a test, where the mode and registers of its condition are live behind it
-    pub test_words : (job : Work) (choice : Choice) (live : Regs) → IsCovered stock (test_of job) choice → ((r : ℕ) → live r ≡ true → with_mode o (wanted stock tested (tree_used (test_of job) choice) choice.plan) r ≡ true)
+    pub test_words : (job : JobModel) (choice : JobCoverModel) (live : Regs) → IsCovered stock (test_of job) choice → ((r : ℕ) → live r ≡ true → with_mode o (wanted stock tested (tree_used (test_of job) choice) choice.plan) r ≡ true)
         → AllHaveWords (operation_in netlist patterns) (fits_over netlist (operation_in netlist patterns)) (singles (job_steps stock (test_of job) choice)) live
     test_words job choice live c f =
-        let used : Term = tree_used (test_of job) choice in
+        let used : ExprModel = tree_used (test_of job) choice in
         let xs : List Step = job_steps stock (test_of job) choice in
         let h : AreOfForms stock.rules xs = job_forms (test_of job) choice c in
         let s : AreSpare stock (file_place netlist.storages) patterns (counter_of netlist.codes) tested used choice.plan =

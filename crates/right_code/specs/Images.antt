@@ -1,5 +1,13 @@
 -- The image of a task: all that is decided about it apart from its trace, and when it is right
--- code.
+-- code. The steps of a cut's jobs, one job after the other, are packed into groups, each of which
+-- has a step, and which hold the steps, each as often, mean them, and are packed. The words of a
+-- block are those of its cuts' groups, each the least that fits its group with the registers that
+-- are live behind it, and the mode words between them; nothing but the mode is live behind a cut,
+-- and behind a test's steps the mode and exactly those registers that the branch's condition
+-- reads. They stand in the flow's order, with the jump and branch words between them, which keep
+-- the mode; each word lists the patterns of its group's steps, or that of its jump or branch or of
+-- its mode word, by their numbers in the mode in which it runs; the layout of the memory, the told
+-- costs, the marks and the bound are right. *Right code* is such an image that traces the program.
 use Rattle.std.specs.Prelude.{ℕ, ◌≤◌, ◌≡◌, List, length, Option, Some, slice_get}
 use Rattle.net_model.specs.declared.hardware.Netlist.{Netlist}
 use Rattle.net_model.specs.Nets.{memory_size, word_width}
@@ -9,45 +17,45 @@ use Rattle.code_model.specs.declared.image.Image.{Image}
 use Rattle.code_model.specs.Places.{words_of}
 use Rattle.code_model.specs.Right.{TracesRight}
 use Rattle.form_model.specs.declared.forms.Step.{Step}
-use Rattle.form_model.specs.Covers.{Choice, Stock}
-use Rattle.form_model.specs.Rules.{tested}
+use Rattle.form_model.specs.Covers.{JobCoverModel, StockModel}
+use Rattle.form_model.specs.Forms.{tested}
 use Rattle.form_model.specs.Steps.{branch_setting}
 use Rattle.form_set.specs.Listing.{greatest_reach}
-use Rattle.mode_set.specs.Costs.{Planned}
+use Rattle.mode_set.specs.Costs.{PlanModel}
 use Rattle.mode_set.specs.Keeping.{Isas}
 use Rattle.net_model.specs.ModeRules.{base_at}
 use Rattle.right_code.specs.Cuts.{AreBlockCuts, cuts_of, plans_at, with_mode}
 use Rattle.emit_seq.specs.Spares.{wanted}
 use Rattle.src_trees.specs.Blocks.{IsAssignBlock, jobs_at}
 use Rattle.src_trees.specs.Held.{HasCellRoom, HoldsVars}
-use Rattle.src_trees.specs.Lowered.{Work}
+use Rattle.src_trees.specs.Lowered.{JobModel}
 use Rattle.branch_fix.specs.Bounds.{program_bound}
 use Rattle.branch_fix.specs.Items.{items_from, jump_form}
 use Rattle.branch_fix.specs.Marked.{AreMarked}
 use Rattle.branch_fix.specs.Parts.{marks_from, parts_of, starts, total}
 use Rattle.branch_fix.specs.Rounds.{IsFixpoint}
-use Rattle.branch_fix.specs.declared.part.Fork.{Fork}
-use Rattle.branch_fix.specs.declared.part.Part.{Part}
-use Rattle.branch_fix.specs.declared.part.Part.TheVariants.{Block, Test}
+use Rattle.branch_fix.specs.declared.part.BranchedTest.{BranchedTest}
+use Rattle.branch_fix.specs.declared.part.LayoutPart.{LayoutPart}
+use Rattle.branch_fix.specs.declared.part.LayoutPart.TheVariants.{Block, Test}
 use Rattle.right_code.specs.Covered.{ArePlans, mode_stock, numbered, plan_costs}
-use Rattle.right_code.specs.Forks.{plan_rule}
+use Rattle.right_code.specs.Forks.{cover_form}
 use Rattle.right_code.specs.Jobs.{job_steps, tree_used}
-use Rattle.right_code.specs.Tasks.{Task, task_memory, task_temps, task_works}
+use Rattle.right_code.specs.Tasks.{Task, task_memory, task_temps, task_jobs}
 use Rattle.right_code.specs.Words.{AreGroupWords, IsPackingOf, ListItems, StandItems}
 
 -- ---- the words of tests
 
 -- the branch of a test is one of the form at the root of its tree's cover, and its condition has
 -- the setting that the cover gives it
-pub record IsBranchOf (stock : Stock) (job : Work) (choice : Choice) (f : Fork) : Type 0 where
-  pub form : slice_get stock.rules f.form ≡ Some (plan_rule stock choice.plan)
+pub record IsBranchOf (stock : StockModel) (job : JobModel) (choice : JobCoverModel) (f : BranchedTest) : Type 0 where
+  pub form : slice_get stock.rules f.form ≡ Some (cover_form stock choice.plan)
   pub setting : f.setting ≡ branch_setting stock (tree_used job choice) choice.plan
 
 -- so many words are those of groups that the steps of a test's cover are packed into, behind which
 -- exactly the mode and the registers are live that the branch's condition reads under its setting
 pub record AreTestWords (netlist : Netlist) (special : Option ℕ) (patterns : List Pattern)
-    (stock : Stock) (job : Work) (choice : Choice) (groups : List (List Step)) (words : List ℕ)
-    (f : Fork) : Type 0 where
+    (stock : StockModel) (job : JobModel) (choice : JobCoverModel) (groups : List (List Step)) (words : List ℕ)
+    (f : BranchedTest) : Type 0 where
   pub packing : IsPackingOf netlist patterns (job_steps stock job choice)
       (with_mode special (wanted stock tested (tree_used job choice) choice.plan)) groups
   pub least : AreGroupWords netlist patterns groups
@@ -73,15 +81,15 @@ pub record IsMadeFor (task : Task) (image : Image) : Type 0 where
   -- the temporary cells, and the variables at the task's places
   pub layout : IsLaidAt task image
   -- each job has its mode and its chosen cover, whose cost is told with its tree's number
-  pub plans : List Planned
+  pub plans : List PlanModel
   pub planned : ArePlans task isas plans
-  pub costs : image.costs ≡ numbered 0 (plan_costs (task_works task) plans)
+  pub costs : image.costs ≡ numbered 0 (plan_costs (task_jobs task) plans)
   -- what stands at the places of the task's flow: blocks of so many words, tests with their
   -- branch forms and settings, jumps and the end, where in rounds each relative branch became three
   -- words that doesn't show its distance. Tests and jumps have the forms of mode 0 that keep it
   pub sizes : List ℕ
   pub settings : List (ℕ × ℕ)
-  pub parts : List Part
+  pub parts : List LayoutPart
   pub settled : IsFixpoint (isas 0).rules (parts_of (isas 0).rules task.flow sizes settings) parts
   -- the groups and the words of each block and of each test's operands, by the block's number
   pub groups : ℕ → List (List Step)
@@ -89,12 +97,12 @@ pub record IsMadeFor (task : Task) (image : Image) : Type 0 where
   pub blocks : (at n block size : ℕ) → IsAssignBlock task.flow at n
       → slice_get parts at ≡ Some (Block block size)
       → AreBlockCuts task isas
-      (cuts_of (jobs_at task.flow (task_works task) at n) (plans_at task.flow plans at n))
+      (cuts_of (jobs_at task.flow (task_jobs task) at n) (plans_at task.flow plans at n))
       (groups block) (words block)
       × (size ≡ length (words block))
-  pub tests : (at : ℕ) (f : Fork) → slice_get parts at ≡ Some (Test f)
-      → (job : Work) → slice_get (task_works task) f.tree ≡ Some job
-      → (planned : Planned) → slice_get plans f.tree ≡ Some planned
+  pub tests : (at : ℕ) (f : BranchedTest) → slice_get parts at ≡ Some (Test f)
+      → (job : JobModel) → slice_get (task_jobs task) f.tree ≡ Some job
+      → (planned : PlanModel) → slice_get plans f.tree ≡ Some planned
       → AreTestWords (base_at task.netlist 0) task.netlist.special (isas 0).patterns (mode_stock task isas 0)
       job planned.choice (groups f.block) (words f.block) f
   -- these words, and the jump and branch words between them, are all words of the image, in the
@@ -107,7 +115,7 @@ pub record IsMadeFor (task : Task) (image : Image) : Type 0 where
   pub marks : image.marks ≡ marks_from 0 parts
   pub marked : AreMarked task.flow (length (words_of image)) image.marks
   -- there are no more words than the bound
-  pub most : length (words_of image) ≤ program_bound task.listing (plan_costs (task_works task) plans)
+  pub most : length (words_of image) ≤ program_bound task.listing (plan_costs (task_jobs task) plans)
   -- each word lists the patterns of its group's steps, or that of its jump or branch, by the numbers
   -- of the mode in which it runs
   pub lists : ListItems groups

@@ -1,51 +1,51 @@
 -- The steps of jobs one after the other, and what they leave.
 use Rattle.std.specs.Prelude.{◌≤◌, ◌≡◌, true, List, [], ◌∷◌, ◌++◌, Option, Some, None, slice_get}
-use Rattle.net_model.specs.Terms.{Term, const}
+use Rattle.net_model.specs.Exprs.{ExprModel, const}
 use Rattle.form_model.specs.declared.forms.Step.{Step}
 use Rattle.form_model.specs.Trees.{is_tree}
-use Rattle.form_model.specs.Rules.{Destination, stored, tested}
-use Rattle.form_model.specs.Covers.{Stock, Choice, Covers}
+use Rattle.form_model.specs.Forms.{DestinationModel, stored, tested}
+use Rattle.form_model.specs.Covers.{StockModel, JobCoverModel, Covers}
 use Rattle.form_model.specs.Steps.{cut_count, cover_steps}
 use Rattle.emit_seq.specs.Leaves.{IsOfJob}
-use Rattle.src_trees.specs.Lowered.{Work}
+use Rattle.src_trees.specs.Lowered.{JobModel}
 
-abbrev pub tree_or_none : Option Term → Term
+abbrev pub tree_or_none : Option ExprModel → ExprModel
 tree_or_none None = const 0 0
 tree_or_none (Some t) = t
 
 -- a list of one tree
-abbrev pub IsOne : List Term → Type 0
-IsOne trees = (t : Term) × (trees ≡ t ∷ [])
+abbrev pub IsOne : List ExprModel → Type 0
+IsOne trees = (t : ExprModel) × (trees ≡ t ∷ [])
 
 -- a job that stores something has one tree
-abbrev pub HasOne : Destination → List Term → Type 0
+abbrev pub HasOne : DestinationModel → List ExprModel → Type 0
 HasOne tested trees = Unit {0}
 HasOne destination trees = IsOne trees
 
 -- the tree of a job that its cover uses
-abbrev pub tree_used : Work → Choice → Term
+abbrev pub tree_used : JobModel → JobCoverModel → ExprModel
 tree_used work choice = tree_or_none (slice_get work.trees choice.which)
 
 -- the steps of a job's cover
-abbrev pub job_steps : Stock → Work → Choice → List Step
+abbrev pub job_steps : StockModel → JobModel → JobCoverModel → List Step
 job_steps stock work choice = cover_steps stock work.destination (tree_used work choice) choice.plan
 
 -- and those of jobs one after the other
-abbrev pub jobs_steps : Stock → List Work → List Choice → List Step
+abbrev pub jobs_steps : StockModel → List JobModel → List JobCoverModel → List Step
 jobs_steps stock (work ∷ works) (choice ∷ choices) = job_steps stock work choice ++ jobs_steps stock works choices
 jobs_steps stock _ _ = []
 
-abbrev pub AreTrees : List Term → Type 0
+abbrev pub AreTrees : List ExprModel → Type 0
 AreTrees [] = Unit {0}
 AreTrees (t ∷ trees) = (is_tree t ≡ true) × AreTrees trees
 
 -- the address of a store is a tree, too
-abbrev pub IsTreeDestination : Destination → Type 0
+abbrev pub IsTreeDestination : DestinationModel → Type 0
 IsTreeDestination (stored address) = is_tree address ≡ true
 IsTreeDestination destination = Unit {0}
 
 -- a job has an orderly cover, with at most as many cuts as there are temporary cells
-pub record IsCovered (stock : Stock) (work : Work) (choice : Choice) : Type 0 where
+pub record IsCovered (stock : StockModel) (work : JobModel) (choice : JobCoverModel) : Type 0 where
   pub trees : AreTrees work.trees
   pub destination : IsTreeDestination work.destination
   pub goes : IsOfJob work.destination

@@ -1,5 +1,11 @@
 -- What two files say together: a netlist and a program for the words of its data memory; and what
--- is made of that before any form is known.
+-- is made of that before any form is known. A task is a netlist, the width of a word, a program,
+-- the places of its variables in the netlist's memory, its flow and its jobs; its forms with its
+-- temporary cells and the cells of the register file. It is *checked* where both keep their rules,
+-- the netlist in each mode, a word has the memory's width, the memory holds the variables and has
+-- room, the flow is the program's but for tests that are turned, and the jobs do what the
+-- program's statements say, once those of turned tests are turned back. The task of two files
+-- (`row_task`) has the variables behind each other, and the program's own flow and jobs.
 use Rattle.std.specs.Prelude.{ℕ, ◌≡◌, List, None, length}
 use Rattle.net_model.specs.declared.hardware.Netlist.{Netlist}
 use Rattle.net_model.specs.CheckedRules.{memory_addr_width}
@@ -8,19 +14,19 @@ use Rattle.net_model.specs.Nets.{memory_size, memory_width, size_in}
 use Rattle.src_model.specs.declared.typed.Typed.{Typed}
 use Rattle.src_model.specs.Rules.{first_fault, temp_count}
 use Rattle.src_model.specs.Sizes.{statements_in}
-use Rattle.src_model.specs.Written.{Listing, listing_of, acts_of}
+use Rattle.src_model.specs.Written.{ProgramModel, model_of_program, stmts_of}
 use Rattle.code_model.specs.declared.image.Place.{Place as VariablePlace}
 use Rattle.form_model.specs.declared.flow.Flow.{Flow}
-use Rattle.form_model.specs.Covers.{Stock}
-use Rattle.form_model.specs.Rules.{Rule}
+use Rattle.form_model.specs.Covers.{StockModel}
+use Rattle.form_model.specs.Forms.{FormModel}
 use Rattle.net_model.specs.ModeRules.{KeepsModes, Moded}
-use Rattle.src_trees.specs.Flows.{program_flow, program_works}
+use Rattle.src_trees.specs.Flows.{program_flow, program_jobs}
 use Rattle.src_trees.specs.Held.{HasCellRoom, HoldsVars}
-use Rattle.src_trees.specs.Lowered.{MemoryMap, Work}
+use Rattle.src_trees.specs.Lowered.{MemoryMap, JobModel}
 use Rattle.src_trees.specs.Measures.{AllSmall}
 use Rattle.src_trees.specs.Meant.{DoProgram}
 use Rattle.src_trees.specs.Seen.{memory_map}
-use Rattle.src_trees.specs.Turned.{Turns, TurnsTests, told_works, turned_flow}
+use Rattle.src_trees.specs.Turned.{Turns, TurnsTests, jobs_of_told, turned_flow}
 use Rattle.right_code.specs.Works.{AllOne, AreFlowJobs, node_limit}
 
 -- a netlist, how many bits a word has, a program that keeps the rules for such words, where its
@@ -28,10 +34,10 @@ use Rattle.right_code.specs.Works.{AllOne, AreFlowJobs, node_limit}
 pub record Task : Type 0 where
   pub netlist : Netlist
   pub width : ℕ
-  pub listing : Listing
+  pub listing : ProgramModel
   pub places : List VariablePlace
   pub flow : List Flow
-  pub works : List Work
+  pub works : List JobModel
 
 -- the data memory with the program's variables
 abbrev pub task_memory : Task → MemoryMap
@@ -42,8 +48,8 @@ task_memory task = record {
 }
 
 -- its jobs, and its temporary cells
-abbrev pub task_works : Task → List Work
-task_works task = task.works
+abbrev pub task_jobs : Task → List JobModel
+task_jobs task = task.works
 
 abbrev pub task_temps : Task → ℕ
 task_temps task = temp_count task.width task.listing
@@ -58,8 +64,8 @@ pub record HasJobs (task : Task) : Type 0 where
   pub turned : Turns
   pub only : TurnsTests turned (program_flow task.listing)
   pub flow : task.flow ≡ turned_flow turned (program_flow task.listing)
-  pub meant : DoProgram (task_memory task) (task_temps task) task.listing (told_works turned task.works)
-  pub count : length task.works ≡ statements_in (acts_of task.listing.body)
+  pub meant : DoProgram (task_memory task) (task_temps task) task.listing (jobs_of_told turned task.works)
+  pub count : length task.works ≡ statements_in (stmts_of task.listing.body)
   pub one : AllOne task.works
   pub tests : AreFlowJobs task.works task.flow
   pub small : AllSmall task.width (task_temps task) node_limit task.works
@@ -79,25 +85,25 @@ Property = Task → Type 0
 -- ---- the task of one memory
 
 -- the variables stand behind the temporary cells
-abbrev pub row_memory : Netlist → ℕ → Listing → MemoryMap
+abbrev pub row_memory : Netlist → ℕ → ProgramModel → MemoryMap
 row_memory netlist width l = memory_map width (memory_addr_width netlist.storages) (temp_count width l) l.vars
 
-abbrev pub row_task : Netlist → ℕ → Listing → Task
+abbrev pub row_task : Netlist → ℕ → ProgramModel → Task
 row_task netlist width l = record {
   netlist = netlist;
   width = width;
   listing = l;
   places = (row_memory netlist width l).places;
   flow = program_flow l;
-  works = program_works (row_memory netlist width l) l;
+  works = program_jobs (row_memory netlist width l) l;
 }
 
 -- that of a netlist and a program that were read
 abbrev pub read_task : Moded → Typed → Task
-read_task modes typed = row_task modes.netlist typed.width (listing_of typed.program)
+read_task modes typed = row_task modes.netlist typed.width (model_of_program typed.program)
 
 -- forms, the program's temporary cells, and the cells of the register file
-abbrev pub task_stock : List Rule → Task → Stock
+abbrev pub task_stock : List FormModel → Task → StockModel
 task_stock rules task = record {
   rules = rules;
   temps = temp_count task.width task.listing;

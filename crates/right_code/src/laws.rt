@@ -7,23 +7,23 @@ ghost use Rattle.net_model.specs.CheckedRules.{code_size};
 ghost use Rattle.net_model.specs.ModeRules.{KeepsModes};
 ghost use Rattle.net_model.specs.Nets.{memory_size, memory_width};
 ghost use Rattle.src_model.specs.Rules.{first_fault, temp_count};
-ghost use Rattle.src_model.specs.Written.{Listing};
+ghost use Rattle.src_model.specs.Written.{ProgramModel};
 ghost use Rattle.code_model.specs.Layout.{need_of, variables_of};
 ghost use Rattle.code_model.specs.declared.image.Image.{Image};
 ghost use Rattle.code_model.specs.Places.{words_of};
 ghost use Rattle.code_model.specs.Right.{IsLaidOut};
-ghost use Rattle.form_model.specs.Covers.{Choice, IsChosen, Stock};
-ghost use Rattle.form_model.specs.Rules.{Rule};
+ghost use Rattle.form_model.specs.Covers.{JobCoverModel, IsChosen, StockModel};
+ghost use Rattle.form_model.specs.Forms.{FormModel};
 ghost use Rattle.form_set.specs.Listing.{greatest_reach};
-ghost use Rattle.mode_set.specs.Costs.{Planned};
+ghost use Rattle.mode_set.specs.Costs.{PlanModel};
 ghost use Rattle.mode_set.specs.Keeping.{Isas};
-ghost use Rattle.src_trees.specs.Lowered.{Work};
+ghost use Rattle.src_trees.specs.Lowered.{JobModel};
 ghost use Rattle.right_code.specs.Bounded.{HasBound};
 ghost use Rattle.right_code.specs.Covered.{AllPlanned, AreCosts, HasBareTree, HasCovers, mode_stock, plan_costs};
 ghost use Rattle.right_code.specs.Forms.{AreFormsOf};
 ghost use Rattle.right_code.specs.Images.{IsLaidAt, IsMadeFor, IsRightImage};
 ghost use Rattle.right_code.specs.Jobs.{IsCovered};
-ghost use Rattle.right_code.specs.Tasks.{IsChecked, Task, row_task, task_works};
+ghost use Rattle.right_code.specs.Tasks.{IsChecked, Task, row_task, task_jobs};
 
 /// The task of a netlist and a program that keep their rules is checked, where the program's words
 /// are those of the netlist's data memory, which has the cells that the program needs: the variables
@@ -31,17 +31,17 @@ ghost use Rattle.right_code.specs.Tasks.{IsChecked, Task, row_task, task_works};
 /// says. An image that is laid out for it has the variables there, in the order of their
 /// declarations.
 pub fn law_of_tasks()
-    ensures checked { (netlist : Netlist) (width : ℕ) (l : Listing) → KeepsModes netlist → first_fault width l ≡ None →
+    ensures checked { (netlist : Netlist) (width : ℕ) (l : ProgramModel) → KeepsModes netlist → first_fault width l ≡ None →
         memory_width netlist.storages ≡ width → need_of width l ≤ memory_size netlist.storages →
         IsChecked (row_task netlist width l) }
-    ensures laid { (netlist : Netlist) (width : ℕ) (l : Listing) (image : Image) →
+    ensures laid { (netlist : Netlist) (width : ℕ) (l : ProgramModel) (image : Image) →
         IsLaidAt (row_task netlist width l) image →
         IsLaidOut netlist (temp_count width l) (variables_of l.vars) image }
 {}
 
 /// A netlist has one list of forms, with one greatest reach of its jumps.
 pub fn law_of_lists()
-    ensures { (netlist : Netlist) (rules others : List Rule) (reach other : ℕ) →
+    ensures { (netlist : Netlist) (rules others : List FormModel) (reach other : ℕ) →
         AreFormsOf netlist rules reach → AreFormsOf netlist others other → (rules ≡ others) × (reach ≡ other) }
 {}
 
@@ -53,7 +53,7 @@ pub fn law_of_isas()
 
 /// Jobs have one list of costs in their modes, and a task one such list, one bound and one reach.
 pub fn law_of_costs()
-    ensures jobs { (stock : ℕ → Stock) (usable : ℕ → Bool) (jobs : List Work) (plans others : List Planned) →
+    ensures jobs { (stock : ℕ → StockModel) (usable : ℕ → Bool) (jobs : List JobModel) (plans others : List PlanModel) →
         AllPlanned stock (λ v. usable v ≡ true) jobs plans → AllPlanned stock (λ v. usable v ≡ true) jobs others →
         plan_costs jobs plans ≡ plan_costs jobs others }
     ensures task { (task : Task) (costs others : List (ℕ × ℕ)) → AreCosts task costs →
@@ -63,7 +63,7 @@ pub fn law_of_costs()
 {}
 
 /// A task has one first tree that no forms cover, and where there is one not all trees are covered.
-pub fn law_of_bare()
+pub fn law_of_uncovered_tree()
     ensures one { (task : Task) (number other : ℕ) → HasBareTree number task → HasBareTree other task → number ≡ other }
     ensures none { (task : Task) (number : ℕ) → HasCovers task → HasBareTree number task → ⊥ }
 {}
@@ -72,8 +72,8 @@ pub fn law_of_bare()
 /// cuts than the task has temporary cells.
 pub fn law_of_chosen()
     ensures { (task : Task) → IsChecked task → (isas : Isas task.netlist) (v : ℕ) →
-        (number : ℕ) (job : Work) → slice_get (task_works task) number ≡ Some job →
-        (choice : Choice) → IsChosen (mode_stock task isas v) job.destination job.trees choice →
+        (number : ℕ) (job : JobModel) → slice_get (task_jobs task) number ≡ Some job →
+        (choice : JobCoverModel) → IsChosen (mode_stock task isas v) job.destination job.trees choice →
         IsCovered (mode_stock task isas v) job choice }
 {}
 

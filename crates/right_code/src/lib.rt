@@ -13,11 +13,11 @@
 //! variables there (`IsLaidOut`).
 //! `law_of_block_words`, `law_of_test_words` and `law_of_jump_words`: each step and each jump of
 //! such code has a word. `law_of_chosen`: a chosen cover has a cell for each of its cuts.
-//! `law_of_lists`, `law_of_isas`, `law_of_costs` and `law_of_bare`: what the definitions ask for is
+//! `law_of_lists`, `law_of_isas`, `law_of_costs` and `law_of_uncovered_tree`: what the definitions ask for is
 //! one: the forms, the instruction set of each mode, the costs, the bound, the first tree without a
 //! cover.
 //!
-//! There is no code to run here: this crate says what `net_code` has to make, over the netlist and
+//! There is no code to run here: this crate says what `code_gen` has to make, over the netlist and
 //! the program alone, so that neither ids nor sets occur in the definition of right code.
 //!
 //! Files:
@@ -41,7 +41,7 @@ mod laws;
 mod words;
 
 pub use laws::{
-    law_of_bare, law_of_chosen, law_of_costs, law_of_isas, law_of_lists, law_of_programs,
-    law_of_tasks,
+    law_of_chosen, law_of_costs, law_of_isas, law_of_lists, law_of_programs, law_of_tasks,
+    law_of_uncovered_tree,
 };
 pub use words::{law_of_block_words, law_of_jump_words, law_of_test_words};

@@ -1,8 +1,8 @@
 -- Choices while a pool grows.
 use Rattle.std.proofs.Common.{◌≡◌, ℕ, zero, suc, ◌<◌, List, [], ◌∷◌, length, map, slice_get, Some, subst}
-use Rattle.net_model.specs.Terms.{Term, select}
+use Rattle.net_model.specs.Exprs.{ExprModel, select}
 use Rattle.sym_expr.specs.declared.pool.Node.{Node}
-use Rattle.sym_expr.specs.Pools.{AllBelow, Grows, term_at}
+use Rattle.sym_expr.specs.Pools.{AllBelow, Grows, expr_of_id}
 use Rattle.sym_expr.proofs.CallerLemmas.{same_term}
 use Rattle.transfer_set.specs.declared.route.Route.{Route}
 use Rattle.route_trace.specs.declared.heads.Binary.{Binary}
@@ -23,5 +23,5 @@ select_fit_at pool (x ∷ xs) ys zs zero c at f = (let e : x ≡ c = cc in subst
 select_fit_at pool (x ∷ xs) ys zs (suc i) c at f = select_fit_at pool xs ys zs i c at f.1
 
 -- the choices under a selector, in a pool that grew
-pub under_later : (old new : List Node) → Grows old new → (c : ℕ) → c < length old → (xs ys us vs : List Term) → us ≡ xs → vs ≡ ys → pairs (Select c) (term_at new) us vs ≡ under (term_at old c) xs ys
+pub under_later : (old new : List Node) → Grows old new → (c : ℕ) → c < length old → (xs ys us vs : List ExprModel) → us ≡ xs → vs ≡ ys → pairs (Select c) (expr_of_id new) us vs ≡ under (expr_of_id old c) xs ys
 under_later old new g c h xs ys us vs e f = let d = same_term old new g c h in (λ j. each (λ a. map (select (d j) a) (f j)) (e j))

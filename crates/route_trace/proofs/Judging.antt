@@ -8,16 +8,16 @@ use Rattle.bit_bdd.proofs.CallerLemmas.{same_words}
 use Rattle.net_model.specs.declared.hardware.Netlist.{Netlist}
 use Rattle.net_model.specs.Depends.{Among, Depends, named_by, direct, via}
 use Rattle.net_model.specs.Symbolic.{all_nets, sym_of}
-use Rattle.net_model.specs.Terms.{Term, size_of}
+use Rattle.net_model.specs.Exprs.{ExprModel, size_of}
 use Rattle.net_model.specs.Nets.{word_width}
 use Rattle.net_model.specs.Transfers.{IsClean}
 use Rattle.sym_expr.specs.declared.pool.Node.{Node}
 use Rattle.rec_bits.specs.Counts.{capped}
-use Rattle.sym_expr.specs.Pools.{term_at, IsOneEach}
+use Rattle.sym_expr.specs.Pools.{expr_of_id, IsOneEach}
 use Rattle.ctl_bdd.specs.Controls.{IsControl}
 use Rattle.ctl_bdd.specs.declared.ControlBits.{ControlBits}
 use Rattle.transfer_set.specs.declared.route.Route.{Route}
-use Rattle.transfer_set.specs.Routes.{exprs_under, GivesTerm, IsRouteTable}
+use Rattle.transfer_set.specs.Routes.{exprs_under, GivesExpr, IsRouteTable}
 use Rattle.route_trace.specs.Inner.Gates.{AllLegal}
 use Rattle.route_trace.specs.Limits.{AllDiffer, Differ, HasMany, IsBroken, IsFirstBroken, IsLarge, IsRouteFault, KeepsLimits}
 use Rattle.route_trace.specs.declared.RouteFault.{RouteFault}
@@ -55,10 +55,10 @@ without e (y ∷ es) a = elim a as (λ _. Without e (y ∷ es)) [
 ]
 
 -- each word has its value among those of the list
-abbrev Covered : (ℕ → Term) → (ℕ → Term) → List ℕ → List ℕ → Type 0
+abbrev Covered : (ℕ → ExprModel) → (ℕ → ExprModel) → List ℕ → List ℕ → Type 0
 Covered t f es words = AllByRecursion (λ word. (e : ℕ) × Among e es × (t e ≡ f word)) words
 
-module _ (t f : ℕ → Term) where
+module _ (t f : ℕ → ExprModel) where
   others_covered : (e : ℕ) (es : List ℕ) (w : Without e es) (word : ℕ) → t e ≡ f word → (words : List ℕ) → Differ f word words → Covered t f es words → Covered t f w.rest words
   others_covered e es w word is [] d c = tt
   others_covered e es w word is (other ∷ words) d c =
@@ -121,8 +121,8 @@ module _ (netlist : Netlist) (controls : ControlBits) (old book : Diagrams) (con
   pub many_found : (n : ℕ) → n < length netlist.nets → ((m : ℕ) → Depends (named_by netlist) n m → IsBroken netlist m → ⊥) → HasMany netlist n → IsFound netlist n Many
   many_found n net alone m = (record { net = net; broken = inr m; alone = alone }, m)
 
-  module _ (pool : List Node) (one : IsOneEach pool) (n : ℕ) (routes : List Route) (table : IsRouteTable book pool routes) (gives : GivesTerm book pool controls.legal (λ word. sym_of netlist word n) routes) where
-    covered : (words : List ℕ) → AllByRecursion (IsClean netlist) words → Covered (term_at pool) (λ word. sym_of netlist word n) (map (λ (route : Route). route.expr) routes) words
+  module _ (pool : List Node) (one : IsOneEach pool) (n : ℕ) (routes : List Route) (table : IsRouteTable book pool routes) (gives : GivesExpr book pool controls.legal (λ word. sym_of netlist word n) routes) where
+    covered : (words : List ℕ) → AllByRecursion (IsClean netlist) words → Covered (expr_of_id pool) (λ word. sym_of netlist word n) (map (λ (route : Route). route.expr) routes) words
     covered [] h = tt
     covered (word ∷ words) h =
         let l = legal_in word h.0 in
@@ -131,17 +131,17 @@ module _ (netlist : Netlist) (controls : ControlBits) (old book : Diagrams) (con
 
     few : length routes ≤ 4096 → HasMany netlist n → ⊥
     few le many =
-        let p = pigeons (term_at pool) (λ word. sym_of netlist word n) many.words (map (λ (route : Route). route.expr) routes) many.apart (covered many.words many.clean) in
+        let p = pigeons (expr_of_id pool) (λ word. sym_of netlist word n) many.words (map (λ (route : Route). route.expr) routes) many.apart (covered many.words many.clean) in
         let l = long_map routes in
         let m = many.many in
         absurd (omega (arith, p, l, m, le))
 
-    small : AllByRecursion (λ (route : Route). size_of (term_at pool route.expr) ≤ 255) routes → IsLarge netlist n → ⊥
+    small : AllByRecursion (λ (route : Route). size_of (expr_of_id pool route.expr) ≤ 255) routes → IsLarge netlist n → ⊥
     small all large =
         let l = legal_in large.word large.clean in
         let e = every book pool controls.legal (λ word. sym_of netlist word n) routes gives large.word l.0 l.1 in
-        let le = all_among (λ e. size_of (term_at pool e) ≤ 255) routes all e.0 (among_held book large.word routes e.0 [] e.1) in
-        let same : size_of (term_at pool e.0) ≡ size_of (sym_of netlist large.word n) = ap size_of e.2 in
+        let le = all_among (λ e. size_of (expr_of_id pool e) ≤ 255) routes all e.0 (among_held book large.word routes e.0 [] e.1) in
+        let same : size_of (expr_of_id pool e.0) ≡ size_of (sym_of netlist large.word n) = ap size_of e.2 in
         let more = large.large in
         absurd (omega (arith, le, same, more))
 
@@ -149,7 +149,7 @@ module _ (netlist : Netlist) (controls : ControlBits) (old book : Diagrams) (con
     is_large h =
         let s = set_at book routes h.place h.route h.at table.right.sets in
         let r = (exact book pool controls.legal (λ word. sym_of netlist word n) routes one table gives h.place h.route h.at s.word s.fits).0 s.holds in
-        let same : size_of (term_at pool h.route.expr) ≡ size_of (sym_of netlist s.word n) = ap size_of r.1 in
+        let same : size_of (expr_of_id pool h.route.expr) ≡ size_of (sym_of netlist s.word n) = ap size_of r.1 in
         let more = h.large in
         record { word = s.word; clean = clean s.word s.fits r.0; large = omega (arith, same, more) }
 

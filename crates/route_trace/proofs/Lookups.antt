@@ -3,14 +3,14 @@ use Rattle.std.proofs.Common.{◌≡◌, ◌⊎◌, inl, inr, ℕ, zero, suc, �
 use Rattle.std.specs.List.{slice_index_or}
 use Rattle.std.proofs.lemmas.Option.{slice_get_within, slice_get-get_or}
 use Rattle.bit_bdd.specs.Diagrams.{Diagrams, has_word}
-use Rattle.net_model.specs.Terms.{Term}
+use Rattle.net_model.specs.Exprs.{ExprModel}
 use Rattle.sym_expr.specs.declared.pool.Node.{Node}
-use Rattle.sym_expr.specs.Pools.{term_at}
+use Rattle.sym_expr.specs.Pools.{expr_of_id}
 use Rattle.transfer_set.specs.declared.route.Route.{Route}
-use Rattle.transfer_set.specs.Routes.{exprs_under, terms_under}
+use Rattle.transfer_set.specs.Routes.{exprs_under, models_under}
 use Rattle.route_trace.specs.Inner.Lookups.{HoldsAt, is_free}
 use Rattle.route_trace.proofs.Products.{held_more}
-use Rattle.route_trace.proofs.Loops.{no_terms}
+use Rattle.route_trace.proofs.Loops.{no_exprs}
 
 -- ---- looking for a word
 
@@ -103,38 +103,38 @@ and_left true b h = refl
 and_left false b h = h
 
 -- what is given so far: nothing to the words that are left of a set, and all to its others
-abbrev pub left_terms : Bool → Bool → List Term → List Term → List Term
-left_terms set left whole outs = if set then (if left then [] else whole) else outs
+abbrev pub left_exprs : Bool → Bool → List ExprModel → List ExprModel → List ExprModel
+left_exprs set left whole outs = if set then (if left then [] else whole) else outs
 
-pub left_first : (s : Bool) (whole outs : List Term) → (s ≡ true → outs ≡ []) → outs ≡ left_terms s s whole outs
+pub left_first : (s : Bool) (whole outs : List ExprModel) → (s ≡ true → outs ≡ []) → outs ≡ left_exprs s s whole outs
 left_first true whole outs h = h refl
 left_first false whole outs h = refl
 
-pub left_apart : (t : ℕ → Term) (now : List ℕ) (s l : Bool) (whole outs : List Term) → (l ≡ true → s ≡ true) → map t now ≡ left_terms s l whole outs → l ≡ true → now ≡ []
-left_apart t now true true whole outs i e h = no_terms t now e
+pub left_apart : (t : ℕ → ExprModel) (now : List ℕ) (s l : Bool) (whole outs : List ExprModel) → (l ≡ true → s ≡ true) → map t now ≡ left_exprs s l whole outs → l ≡ true → now ≡ []
+left_apart t now true true whole outs i e h = no_exprs t now e
 left_apart t now false true whole outs i e h = absurd (true≢false (sym (i refl)))
 left_apart t now s false whole outs i e h = absurd (true≢false (sym h))
 
-pub left_none : (s l : Bool) (whole outs terms : List Term) → l ≡ false → terms ≡ left_terms s l whole outs → terms ≡ (if s then whole else outs)
-left_none s l whole outs terms h e = e ∙ ap (λ b. left_terms s b whole outs) h
+pub left_none : (s l : Bool) (whole outs terms : List ExprModel) → l ≡ false → terms ≡ left_exprs s l whole outs → terms ≡ (if s then whole else outs)
+left_none s l whole outs terms h e = e ∙ ap (λ b. left_exprs s b whole outs) h
 
-pub left_part : (s l : Bool) (whole outs terms : List Term) → terms ≡ left_terms s l whole outs → (terms ≡ []) ⊎ (terms ≡ (if s then whole else outs))
+pub left_part : (s l : Bool) (whole outs terms : List ExprModel) → terms ≡ left_exprs s l whole outs → (terms ≡ []) ⊎ (terms ≡ (if s then whole else outs))
 left_part true true whole outs terms e = inl e
 left_part true false whole outs terms e = inr e
 left_part false l whole outs terms e = inr e
 
-module _ (f : List Term → List Term) (book : Diagrams) (pool : List Node) (routes : List Route) (word : ℕ) where
+module _ (f : List ExprModel → List ExprModel) (book : Diagrams) (pool : List Node) (routes : List Route) (word : ℕ) where
   -- a route was added
   pub left_step : (place : ℕ) (route : Route) → slice_get routes place ≡ Some route → length (exprs_under book routes word) ≤ 1
-      → (s l r l' : Bool) (outs old add new : List Term) → (l ≡ true → s ≡ true) → r ≡ has_word book route.set word → l' ≡ (l && not r)
-      → old ≡ left_terms s l (f (terms_under book pool routes word)) outs → add ≡ f (term_at pool route.expr ∷ []) → new ≡ (if l && r then add else old)
-      → new ≡ left_terms s l' (f (terms_under book pool routes word)) outs
+      → (s l r l' : Bool) (outs old add new : List ExprModel) → (l ≡ true → s ≡ true) → r ≡ has_word book route.set word → l' ≡ (l && not r)
+      → old ≡ left_exprs s l (f (models_under book pool routes word)) outs → add ≡ f (expr_of_id pool route.expr ∷ []) → new ≡ (if l && r then add else old)
+      → new ≡ left_exprs s l' (f (models_under book pool routes word)) outs
   left_step place route at one s l r l' outs old add new i er el eo ea en =
-      en ∙ by s l r i eo (λ h. ea ∙ sym (ap (λ es. f (map (term_at pool) es)) (only_held book routes place route at word one (sym er ∙ h))))
-      ∙ ap (λ b. left_terms s b (f (terms_under book pool routes word)) outs) (sym el)
+      en ∙ by s l r i eo (λ h. ea ∙ sym (ap (λ es. f (map (expr_of_id pool) es)) (only_held book routes place route at word one (sym er ∙ h))))
+      ∙ ap (λ b. left_exprs s b (f (models_under book pool routes word)) outs) (sym el)
     where
-      by : (s l r : Bool) → (l ≡ true → s ≡ true) → old ≡ left_terms s l (f (terms_under book pool routes word)) outs → (r ≡ true → add ≡ f (terms_under book pool routes word))
-          → (if l && r then add else old) ≡ left_terms s (l && not r) (f (terms_under book pool routes word)) outs
+      by : (s l r : Bool) → (l ≡ true → s ≡ true) → old ≡ left_exprs s l (f (models_under book pool routes word)) outs → (r ≡ true → add ≡ f (models_under book pool routes word))
+          → (if l && r then add else old) ≡ left_exprs s (l && not r) (f (models_under book pool routes word)) outs
       by true true true i eo ea = ea refl
       by true true false i eo ea = eo
       by true false r i eo ea = eo
@@ -142,16 +142,16 @@ module _ (f : List Term → List Term) (book : Diagrams) (pool : List Node) (rou
       by false false r i eo ea = eo
 
   -- the words that no route holds went
-  pub left_free : f [] ≡ [] → (s l l' : Bool) (outs terms : List Term) → l' ≡ (l && not (is_free (exprs_under book routes word)))
-      → terms ≡ left_terms s l (f (terms_under book pool routes word)) outs → terms ≡ left_terms s l' (f (terms_under book pool routes word)) outs
-  left_free none s l l' outs terms el e = by s l (exprs_under book routes word) e ∙ ap (λ b. left_terms s b (f (terms_under book pool routes word)) outs) (sym el)
+  pub left_free : f [] ≡ [] → (s l l' : Bool) (outs terms : List ExprModel) → l' ≡ (l && not (is_free (exprs_under book routes word)))
+      → terms ≡ left_exprs s l (f (models_under book pool routes word)) outs → terms ≡ left_exprs s l' (f (models_under book pool routes word)) outs
+  left_free none s l l' outs terms el e = by s l (exprs_under book routes word) e ∙ ap (λ b. left_exprs s b (f (models_under book pool routes word)) outs) (sym el)
     where
-      by : (s l : Bool) (xs : List ℕ) → terms ≡ left_terms s l (f (map (term_at pool) xs)) outs → terms ≡ left_terms s (l && not (is_free xs)) (f (map (term_at pool) xs)) outs
+      by : (s l : Bool) (xs : List ℕ) → terms ≡ left_exprs s l (f (map (expr_of_id pool) xs)) outs → terms ≡ left_exprs s (l && not (is_free xs)) (f (map (expr_of_id pool) xs)) outs
       by true true [] e = e ∙ sym none
       by true true (x ∷ xs) e = e
       by true false xs e = e
       by false l xs e = e
 
 -- what is added for a part of a set, said by the books before
-pub same_choice : (b c : Bool) (whole whole' outs outs' terms : List Term) → b ≡ c → whole ≡ whole' → outs ≡ outs' → terms ≡ (if b then whole else outs) → terms ≡ (if c then whole' else outs')
+pub same_choice : (b c : Bool) (whole whole' outs outs' terms : List ExprModel) → b ≡ c → whole ≡ whole' → outs ≡ outs' → terms ≡ (if b then whole else outs) → terms ≡ (if c then whole' else outs')
 same_choice b c whole whole' outs outs' terms eb ew eo e = e ∙ (λ j. if eb j then ew j else eo j)

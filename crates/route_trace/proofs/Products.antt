@@ -2,17 +2,17 @@
 use Rattle.std.proofs.Common.{◌≡◌, ℕ, zero, suc, ◌+◌, ◌<◌, ◌≤◌, Bool, true, false, if◌then◌else◌, List, [], ◌∷◌, ◌++◌, map, take, length, Some, slice_get, refl, sym, ap, subst, ◌∙◌, length-append, arith}
 use Rattle.std.proofs.lemmas.List.{append-nil, map-append}
 use Rattle.bit_bdd.specs.Diagrams.{Diagrams, has_word, Extends}
-use Rattle.net_model.specs.Terms.{Term, read, un, bin, cat, zext, sext, select, term_width}
+use Rattle.net_model.specs.Exprs.{ExprModel, read, un, bin, cat, zext, sext, select, expr_width}
 use Rattle.net_model.specs.Symbolic.{sliced}
 use Rattle.sym_expr.specs.declared.pool.Node.{Node}
-use Rattle.sym_expr.specs.Pools.{AllBelow, Grows, term_at}
+use Rattle.sym_expr.specs.Pools.{AllBelow, Grows, expr_of_id}
 use Rattle.sym_expr.proofs.CallerLemmas.{same_term}
 use Rattle.rec_bits.proofs.Lists.{around}
 use Rattle.transfer_set.specs.declared.route.Route.{Route}
 use Rattle.route_trace.specs.declared.heads.Head.{Head}
 use Rattle.route_trace.specs.declared.heads.Head.TheVariants.{Same, Read, Un, Slice, Zext, Sext, Bin, Cat, Select}
-use Rattle.route_trace.specs.Inner.Heads.{LastFits, head_parts, head_term}
-use Rattle.transfer_set.specs.Routes.{row, exprs_under, terms_under, AllExprs, IsRouteTable}
+use Rattle.route_trace.specs.Inner.Heads.{LastFits, head_parts, head_expr}
+use Rattle.transfer_set.specs.Routes.{row, exprs_under, models_under, AllExprs, IsRouteTable}
 use Rattle.route_trace.specs.Inner.Routing.{AllFit}
 use Rattle.transfer_set.proofs.Exact.{held-append}
 use Rattle.route_trace.proofs.Merging.{held_later, routes_later}
@@ -23,15 +23,15 @@ pub exprs_later : (m n : ℕ) → m ≤ n → (routes : List Route) → AllExprs
 exprs_later m n h [] e = tt
 exprs_later m n h (route ∷ routes) e = (omega (arith, h, e.0), exprs_later m n h routes e.1)
 
-pub terms_later : (book : Diagrams) (old new : List Node) → Grows old new → (routes : List Route) → AllExprs (length old) routes → (word : ℕ) → terms_under book new routes word ≡ terms_under book old routes word
+pub terms_later : (book : Diagrams) (old new : List Node) → Grows old new → (routes : List Route) → AllExprs (length old) routes → (word : ℕ) → models_under book new routes word ≡ models_under book old routes word
 terms_later book old new g [] h word = refl
 terms_later book old new g (route ∷ routes) h word =
-    map-append (term_at new) (row book route word) (exprs_under book routes word)
+    map-append (expr_of_id new) (row book route word) (exprs_under book routes word)
     ∙ by (has_word book route.set word) (terms_later book old new g routes h.1 word)
-    ∙ sym (map-append (term_at old) (row book route word) (exprs_under book routes word))
+    ∙ sym (map-append (expr_of_id old) (row book route word) (exprs_under book routes word))
   where
-    by : (b : Bool) → map (term_at new) (exprs_under book routes word) ≡ map (term_at old) (exprs_under book routes word)
-        → map (term_at new) (if b then route.expr ∷ [] else []) ++ map (term_at new) (exprs_under book routes word) ≡ map (term_at old) (if b then route.expr ∷ [] else []) ++ map (term_at old) (exprs_under book routes word)
+    by : (b : Bool) → map (expr_of_id new) (exprs_under book routes word) ≡ map (expr_of_id old) (exprs_under book routes word)
+        → map (expr_of_id new) (if b then route.expr ∷ [] else []) ++ map (expr_of_id new) (exprs_under book routes word) ≡ map (expr_of_id old) (if b then route.expr ∷ [] else []) ++ map (expr_of_id old) (exprs_under book routes word)
     by true rest = let e = same_term old new g route.expr h.0 in (λ j. e j ∷ rest j)
     by false rest = rest
 
@@ -41,12 +41,12 @@ table_later book book' pool pool' e g routes t = record {
   exprs = exprs_later (length pool) (length pool') g.longer routes t.exprs;
 }
 
-pub both_later : (book book' : Diagrams) (pool pool' : List Node) → Extends book book' → Grows pool pool' → (routes : List Route) → IsRouteTable book pool routes → (word : ℕ) → terms_under book' pool' routes word ≡ terms_under book pool routes word
+pub both_later : (book book' : Diagrams) (pool pool' : List Node) → Extends book book' → Grows pool pool' → (routes : List Route) → IsRouteTable book pool routes → (word : ℕ) → models_under book' pool' routes word ≡ models_under book pool routes word
 both_later book book' pool pool' e g routes t word =
-    ap (map (term_at pool')) (held_later book book' e routes t.right.sets word) ∙ terms_later book pool pool' g routes t.exprs word
+    ap (map (expr_of_id pool')) (held_later book book' e routes t.right.sets word) ∙ terms_later book pool pool' g routes t.exprs word
 
 module _ (old new : List Node) (g : Grows old new) where
-  pub head-same : (head : Head) → AllBelow (length old) (head_parts head) → (s t : Term) → s ≡ t → head_term head (term_at new) s ≡ head_term head (term_at old) t
+  pub head-same : (head : Head) → AllBelow (length old) (head_parts head) → (s t : ExprModel) → s ≡ t → head_expr head (expr_of_id new) s ≡ head_expr head (expr_of_id old) t
   head-same Same h s t e = e
   head-same (Read space w) h s t e = (λ j. read space (e j) w)
   head-same (Un o) h s t e = (λ j. un o (e j))
@@ -57,16 +57,16 @@ module _ (old new : List Node) (g : Grows old new) where
   head-same (Cat a) h s t e = let f = same_term old new g a h.0 in (λ j. cat (f j) (e j))
   head-same (Select c a) h s t e = let d = same_term old new g c h.0 in let f = same_term old new g a h.1.0 in (λ j. select (d j) (f j) (e j))
 
-  pub fits-later : (head : Head) → AllBelow (length old) (head_parts head) → (v w : ℕ) → v ≡ w → LastFits head (term_at old) v → LastFits head (term_at new) w
+  pub fits-later : (head : Head) → AllBelow (length old) (head_parts head) → (v w : ℕ) → v ≡ w → LastFits head (expr_of_id old) v → LastFits head (expr_of_id new) w
   fits-later Same h v w e f = tt
   fits-later (Read space i) h v w e f = f
   fits-later (Un o) h v w e f = tt
   fits-later (Slice i l) h v w e f = (f.0, omega (arith, f.1, e))
   fits-later (Zext i) h v w e f = (omega (arith, f.0, e), f.1)
   fits-later (Sext i) h v w e f = (omega (arith, f.0, e), f.1)
-  fits-later (Bin o a) h v w e f = sym e ∙ f ∙ sym (ap term_width (same_term old new g a h.0))
-  fits-later (Cat a) h v w e f = (let q = ap term_width (same_term old new g a h.0) in omega (arith, q, f, e))
-  fits-later (Select c a) h v w e f = (ap term_width (same_term old new g c h.0) ∙ f.0, sym e ∙ f.1 ∙ sym (ap term_width (same_term old new g a h.1.0)))
+  fits-later (Bin o a) h v w e f = sym e ∙ f ∙ sym (ap expr_width (same_term old new g a h.0))
+  fits-later (Cat a) h v w e f = (let q = ap expr_width (same_term old new g a h.0) in omega (arith, q, f, e))
+  fits-later (Select c a) h v w e f = (ap expr_width (same_term old new g c h.0) ∙ f.0, sym e ∙ f.1 ∙ sym (ap expr_width (same_term old new g a h.1.0)))
 
   pub below_later : (is : List ℕ) → AllBelow (length old) is → AllBelow (length new) is
   below_later [] h = tt
@@ -75,13 +75,13 @@ module _ (old new : List Node) (g : Grows old new) where
 -- ---- one route
 
 -- a route was added
-pub added_terms : (book book1 book2 : Diagrams) (pool pool1 : List Node) → Extends book book1 → Grows pool pool1 → (out out2 : List Route) → IsRouteTable book pool out → (expr : ℕ) (term : Term) → term_at pool1 expr ≡ term
+pub added_exprs : (book book1 book2 : Diagrams) (pool pool1 : List Node) → Extends book book1 → Grows pool pool1 → (out out2 : List Route) → IsRouteTable book pool out → (expr : ℕ) (term : ExprModel) → expr_of_id pool1 expr ≡ term
     → (word : ℕ) (b c : Bool) → c ≡ b → exprs_under book2 out2 word ≡ (if c then expr ∷ [] else exprs_under book1 out word)
-    → terms_under book2 pool1 out2 word ≡ (if b then term ∷ [] else terms_under book pool out word)
-added_terms book book1 book2 pool pool1 e g out out2 t expr term is word true c eb h =
-    ap (map (term_at pool1)) (h ∙ ap (λ d. if d then expr ∷ [] else exprs_under book1 out word) eb) ∙ (λ j. is j ∷ [])
-added_terms book book1 book2 pool pool1 e g out out2 t expr term is word false c eb h =
-    ap (map (term_at pool1)) (h ∙ ap (λ d. if d then expr ∷ [] else exprs_under book1 out word) eb) ∙ both_later book book1 pool pool1 e g out t word
+    → models_under book2 pool1 out2 word ≡ (if b then term ∷ [] else models_under book pool out word)
+added_exprs book book1 book2 pool pool1 e g out out2 t expr term is word true c eb h =
+    ap (map (expr_of_id pool1)) (h ∙ ap (λ d. if d then expr ∷ [] else exprs_under book1 out word) eb) ∙ (λ j. is j ∷ [])
+added_exprs book book1 book2 pool pool1 e g out out2 t expr term is word false c eb h =
+    ap (map (expr_of_id pool1)) (h ∙ ap (λ d. if d then expr ∷ [] else exprs_under book1 out word) eb) ∙ both_later book book1 pool pool1 e g out t word
 
 -- ---- all routes
 
@@ -117,9 +117,9 @@ none_before book routes i route at word one h =
     short [] ys e = refl
     short (x ∷ xs) ys e = (let l = length-append xs ((route.expr ∷ []) ++ ys) in absurd (omega (arith, e, one, l)))
 
-pub fit_at : (head : Head) (pool : List Node) (routes : List Route) (i : ℕ) (route : Route) → slice_get routes i ≡ Some route → AllFit head pool routes → LastFits head (term_at pool) (term_width (term_at pool route.expr))
+pub fit_at : (head : Head) (pool : List Node) (routes : List Route) (i : ℕ) (route : Route) → slice_get routes i ≡ Some route → AllFit head pool routes → LastFits head (expr_of_id pool) (expr_width (expr_of_id pool route.expr))
 fit_at head pool [] i route at f = absurd (cc)
-fit_at head pool (x ∷ routes) zero route at f = (let e : x ≡ route = cc in subst (λ (r : Route). LastFits head (term_at pool) (term_width (term_at pool r.expr))) e f.0)
+fit_at head pool (x ∷ routes) zero route at f = (let e : x ≡ route = cc in subst (λ (r : Route). LastFits head (expr_of_id pool) (expr_width (expr_of_id pool r.expr))) e f.0)
 fit_at head pool (x ∷ routes) (suc i) route at f = fit_at head pool routes i route at f.1
 
 pub expr_at : (size : ℕ) (routes : List Route) (i : ℕ) (route : Route) → slice_get routes i ≡ Some route → AllExprs size routes → route.expr < size

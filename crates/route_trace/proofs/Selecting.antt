@@ -3,8 +3,8 @@ use Rattle.std.proofs.Common.{◌≡◌, ℕ, ◌<◌, ◌==◌, Bool, true, fal
 use Rattle.std.proofs.lemmas.Bool.{eqb-true}
 use Rattle.bit_bdd.specs.Diagrams.{Diagrams, Extends}
 use Rattle.bit_bdd.proofs.CallerLemmas.{same_words}
-use Rattle.net_model.specs.Terms.{Term, const, select, term_width}
-use Rattle.net_model.specs.Symbolic.{case_term}
+use Rattle.net_model.specs.Exprs.{ExprModel, const, select, expr_width}
+use Rattle.net_model.specs.Symbolic.{case_expr}
 use Rattle.net_model.specs.Nets.{row_nets}
 use Rattle.sym_expr.specs.declared.pool.Node.{Node}
 use Rattle.sym_expr.specs.Pools.{Grows}
@@ -16,13 +16,13 @@ use Rattle.route_trace.specs.declared.heads.Binary.TheVariants.{Select}
 use Rattle.route_trace.specs.Inner.Routing.{AreTables}
 use Rattle.route_trace.specs.Inner.Gates.{AllGive, AllWide, DriverTests}
 use Rattle.route_trace.specs.Inner.Selects.{AllSelectFit, selects}
-use Rattle.route_trace.specs.Inner.Tests.{AreEnabledAt, AreRowsWide, IsTargetWide, sets_in, target, target_terms}
+use Rattle.route_trace.specs.Inner.Tests.{AreEnabledAt, AreRowsWide, IsTargetWide, sets_in, target, target_exprs}
 use Rattle.route_trace.proofs.Products.{both_later}
 use Rattle.route_trace.proofs.Given.{binary_fit_wide}
 
 pub wide_later : (old new : List Node) → Grows old new → (width : ℕ) (routes : List Route) → AllExprs (length old) routes → AllWide old width routes → AllWide new width routes
 wide_later old new g width [] e w = tt
-wide_later old new g width (r ∷ routes) e w = (ap term_width (same_term old new g r.expr e.0) ∙ w.0, wide_later old new g width routes e.1 w.1)
+wide_later old new g width (r ∷ routes) e w = (ap expr_width (same_term old new g r.expr e.0) ∙ w.0, wide_later old new g width routes e.1 w.1)
 
 pub target_wide : (pool : List Node) (nets : List (List Route)) (width key : ℕ) (rows : List (ℕ × ℕ)) (rest : Option ℕ) → AreRowsWide pool nets width rows rest → IsTargetWide pool nets width (target rows key rest)
 target_wide pool nets width key [] rest w = w
@@ -37,28 +37,28 @@ target_wide_later book old new nets g t width None w = tt
 target_wide_later book old new nets g t width (Some n) w = wide_later old new g width (routes_at nets n) (t.tables n).exprs w
 
 module _ (book book' : Diagrams) (pool pool' : List Node) (e : Extends book book') (g : Grows pool pool') (nets : List (List Route)) (t : AreTables book pool nets) (legal : ℕ) (legal_in : legal < length book.nodes) (word : ℕ) where
-  pub target_later : (width : ℕ) (net : Option ℕ) → target_terms book' pool' nets legal width net word ≡ target_terms book pool nets legal width net word
+  pub target_later : (width : ℕ) (net : Option ℕ) → target_exprs book' pool' nets legal width net word ≡ target_exprs book pool nets legal width net word
   target_later width None = ap (λ b. if b then const width 0 ∷ [] else []) (same_words book book' e legal legal_in word)
   target_later width (Some n) = both_later book book' pool pool' e g (routes_at nets n) (t.tables n) word
 
-  pub given_later : (f : ℕ → Term) (ms : List ℕ) → AllGive book pool nets legal f word ms → AllGive book' pool' nets legal f word ms
+  pub given_later : (f : ℕ → ExprModel) (ms : List ℕ) → AllGive book pool nets legal f word ms → AllGive book' pool' nets legal f word ms
   given_later f [] h = tt
   given_later f (m ∷ ms) h =
       (both_later book book' pool pool' e g (routes_at nets m) (t.tables m) word ∙ h.0 ∙ ap (λ b. if b then f m ∷ [] else []) (sym (same_words book book' e legal legal_in word)), given_later f ms h.1)
 
 -- the net of a row gives what the case takes
-pub target_given : (book : Diagrams) (pool : List Node) (nets : List (List Route)) (legal : ℕ) (t : ℕ → Term) (word width key : ℕ) (rows : List (ℕ × ℕ)) (rest : Option ℕ) → AllGive book pool nets legal t word (row_nets rows rest)
-    → target_terms book pool nets legal width (target rows key rest) word ≡ only book legal word (case_term t width key rows rest)
+pub target_given : (book : Diagrams) (pool : List Node) (nets : List (List Route)) (legal : ℕ) (t : ℕ → ExprModel) (word width key : ℕ) (rows : List (ℕ × ℕ)) (rest : Option ℕ) → AllGive book pool nets legal t word (row_nets rows rest)
+    → target_exprs book pool nets legal width (target rows key rest) word ≡ only book legal word (case_expr t width key rows rest)
 target_given book pool nets legal t word width key [] None g = refl
 target_given book pool nets legal t word width key [] (Some n) g = g.0
 target_given book pool nets legal t word width key (row ∷ rows) rest g = by (row.0 == key) (target_given book pool nets legal t word width key rows rest g.1)
   where
-    by : (b : Bool) → target_terms book pool nets legal width (target rows key rest) word ≡ only book legal word (case_term t width key rows rest)
-        → target_terms book pool nets legal width (if b then Some row.1 else target rows key rest) word ≡ only book legal word (if b then t row.1 else case_term t width key rows rest)
+    by : (b : Bool) → target_exprs book pool nets legal width (target rows key rest) word ≡ only book legal word (case_expr t width key rows rest)
+        → target_exprs book pool nets legal width (if b then Some row.1 else target rows key rest) word ≡ only book legal word (if b then t row.1 else case_expr t width key rows rest)
     by true e = g.0
     by false e = e
 
-pub selects_given : (b : Bool) (x y z : Term) (xs ys zs new : List Term) → xs ≡ (if b then x ∷ [] else []) → ys ≡ (if b then y ∷ [] else []) → zs ≡ (if b then z ∷ [] else []) → new ≡ (if b then selects xs ys zs else [])
+pub selects_given : (b : Bool) (x y z : ExprModel) (xs ys zs new : List ExprModel) → xs ≡ (if b then x ∷ [] else []) → ys ≡ (if b then y ∷ [] else []) → zs ≡ (if b then z ∷ [] else []) → new ≡ (if b then selects xs ys zs else [])
     → new ≡ (if b then select x y z ∷ [] else [])
 selects_given true x y z xs ys zs new e f g h = h ∙ (λ j. selects (e j) (f j) (g j))
 selects_given false x y z xs ys zs new e f g h = h

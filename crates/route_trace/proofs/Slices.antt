@@ -1,14 +1,14 @@
 -- Slices of slices.
 use Rattle.std.proofs.Common.{◌≡◌, ℕ, ◌+◌, ◌==◌, ◌&&◌, if◌then◌else◌, None, Some, refl, ap, sym}
-use Rattle.net_model.specs.Terms.{Term, slice, term_width}
+use Rattle.net_model.specs.Exprs.{ExprModel, slice, expr_width}
 use Rattle.net_model.specs.Symbolic.{sliced}
 use Rattle.sym_expr.specs.declared.pool.Node.{Node}
 use Rattle.sym_expr.specs.declared.pool.Node.TheVariants.{Slice}
-use Rattle.sym_expr.specs.Pools.{node_term}
+use Rattle.sym_expr.specs.Pools.{node_expr}
 use Rattle.route_trace.specs.Inner.Heads.{slice_parts}
 
 -- a slice of what is no slice
-pub plain : (node : Node) (t : ℕ → Term) (hi lo : ℕ) → None ≡ slice_parts node → sliced (node_term node t) hi lo ≡ (if (lo == 0) && (hi + 1 == term_width (node_term node t)) then node_term node t else slice (node_term node t) hi lo)
+pub plain : (node : Node) (t : ℕ → ExprModel) (hi lo : ℕ) → None ≡ slice_parts node → sliced (node_expr node t) hi lo ≡ (if (lo == 0) && (hi + 1 == expr_width (node_expr node t)) then node_expr node t else slice (node_expr node t) hi lo)
 plain (Slice a h l) t hi lo e = absurd (cc)
 plain node t hi lo e = refl
 

@@ -4,7 +4,7 @@ use Rattle.std.specs.List.{AllByRecursion}
 use Rattle.std.proofs.lemmas.Bool.{cases_eq}
 use Rattle.bit_bdd.specs.Diagrams.{Diagrams, has_word, Extends}
 use Rattle.bit_bdd.proofs.CallerLemmas.{same_words}
-use Rattle.net_model.specs.Terms.{Term}
+use Rattle.net_model.specs.Exprs.{ExprModel}
 use Rattle.net_model.specs.declared.hardware.Netlist.{Netlist}
 use Rattle.net_model.specs.declared.hardware.Net.{Net}
 use Rattle.net_model.specs.Nets.{width_at, gate_nets, nets_of}
@@ -12,12 +12,12 @@ use Rattle.net_model.specs.Value.{value_of}
 use Rattle.net_model.specs.Widths.{IsTyped}
 use Rattle.net_model.specs.Order.{position_of, IsOrder}
 use Rattle.net_model.proofs.Orders.{place_at, at_place}
-use Rattle.net_model.specs.Symbolic.{no_state, is_static, gate_term, net_term, sym_of}
+use Rattle.net_model.specs.Symbolic.{no_state, is_static, gate_expr, net_expr, sym_of}
 use Rattle.net_model.proofs.Meanings.{width_is}
 use Rattle.sym_expr.specs.declared.pool.Node.{Node}
-use Rattle.sym_expr.specs.Pools.{term_at, Grows}
+use Rattle.sym_expr.specs.Pools.{expr_of_id, Grows}
 use Rattle.transfer_set.specs.declared.route.Route.{Route}
-use Rattle.transfer_set.specs.Routes.{exprs_under, terms_under, routes_at, IsRouteTable, only}
+use Rattle.transfer_set.specs.Routes.{exprs_under, models_under, routes_at, IsRouteTable, only}
 use Rattle.route_trace.specs.Inner.Routing.{AreTables}
 use Rattle.route_trace.specs.Inner.Gates.{AllGive, AllWide, HaveWidths}
 use Rattle.route_trace.proofs.Products.{both_later}
@@ -32,7 +32,7 @@ use Rattle.ctl_bdd.proofs.Alls.{tests_each}
 use Rattle.route_trace.specs.Inner.Verdicts.{IsFound, is_kept, kept_at, verdict_at}
 use Rattle.route_trace.specs.declared.verdict.Verdict.{Verdict}
 use Rattle.route_trace.specs.declared.verdict.Verdict.TheVariants.{Skipped}
-use Rattle.route_trace.specs.declared.stop.Stop.TheVariants.{Many}
+use Rattle.route_trace.specs.declared.stop.TraceStop.TheVariants.{Many}
 use Rattle.route_trace.specs.Inner.Stops.{IsOver}
 use Rattle.route_trace.proofs.Stopping.{many_in}
 use Rattle.route_trace.proofs.Judging.{each_among}
@@ -55,7 +55,7 @@ at_same xs n y h = sym (let e = get_set_same xs n y h in rw e)
 at_other : (xs : List (List Route)) (n m : ℕ) (y : List Route) → m ≢ n → routes_at xs m ≡ routes_at (slice_set xs n y) m
 at_other xs n m y h = let e = get_set_other xs n m y h in rw e
 
-short : (b : Bool) (t : ℕ → Term) (xs : List ℕ) (x : Term) → map t xs ≡ (if b then x ∷ [] else []) → length xs ≤ 1
+short : (b : Bool) (t : ℕ → ExprModel) (xs : List ℕ) (x : ExprModel) → map t xs ≡ (if b then x ∷ [] else []) → length xs ≤ 1
 short b t [] x e = omega arith
 short b t (y ∷ []) x e = omega arith
 short true t (y ∷ z ∷ xs) x e = absurd (cc)
@@ -103,7 +103,7 @@ named_found netlist order o i within verdicts found b a =
     found b (omega (arith, lt, place_at order i within))
 
 module _ (netlist : Netlist) (order : List ℕ) (o : IsOrder netlist order) (i : ℕ) (within : i < length order) (book : Diagrams) (pool : List Node) (nets : List (List Route)) (legal : ℕ)
-    (verdicts : List Verdict) (done : (m word : ℕ) → position_of order m < i → kept_at verdicts m ≡ true → word < 2 ^ book.bits → terms_under book pool (routes_at nets m) word ≡ only book legal word (sym_of netlist word m)) where
+    (verdicts : List Verdict) (done : (m word : ℕ) → position_of order m < i → kept_at verdicts m ≡ true → word < 2 ^ book.bits → models_under book pool (routes_at nets m) word ≡ only book legal word (sym_of netlist word m)) where
   -- the nets that the next net's gate names have their routes
   pub all_given : (net : Net) → slice_get netlist.nets (slice_index order i) ≡ Some net → all_nets (kept_at verdicts) (gate_nets net.gate) ≡ true → (word : ℕ) → word < 2 ^ book.bits → AllGive book pool nets legal (sym_of netlist word) word (gate_nets net.gate)
   all_given net at kept word fits = by (gate_nets net.gate) (tests_each (kept_at verdicts) (gate_nets net.gate) kept) (subst (λ (x : Option Net). AllByRecursion (λ m. position_of order m < position_of order (slice_index order i)) (nets_of x)) at (o.falls (slice_index order i)))
@@ -120,7 +120,7 @@ module _ (netlist : Netlist) (order : List ℕ) (o : IsOrder netlist order) (i :
     n_in = omega (arith, o.nets i within, long)
 
     -- the routes that are there stay right
-    pub done_later : (m word : ℕ) → position_of order m < i → kept_at verdicts m ≡ true → word < 2 ^ book'.bits → terms_under book' pool' (routes_at nets m) word ≡ only book' legal word (sym_of netlist word m)
+    pub done_later : (m word : ℕ) → position_of order m < i → kept_at verdicts m ≡ true → word < 2 ^ book'.bits → models_under book' pool' (routes_at nets m) word ≡ only book' legal word (sym_of netlist word m)
     done_later m word before kept fits =
         let w = same_words book book' e legal legal_in word in
         both_later book book' pool pool' e g (routes_at nets m) (tables.tables m) word ∙ done m word before kept (low word fits) ∙ (λ j. if sym w j then sym_of netlist word m ∷ [] else [])
@@ -129,32 +129,32 @@ module _ (netlist : Netlist) (order : List ℕ) (o : IsOrder netlist order) (i :
     widths_later w = record { widths = λ m. wide_later pool pool' g (width_at netlist m) (routes_at nets m) (tables.tables m).exprs (w.widths m) }
 
     -- what the gate gives is the net's symbolic value
-    at_sym : (net : Net) → slice_get netlist.nets (slice_index order i) ≡ Some net → (word : ℕ) (terms : List Term)
-        → terms ≡ only book legal word (gate_term (sym_of netlist word) (value_of netlist no_state word) (is_static netlist) netlist net.width net.gate) → terms ≡ only book' legal word (sym_of netlist word (slice_index order i))
+    at_sym : (net : Net) → slice_get netlist.nets (slice_index order i) ≡ Some net → (word : ℕ) (terms : List ExprModel)
+        → terms ≡ only book legal word (gate_expr (sym_of netlist word) (value_of netlist no_state word) (is_static netlist) netlist net.width net.gate) → terms ≡ only book' legal word (sym_of netlist word (slice_index order i))
     at_sym net at word terms is =
-        let s = sym_is netlist word order o (slice_index order i) (o.nets i within) ∙ ap (net_term (sym_of netlist word) (value_of netlist no_state word) (is_static netlist) netlist) at in
+        let s = sym_is netlist word order o (slice_index order i) (o.nets i within) ∙ ap (net_expr (sym_of netlist word) (value_of netlist no_state word) (is_static netlist) netlist) at in
         let w = same_words book book' e legal legal_in word in
         is ∙ (λ j. if sym w j then sym s j ∷ [] else [])
 
     -- the routes that were given up are right so far
     pub over_sym : (net : Net) → slice_get netlist.nets (slice_index order i) ≡ Some net → all_nets (kept_at verdicts) (gate_nets net.gate) ≡ true
-        → IsOver book' pool' (λ word terms. (t : ℕ → Term) → AllGive book pool nets legal t word (gate_nets net.gate) → terms ≡ only book legal word (gate_term t (value_of netlist no_state word) (is_static netlist) netlist net.width net.gate))
+        → IsOver book' pool' (λ word terms. (t : ℕ → ExprModel) → AllGive book pool nets legal t word (gate_nets net.gate) → terms ≡ only book legal word (gate_expr t (value_of netlist no_state word) (is_static netlist) netlist net.width net.gate))
         → IsOver book' pool' (λ word terms. terms ≡ only book' legal word (sym_of netlist word (slice_index order i)))
     over_sym net at kept over = many_in Many book' pool' _ _ (λ word fits terms h. inr (at_sym net at word terms (h (sym_of netlist word) (all_given net at kept word (low word fits))))) over
 
     module _ (out : List Route) (table : IsRouteTable book' pool' out)
         (net : Net) (at : slice_get netlist.nets (slice_index order i) ≡ Some net)
-        (gives : (word : ℕ) → word < 2 ^ book.bits → terms_under book' pool' out word ≡ only book legal word (gate_term (sym_of netlist word) (value_of netlist no_state word) (is_static netlist) netlist net.width net.gate)) where
-      pub new_gives : (word : ℕ) → word < 2 ^ book.bits → terms_under book' pool' out word ≡ only book' legal word (sym_of netlist word (slice_index order i))
-      new_gives word fits = at_sym net at word (terms_under book' pool' out word) (gives word fits)
+        (gives : (word : ℕ) → word < 2 ^ book.bits → models_under book' pool' out word ≡ only book legal word (gate_expr (sym_of netlist word) (value_of netlist no_state word) (is_static netlist) netlist net.width net.gate)) where
+      pub new_gives : (word : ℕ) → word < 2 ^ book.bits → models_under book' pool' out word ≡ only book' legal word (sym_of netlist word (slice_index order i))
+      new_gives word fits = at_sym net at word (models_under book' pool' out word) (gives word fits)
 
-      pub turn_done : (verdict : Verdict) (m word : ℕ) → position_of order m < i + 1 → kept_at (slice_set verdicts (slice_index order i) verdict) m ≡ true → word < 2 ^ book'.bits → terms_under book' pool' (routes_at (slice_set nets (slice_index order i) out) m) word ≡ only book' legal word (sym_of netlist word m)
-      turn_done verdict m word h kept fits = elim (cases_eq m (slice_index order i)) as (λ _. terms_under book' pool' (routes_at (slice_set nets (slice_index order i) out) m) word ≡ only book' legal word (sym_of netlist word m)) [
+      pub turn_done : (verdict : Verdict) (m word : ℕ) → position_of order m < i + 1 → kept_at (slice_set verdicts (slice_index order i) verdict) m ≡ true → word < 2 ^ book'.bits → models_under book' pool' (routes_at (slice_set nets (slice_index order i) out) m) word ≡ only book' legal word (sym_of netlist word m)
+      turn_done verdict m word h kept fits = elim (cases_eq m (slice_index order i)) as (λ _. models_under book' pool' (routes_at (slice_set nets (slice_index order i) out) m) word ≡ only book' legal word (sym_of netlist word m)) [
         | inl q ↦
-            subst (λ k. terms_under book' pool' (routes_at (slice_set nets (slice_index order i) out) k) word ≡ only book' legal word (sym_of netlist word k)) (sym q)
-            (subst (λ l. terms_under book' pool' l word ≡ only book' legal word (sym_of netlist word (slice_index order i))) (at_same nets (slice_index order i) out n_in) (new_gives word (low word fits)))
+            subst (λ k. models_under book' pool' (routes_at (slice_set nets (slice_index order i) out) k) word ≡ only book' legal word (sym_of netlist word k)) (sym q)
+            (subst (λ l. models_under book' pool' l word ≡ only book' legal word (sym_of netlist word (slice_index order i))) (at_same nets (slice_index order i) out n_in) (new_gives word (low word fits)))
         | inr q ↦
-            subst (λ l. terms_under book' pool' l word ≡ only book' legal word (sym_of netlist word m)) (at_other nets (slice_index order i) m out q)
+            subst (λ l. models_under book' pool' l word ≡ only book' legal word (sym_of netlist word m)) (at_other nets (slice_index order i) m out q)
             (done_later m word (earlier order i within m h q) (sym (kept_other verdicts (slice_index order i) m verdict q) ∙ kept) fits)
       ]
 
@@ -169,7 +169,7 @@ module _ (netlist : Netlist) (order : List ℕ) (o : IsOrder netlist order) (i :
             one = λ m word fits. elim (cases_eq m (slice_index order i)) as (λ _. length (exprs_under book' (routes_at (slice_set nets (slice_index order i) out) m) word) ≤ 1) [
               | inl q ↦
                   subst (λ k. length (exprs_under book' (routes_at (slice_set nets (slice_index order i) out) k) word) ≤ 1) (sym q)
-                  (subst (λ l. length (exprs_under book' l word) ≤ 1) (at_same nets (slice_index order i) out n_in) (short (has_word book' legal word) (term_at pool') (exprs_under book' out word) _ (new_gives word (low word fits))))
+                  (subst (λ l. length (exprs_under book' l word) ≤ 1) (at_same nets (slice_index order i) out n_in) (short (has_word book' legal word) (expr_of_id pool') (exprs_under book' out word) _ (new_gives word (low word fits))))
               | inr q ↦ subst (λ l. length (exprs_under book' l word) ≤ 1) (at_other nets (slice_index order i) m out q) (later.one m word fits)
             ];
           }

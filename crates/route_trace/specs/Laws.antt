@@ -9,7 +9,7 @@ use Rattle.net_model.specs.Symbolic.{sym_of}
 use Rattle.net_model.specs.Meaning.{mean}
 use Rattle.net_model.specs.Control.{IsControlled}
 use Rattle.sym_expr.specs.declared.pool.Node.{Node}
-use Rattle.sym_expr.specs.Pools.{term_at, IsOneEach}
+use Rattle.sym_expr.specs.Pools.{expr_of_id, IsOneEach}
 use Rattle.transfer_set.specs.declared.route.Route.{Route}
 use Rattle.transfer_set.specs.Routes.{AreRoutes, IsSet, RouteIs, exprs_under, routes_at}
 
@@ -26,7 +26,7 @@ pub record HasOne (book : Diagrams) (pool : List Node) (netlist : Netlist) (n wo
     (routes : List Route) : Type 0 where
   pub expr : ℕ
   pub only : exprs_under book routes word ≡ expr ∷ []
-  pub term : term_at pool expr ≡ sym_of netlist word n
+  pub term : expr_of_id pool expr ≡ sym_of netlist word n
 
 -- each word of `legal` is in one route's set alone, and each set holds a word
 abbrev pub AreWhole : Type 0
@@ -46,4 +46,4 @@ RoutesMean =
     → (place : ℕ) (route : Route) → slice_get (routes_at nets n) place ≡ Some route
     → (word : ℕ) → word < 2 ^ book.bits → WordFits netlist word
     → has_word book route.set word ≡ true
-    → mean (term_at pool route.expr) s word ≡ value_of netlist s word n
+    → mean (expr_of_id pool route.expr) s word ≡ value_of netlist s word n

@@ -1,11 +1,13 @@
--- The limits on the symbolic values of nets: none has more than 255 nodes, and no net has more than
--- 4,096 of them.
+-- The limits on the symbolic values of nets: none has more than 255 nodes, and no net has more
+-- than 4,096 of them. N12 and N13 said of a netlist: a net has under some word without a clash a
+-- value of more than 255 nodes; more than 4,096 words without a clash give it different values.
+-- The net that is named is the least of those that break one and depend on no other that does.
 use Rattle.std.specs.Prelude.{◌≢◌, ◌⊎◌, ℕ, ◌<◌, ◌≤◌, List, [], ◌∷◌, length}
 use Rattle.std.specs.List.{AllByRecursion}
 use Rattle.net_model.specs.declared.hardware.Netlist.{Netlist}
 use Rattle.net_model.specs.Depends.{Depends, named_by}
 use Rattle.net_model.specs.Symbolic.{sym_of}
-use Rattle.net_model.specs.Terms.{Term, size_of}
+use Rattle.net_model.specs.Exprs.{ExprModel, size_of}
 use Rattle.net_model.specs.Transfers.{IsClean}
 use Rattle.route_trace.specs.declared.RouteFault.{RouteFault}
 use Rattle.route_trace.specs.declared.RouteFault.TheVariants.{PatternLarge, TooMany, Memory}
@@ -17,12 +19,12 @@ pub record IsLarge (netlist : Netlist) (n : ℕ) : Type 0 where
   pub large : 255 < size_of (sym_of netlist word n)
 
 -- words with other values than one word
-abbrev pub Differ : (ℕ → Term) → ℕ → List ℕ → Type 0
+abbrev pub Differ : (ℕ → ExprModel) → ℕ → List ℕ → Type 0
 Differ f word [] = Unit {0}
 Differ f word (other ∷ words) = (f word ≢ f other) × Differ f word words
 
 -- words with different values
-abbrev pub AllDiffer : (ℕ → Term) → List ℕ → Type 0
+abbrev pub AllDiffer : (ℕ → ExprModel) → List ℕ → Type 0
 AllDiffer f [] = Unit {0}
 AllDiffer f (word ∷ words) = Differ f word words × AllDiffer f words
 

@@ -6,12 +6,12 @@ ghost use Rattle.net_model.specs.Symbolic.{sym_of};
 ghost use Rattle.net_model.specs.Nets.{word_width};
 ghost use Rattle.sym_expr.specs.Pools.{Grows};
 ghost use Rattle.ctl_bdd.specs.Controls.{IsControl};
-ghost use Rattle.transfer_set.specs.Routes.{AreRoutes, GivesTerm, IsRouteTable, routes_at};
+ghost use Rattle.transfer_set.specs.Routes.{AreRoutes, GivesExpr, IsRouteTable, routes_at};
 ghost use Rattle.route_trace.specs.Limits.{IsRouteFault, KeepsLimits};
 ghost use Rattle.route_trace.specs.Inner.Verdicts.{IsFound, kept_at, verdict_at};
 
 use crate::RouteFault;
-use crate::stop::Stop;
+use crate::stop::TraceStop;
 use crate::verdict::{Verdict, all_kept, first_refusal, give_up, judge, new_verdicts};
 use crate::whole::net_routes;
 use bit_bdd::Book;
@@ -53,7 +53,7 @@ fn collect(
         IsFound checked.now.netlist n (verdict_at both.1 n)) }
     ensures gives { IfOk result (λ both. (n : ℕ) → n < length checked.now.netlist.nets →
         kept_at both.1 n ≡ true →
-        GivesTerm book.new pool.new controls.now.legal (λ word. sym_of checked.now.netlist word n)
+        GivesExpr book.new pool.new controls.now.legal (λ word. sym_of checked.now.netlist word n)
         (routes_at both.0 n)) }
 {
     let netlist = checked.netlist();
@@ -72,8 +72,8 @@ fn collect(
                     verdicts.set(at, verdict);
                     routes.set(at, out);
                 }
-                Err(Stop::Many) => verdicts.set(at, give_up(pool)),
-                Err(Stop::Memory) => return Err(NoMemory),
+                Err(TraceStop::Many) => verdicts.set(at, give_up(pool)),
+                Err(TraceStop::Memory) => return Err(NoMemory),
             }
         } else {
             verdicts.set(at, Verdict::Skipped);

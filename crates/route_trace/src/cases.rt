@@ -3,23 +3,23 @@
 ghost use Rattle.std.specs.Prelude.{◌≡◌, ℕ, ◌^◌, ◌<◌, ◌≤◌, [], ◌∷◌, Bool, length, IfErr, IfOk, if◌then◌else◌};
 ghost use Rattle.std.specs.List.{AllByRecursion};
 ghost use Rattle.bit_bdd.specs.Diagrams.{Extends, has_word};
-ghost use Rattle.net_model.specs.Terms.{Term, select};
-ghost use Rattle.net_model.specs.Symbolic.{bus_term, case_term};
+ghost use Rattle.net_model.specs.Exprs.{ExprModel, select};
+ghost use Rattle.net_model.specs.Symbolic.{bus_expr, case_expr};
 ghost use Rattle.net_model.specs.Nets.{driver_nets, row_nets};
 ghost use Rattle.sym_expr.specs.Pools.{Grows};
 ghost use Rattle.ctl_bdd.specs.Bits.{AreSets};
-ghost use Rattle.transfer_set.specs.Routes.{IsRouteTable, exprs_under, terms_under, only, routes_at};
+ghost use Rattle.transfer_set.specs.Routes.{IsRouteTable, exprs_under, models_under, only, routes_at};
 ghost use Rattle.route_trace.specs.Inner.Gates.{AllGive, AllWide};
 ghost use Rattle.route_trace.specs.Inner.Routing.{AreTables};
 ghost use Rattle.route_trace.specs.Inner.Selects.{selects};
 ghost use Rattle.route_trace.specs.Inner.Stops.{IfMany, IsOver};
-ghost use Rattle.route_trace.specs.Inner.Tests.{AreEnabledAt, AreRowsWide, IsSelectedAt, IsTargetWide, sets_in, target, target_terms};
+ghost use Rattle.route_trace.specs.Inner.Tests.{AreEnabledAt, AreRowsWide, IsSelectedAt, IsTargetWide, sets_in, target, target_exprs};
 
 use crate::decide::{driver_tests, row_tests, sets_of};
 use crate::first::routes_of;
 use crate::gates::{leaf_routes, routes_of_first};
 use crate::selects::add_selects;
-use crate::stop::Stop;
+use crate::stop::TraceStop;
 use bit_bdd::{Book, SetId};
 use ctl_bdd::ControlBits;
 use rec_bits::{Items, NoMemory};
@@ -61,7 +61,7 @@ fn row_routes(
         (word : ℕ) → word < 2 ^ book.old.bits → length (exprs_under book.new out word) ≤ 1) }
     ensures wide { IfOk result (λ out. AllWide pool.new width out) }
     ensures terms { IfOk result (λ out. (word : ℕ) → word < 2 ^ book.old.bits →
-        terms_under book.new pool.new out word ≡ target_terms book.old pool.old nets.now legal width net word) }
+        models_under book.new pool.new out word ≡ target_exprs book.old pool.old nets.now legal width net word) }
 {
     match net {
         Some(net) => {
@@ -86,7 +86,7 @@ fn select_routes(
     one: Option<u32>,
     zero: Option<u32>,
     width: u8,
-) -> Result<Items<Route>, Stop>
+) -> Result<Items<Route>, TraceStop>
     requires legal { legal < length book.old.nodes }
     requires nets { AreTables book.old pool.old nets.now }
     requires bit { AllWide pool.old 1 (routes_at nets.now sel) }
@@ -98,17 +98,17 @@ fn select_routes(
     ensures pool { Grows pool.old pool.new }
     ensures table { IfOk result (λ out. IsRouteTable book.new pool.new out) }
     ensures terms { IfOk result (λ out. (word : ℕ) → word < 2 ^ book.old.bits →
-        terms_under book.new pool.new out word
+        models_under book.new pool.new out word
         ≡ (if has_word book.old legal word
-        then selects (terms_under book.old pool.old (routes_at nets.now sel) word)
-        (target_terms book.old pool.old nets.now legal width one word)
-        (target_terms book.old pool.old nets.now legal width zero word)
+        then selects (models_under book.old pool.old (routes_at nets.now sel) word)
+        (target_exprs book.old pool.old nets.now legal width one word)
+        (target_exprs book.old pool.old nets.now legal width zero word)
         else [])) }
     ensures many { IfErr result (λ stop. IfMany stop (IsOver book.new pool.new
         (λ word terms. terms ≡ (if has_word book.old legal word
-        then selects (terms_under book.old pool.old (routes_at nets.now sel) word)
-        (target_terms book.old pool.old nets.now legal width one word)
-        (target_terms book.old pool.old nets.now legal width zero word)
+        then selects (models_under book.old pool.old (routes_at nets.now sel) word)
+        (target_exprs book.old pool.old nets.now legal width one word)
+        (target_exprs book.old pool.old nets.now legal width zero word)
         else [])))) }
 {
     let ones = row_routes(alloc, book, pool, legal, nets, one, width)?;
@@ -140,7 +140,7 @@ pub(crate) fn case_routes(
     rows: &[(u64, u32)],
     rest: Option<u32>,
     width: u8,
-) -> Result<Items<Route>, Stop>
+) -> Result<Items<Route>, TraceStop>
     requires legal { controls.now.legal < length book.old.nodes }
     requires nets { AreTables book.old pool.old nets.now }
     requires sets { AreSets book.old (sets_in controls.now.bits sel) }
@@ -154,21 +154,21 @@ pub(crate) fn case_routes(
     ensures book { Extends book.old book.new }
     ensures pool { Grows pool.old pool.new }
     ensures table { IfOk result (λ out. IsRouteTable book.new pool.new out) }
-    ensures terms { IfOk result (λ out. (t : ℕ → Term) → (u : ℕ → ℕ) → (f : ℕ → Bool) →
+    ensures terms { IfOk result (λ out. (t : ℕ → ExprModel) → (u : ℕ → ℕ) → (f : ℕ → Bool) →
         (word : ℕ) → word < 2 ^ book.old.bits →
         AllGive book.old pool.old nets.now controls.now.legal t word (sel ∷ row_nets rows.now rest) →
         IsSelectedAt book.old (sets_in controls.now.bits sel) word u f sel →
-        terms_under book.new pool.new out word
+        models_under book.new pool.new out word
         ≡ only book.old controls.now.legal word (if f sel
-        then case_term t width (u sel) rows.now rest
-        else select (t sel) (case_term t width 1 rows.now rest) (case_term t width 0 rows.now rest))) }
+        then case_expr t width (u sel) rows.now rest
+        else select (t sel) (case_expr t width 1 rows.now rest) (case_expr t width 0 rows.now rest))) }
     ensures many { IfErr result (λ stop. IfMany stop (IsOver book.new pool.new
-        (λ word terms. (t : ℕ → Term) → (u : ℕ → ℕ) → (f : ℕ → Bool) →
+        (λ word terms. (t : ℕ → ExprModel) → (u : ℕ → ℕ) → (f : ℕ → Bool) →
         AllGive book.old pool.old nets.now controls.now.legal t word (sel ∷ row_nets rows.now rest) →
         IsSelectedAt book.old (sets_in controls.now.bits sel) word u f sel →
         terms ≡ only book.old controls.now.legal word (if f sel
-        then case_term t width (u sel) rows.now rest
-        else select (t sel) (case_term t width 1 rows.now rest) (case_term t width 0 rows.now rest))))) }
+        then case_expr t width (u sel) rows.now rest
+        else select (t sel) (case_expr t width 1 rows.now rest) (case_expr t width 0 rows.now rest))))) }
 {
     let legal = controls.legal;
     let bits = sets_of(controls, sel);
@@ -199,7 +199,7 @@ pub(crate) fn bus_routes(
     nets: &[Items<Route>],
     drivers: &[(u32, u32)],
     width: u8,
-) -> Result<Items<Route>, Stop>
+) -> Result<Items<Route>, TraceStop>
     requires legal { controls.now.legal < length book.old.nodes }
     requires nets { AreTables book.old pool.old nets.now }
     requires sets { AllByRecursion (λ driver. AreSets book.old (sets_in controls.now.bits driver.1)) drivers.now }
@@ -209,17 +209,17 @@ pub(crate) fn bus_routes(
     ensures book { Extends book.old book.new }
     ensures pool { Grows pool.old pool.new }
     ensures table { IfOk result (λ out. IsRouteTable book.new pool.new out) }
-    ensures terms { IfOk result (λ out. (t : ℕ → Term) → (u : ℕ → ℕ) → (word : ℕ) →
+    ensures terms { IfOk result (λ out. (t : ℕ → ExprModel) → (u : ℕ → ℕ) → (word : ℕ) →
         word < 2 ^ book.old.bits →
         AllGive book.old pool.old nets.now controls.now.legal t word (driver_nets drivers.now) →
         AreEnabledAt book.old controls.now.bits word u drivers.now →
-        terms_under book.new pool.new out word
-        ≡ only book.old controls.now.legal word (bus_term t u width drivers.now)) }
+        models_under book.new pool.new out word
+        ≡ only book.old controls.now.legal word (bus_expr t u width drivers.now)) }
     ensures many { IfErr result (λ stop. IfMany stop (IsOver book.new pool.new
-        (λ word terms. (t : ℕ → Term) → (u : ℕ → ℕ) →
+        (λ word terms. (t : ℕ → ExprModel) → (u : ℕ → ℕ) →
         AllGive book.old pool.old nets.now controls.now.legal t word (driver_nets drivers.now) →
         AreEnabledAt book.old controls.now.bits word u drivers.now →
-        terms ≡ only book.old controls.now.legal word (bus_term t u width drivers.now)))) }
+        terms ≡ only book.old controls.now.legal word (bus_expr t u width drivers.now)))) }
 {
     let tests = driver_tests(alloc, book, controls, drivers)?;
     routes_of_first(

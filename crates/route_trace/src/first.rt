@@ -3,13 +3,13 @@
 ghost use Rattle.std.specs.Prelude.{◌≡◌, ℕ, ◌+◌, ◌^◌, ◌<◌, ◌≤◌, ◌&&◌, not, [], length, IfErr, IfOk, OnOk, true, if◌then◌else◌};
 ghost use Rattle.bit_bdd.specs.Diagrams.{Extends, has_word};
 ghost use Rattle.sym_expr.specs.Pools.{Grows};
-ghost use Rattle.route_trace.specs.Inner.Routing.{AllTests, AreTables, first_terms, passes};
+ghost use Rattle.route_trace.specs.Inner.Routing.{AllTests, AreTables, first_exprs, passes};
 ghost use Rattle.route_trace.specs.Inner.Stops.{IfMany, IsOver};
-ghost use Rattle.transfer_set.specs.Routes.{IsRouteTable, exprs_under, terms_under, routes_at};
+ghost use Rattle.transfer_set.specs.Routes.{IsRouteTable, exprs_under, models_under, routes_at};
 
 use crate::heads::Head;
 use crate::product::add_all;
-use crate::stop::Stop;
+use crate::stop::TraceStop;
 use bit_bdd::{Book, SetId};
 use rec_bits::{Items, NoMemory};
 use std::alloc::Global;
@@ -54,7 +54,7 @@ pub(crate) fn add_first(
     set: SetId,
     tests: &[(SetId, u32)],
     nets: &[Items<Route>],
-) -> Result<SetId, Stop>
+) -> Result<SetId, TraceStop>
     requires set { set < length book.old.nodes }
     requires tests { AllTests book.old tests.now }
     requires nets { AreTables book.old pool.old nets.now }
@@ -65,16 +65,16 @@ pub(crate) fn add_first(
     ensures pool { Grows pool.old pool.new }
     ensures table { OnOk result (IsRouteTable book.new pool.new out.new) }
     ensures terms { OnOk result ((word : ℕ) → word < 2 ^ book.old.bits →
-        terms_under book.new pool.new out.new word
-        ≡ (if has_word book.old set word then first_terms book.old pool.old nets.now word tests.now
-        else terms_under book.old pool.old out.old word)) }
+        models_under book.new pool.new out.new word
+        ≡ (if has_word book.old set word then first_exprs book.old pool.old nets.now word tests.now
+        else models_under book.old pool.old out.old word)) }
     ensures left_within { IfOk result (λ left. left < length book.new.nodes) }
     ensures left { IfOk result (λ left. (word : ℕ) → word < 2 ^ book.old.bits →
         has_word book.new left word ≡ (has_word book.old set word && not (passes book.old word tests.now))) }
     ensures many { IfErr result (λ stop. IfMany stop (IsOver book.new pool.new
         (λ word terms. terms ≡ (if has_word book.old set word
-        then first_terms book.old pool.old nets.now word tests.now
-        else terms_under book.old pool.old out.old word)))) }
+        then first_exprs book.old pool.old nets.now word tests.now
+        else models_under book.old pool.old out.old word)))) }
 {
     let mut left = set;
     for test in tests {

@@ -2,19 +2,19 @@
 
 ghost use Rattle.std.specs.Prelude.{◌≡◌, ℕ, ◌+◌, ◌^◌, ◌<◌, ◌≤◌, ◌&&◌, not, [], ◌∷◌, map, length, IfErr, IfOk, OnOk, true, if◌then◌else◌};
 ghost use Rattle.bit_bdd.specs.Diagrams.{Extends, has_word};
-ghost use Rattle.sym_expr.specs.Pools.{AllBelow, Grows, HeadFits, node_term, children_of, term_at};
-ghost use Rattle.route_trace.specs.Inner.Heads.{binary_parts, head_parts, head_term};
-ghost use Rattle.route_trace.specs.Inner.Routing.{AllFit, AllTests, AllBinaryFit, AreTables, first_terms, passes, pairs};
+ghost use Rattle.sym_expr.specs.Pools.{AllBelow, Grows, HeadFits, node_expr, children_of, expr_of_id};
+ghost use Rattle.route_trace.specs.Inner.Heads.{binary_parts, head_parts, head_expr};
+ghost use Rattle.route_trace.specs.Inner.Routing.{AllFit, AllTests, AllBinaryFit, AreTables, first_exprs, passes, pairs};
 ghost use Rattle.route_trace.specs.Inner.Stops.{IfMany, IsOver};
-ghost use Rattle.transfer_set.specs.Routes.{IsRouteTable, exprs_under, terms_under, routes_at};
-ghost use Rattle.route_trace.specs.Inner.Gates.{rest_terms};
+ghost use Rattle.transfer_set.specs.Routes.{IsRouteTable, exprs_under, models_under, routes_at};
+ghost use Rattle.route_trace.specs.Inner.Gates.{rest_exprs};
 
 use crate::first::{add_first, routes_of};
 use crate::heads::{Binary, Head};
 use crate::merge::add_route;
 use crate::pairs::add_pairs;
 use crate::product::add_all;
-use crate::stop::Stop;
+use crate::stop::TraceStop;
 use bit_bdd::{Book, SetId};
 use rec_bits::{Items, NoMemory};
 use std::alloc::Global;
@@ -32,7 +32,7 @@ fn add_leaf(
 ) -> Result<(), NoMemory>
     requires set { set < length book.old.nodes }
     requires leaf { children_of node ≡ [] }
-    requires fits { HeadFits (node_term node (term_at pool.old)) }
+    requires fits { HeadFits (node_expr node (expr_of_id pool.old)) }
     requires table { IsRouteTable book.old pool.old out.old }
     requires apart { (word : ℕ) → word < 2 ^ book.old.bits → has_word book.old set word ≡ true →
         exprs_under book.old out.old word ≡ [] }
@@ -40,9 +40,9 @@ fn add_leaf(
     ensures pool { Grows pool.old pool.new }
     ensures table { OnOk result (IsRouteTable book.new pool.new out.new) }
     ensures terms { OnOk result ((word : ℕ) → word < 2 ^ book.old.bits →
-        terms_under book.new pool.new out.new word
-        ≡ (if has_word book.old set word then node_term node (term_at pool.old) ∷ []
-        else terms_under book.old pool.old out.old word)) }
+        models_under book.new pool.new out.new word
+        ≡ (if has_word book.old set word then node_expr node (expr_of_id pool.old) ∷ []
+        else models_under book.old pool.old out.old word)) }
 {
     match book.least(set) {
         None => Ok(()),
@@ -64,13 +64,13 @@ pub(crate) fn leaf_routes(
 ) -> Result<Items<Route>, NoMemory>
     requires legal { legal < length book.old.nodes }
     requires leaf { children_of node ≡ [] }
-    requires fits { HeadFits (node_term node (term_at pool.old)) }
+    requires fits { HeadFits (node_expr node (expr_of_id pool.old)) }
     ensures book { Extends book.old book.new }
     ensures pool { Grows pool.old pool.new }
     ensures table { IfOk result (λ out. IsRouteTable book.new pool.new out) }
     ensures terms { IfOk result (λ out. (word : ℕ) → word < 2 ^ book.old.bits →
-        terms_under book.new pool.new out word
-        ≡ (if has_word book.old legal word then node_term node (term_at pool.old) ∷ [] else [])) }
+        models_under book.new pool.new out word
+        ≡ (if has_word book.old legal word then node_expr node (expr_of_id pool.old) ∷ [] else [])) }
 {
     let mut out = Items::new(alloc);
     add_leaf(alloc, book, pool, &mut out, legal, node)?;
@@ -86,7 +86,7 @@ pub(crate) fn routes_under(
     head: Head,
     nets: &[Items<Route>],
     a: u32,
-) -> Result<Items<Route>, Stop>
+) -> Result<Items<Route>, TraceStop>
     requires legal { legal < length book.old.nodes }
     requires parts { AllBelow (length pool.old) (head_parts head) }
     requires nets { AreTables book.old pool.old nets.now }
@@ -95,13 +95,13 @@ pub(crate) fn routes_under(
     ensures pool { Grows pool.old pool.new }
     ensures table { IfOk result (λ out. IsRouteTable book.new pool.new out) }
     ensures terms { IfOk result (λ out. (word : ℕ) → word < 2 ^ book.old.bits →
-        terms_under book.new pool.new out word
+        models_under book.new pool.new out word
         ≡ (if has_word book.old legal word
-        then map (head_term head (term_at pool.old)) (terms_under book.old pool.old (routes_at nets.now a) word)
+        then map (head_expr head (expr_of_id pool.old)) (models_under book.old pool.old (routes_at nets.now a) word)
         else [])) }
     ensures many { IfErr result (λ stop. IfMany stop (IsOver book.new pool.new
         (λ word terms. terms ≡ (if has_word book.old legal word
-        then map (head_term head (term_at pool.old)) (terms_under book.old pool.old (routes_at nets.now a) word)
+        then map (head_expr head (expr_of_id pool.old)) (models_under book.old pool.old (routes_at nets.now a) word)
         else [])))) }
 {
     let mut out = Items::new(alloc);
@@ -120,7 +120,7 @@ pub(crate) fn routes_over(
     nets: &[Items<Route>],
     a: u32,
     b: u32,
-) -> Result<Items<Route>, Stop>
+) -> Result<Items<Route>, TraceStop>
     requires legal { legal < length book.old.nodes }
     requires parts { AllBelow (length pool.old) (binary_parts binary) }
     requires nets { AreTables book.old pool.old nets.now }
@@ -129,17 +129,17 @@ pub(crate) fn routes_over(
     ensures pool { Grows pool.old pool.new }
     ensures table { IfOk result (λ out. IsRouteTable book.new pool.new out) }
     ensures terms { IfOk result (λ out. (word : ℕ) → word < 2 ^ book.old.bits →
-        terms_under book.new pool.new out word
+        models_under book.new pool.new out word
         ≡ (if has_word book.old legal word
-        then pairs binary (term_at pool.old)
-        (terms_under book.old pool.old (routes_at nets.now a) word)
-        (terms_under book.old pool.old (routes_at nets.now b) word)
+        then pairs binary (expr_of_id pool.old)
+        (models_under book.old pool.old (routes_at nets.now a) word)
+        (models_under book.old pool.old (routes_at nets.now b) word)
         else [])) }
     ensures many { IfErr result (λ stop. IfMany stop (IsOver book.new pool.new
         (λ word terms. terms ≡ (if has_word book.old legal word
-        then pairs binary (term_at pool.old)
-        (terms_under book.old pool.old (routes_at nets.now a) word)
-        (terms_under book.old pool.old (routes_at nets.now b) word)
+        then pairs binary (expr_of_id pool.old)
+        (models_under book.old pool.old (routes_at nets.now a) word)
+        (models_under book.old pool.old (routes_at nets.now b) word)
         else [])))) }
 {
     let mut out = Items::new(alloc);
@@ -161,7 +161,7 @@ pub(crate) fn routes_of_first(
     nets: &[Items<Route>],
     rest: Option<u32>,
     width: u8,
-) -> Result<Items<Route>, Stop>
+) -> Result<Items<Route>, TraceStop>
     requires legal { legal < length book.old.nodes }
     requires tests { AllTests book.old tests.now }
     requires nets { AreTables book.old pool.old nets.now }
@@ -171,17 +171,17 @@ pub(crate) fn routes_of_first(
     ensures pool { Grows pool.old pool.new }
     ensures table { IfOk result (λ out. IsRouteTable book.new pool.new out) }
     ensures terms { IfOk result (λ out. (word : ℕ) → word < 2 ^ book.old.bits →
-        terms_under book.new pool.new out word
+        models_under book.new pool.new out word
         ≡ (if has_word book.old legal word
         then (if passes book.old word tests.now
-        then first_terms book.old pool.old nets.now word tests.now
-        else rest_terms book.old pool.old nets.now width rest word)
+        then first_exprs book.old pool.old nets.now word tests.now
+        else rest_exprs book.old pool.old nets.now width rest word)
         else [])) }
     ensures many { IfErr result (λ stop. IfMany stop (IsOver book.new pool.new
         (λ word terms. terms ≡ (if has_word book.old legal word
         then (if passes book.old word tests.now
-        then first_terms book.old pool.old nets.now word tests.now
-        else rest_terms book.old pool.old nets.now width rest word)
+        then first_exprs book.old pool.old nets.now word tests.now
+        else rest_exprs book.old pool.old nets.now width rest word)
         else [])))) }
 {
     let mut out = Items::new(alloc);

@@ -2,9 +2,9 @@
 
 ghost use Rattle.std.specs.Prelude.{◌≡◌, ℕ, ◌<◌, ◌≤◌, length, IfOk};
 ghost use Rattle.net_model.specs.Symbolic.{sliced};
-ghost use Rattle.net_model.specs.Terms.{term_width};
-ghost use Rattle.sym_expr.specs.Pools.{AllBelow, Grows, term_at};
-ghost use Rattle.route_trace.specs.Inner.Heads.{LastFits, binary_head, head_parts, head_term, slice_parts};
+ghost use Rattle.net_model.specs.Exprs.{expr_width};
+ghost use Rattle.sym_expr.specs.Pools.{AllBelow, Grows, expr_of_id};
+ghost use Rattle.route_trace.specs.Inner.Heads.{LastFits, binary_head, head_parts, head_expr, slice_parts};
 
 use net_model::Space;
 use rec_bits::{NoMemory, Op1, Op2};
@@ -54,10 +54,10 @@ pub(crate) fn make_slice(
 ) -> Result<ExprId, NoMemory>
     requires of { of < length pool.old }
     requires ends { lo ≤ hi }
-    requires high { hi < term_width (term_at pool.old of) }
+    requires high { hi < expr_width (expr_of_id pool.old of) }
     ensures grows { Grows pool.old pool.new }
     ensures within { IfOk result (λ id. id < length pool.new) }
-    ensures term { IfOk result (λ id. term_at pool.new id ≡ sliced (term_at pool.old of) hi lo) }
+    ensures term { IfOk result (λ id. expr_of_id pool.new id ≡ sliced (expr_of_id pool.old of) hi lo) }
 {
     match slice_of_node(pool.node(of)) {
         Some((a, _, low)) => pool.intern(alloc, Node::Slice(a, low + hi, low + lo)),
@@ -80,10 +80,10 @@ pub(crate) fn close(
 ) -> Result<ExprId, NoMemory>
     requires last { last < length pool.old }
     requires parts { AllBelow (length pool.old) (head_parts head) }
-    requires fits { LastFits head (term_at pool.old) (term_width (term_at pool.old last)) }
+    requires fits { LastFits head (expr_of_id pool.old) (expr_width (expr_of_id pool.old last)) }
     ensures grows { Grows pool.old pool.new }
     ensures within { IfOk result (λ id. id < length pool.new) }
-    ensures term { IfOk result (λ id. term_at pool.new id ≡ head_term head (term_at pool.old) (term_at pool.old last)) }
+    ensures term { IfOk result (λ id. expr_of_id pool.new id ≡ head_expr head (expr_of_id pool.old) (expr_of_id pool.old last)) }
 {
     match head {
         Head::Same => Ok(last),

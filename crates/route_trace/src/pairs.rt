@@ -2,17 +2,17 @@
 
 ghost use Rattle.std.specs.Prelude.{◌≡◌, ℕ, ◌+◌, ◌^◌, ◌<◌, ◌≤◌, ◌&&◌, not, [], map, length, IfErr, IfOk, OnOk, true, if◌then◌else◌};
 ghost use Rattle.bit_bdd.specs.Diagrams.{Extends, has_word};
-ghost use Rattle.sym_expr.specs.Pools.{AllBelow, Grows, term_at};
-ghost use Rattle.route_trace.specs.Inner.Heads.{binary_head, binary_parts, head_parts, head_term};
+ghost use Rattle.sym_expr.specs.Pools.{AllBelow, Grows, expr_of_id};
+ghost use Rattle.route_trace.specs.Inner.Heads.{binary_head, binary_parts, head_parts, head_expr};
 ghost use Rattle.route_trace.specs.Inner.Routing.{AllFit, AllBinaryFit, pairs};
 ghost use Rattle.route_trace.specs.Inner.Stops.{IfMany, IsOver};
-ghost use Rattle.transfer_set.specs.Routes.{IsRouteTable, exprs_under, terms_under};
+ghost use Rattle.transfer_set.specs.Routes.{IsRouteTable, exprs_under, models_under};
 
 use crate::first::without;
 use crate::heads::{Binary, Head, with_first};
 use crate::lookup::{held_words, place_of};
 use crate::product::add_all;
-use crate::stop::Stop;
+use crate::stop::TraceStop;
 use bit_bdd::{Book, SetId};
 use rec_bits::Items;
 use std::alloc::Global;
@@ -31,7 +31,7 @@ fn add_part(
     part: SetId,
     routes: &[Route],
     start: usize,
-) -> Result<SetId, Stop>
+) -> Result<SetId, TraceStop>
     requires set { set < length book.old.nodes }
     requires part { part < length book.old.nodes }
     requires parts { AllBelow (length pool.old) (head_parts head) }
@@ -46,17 +46,17 @@ fn add_part(
     ensures pool { Grows pool.old pool.new }
     ensures table { OnOk result (IsRouteTable book.new pool.new out.new) }
     ensures terms { OnOk result ((word : ℕ) → word < 2 ^ book.old.bits →
-        terms_under book.new pool.new out.new word
+        models_under book.new pool.new out.new word
         ≡ (if has_word book.old set word && has_word book.old part word
-        then map (head_term head (term_at pool.old)) (terms_under book.old pool.old routes.now word)
-        else terms_under book.old pool.old out.old word)) }
+        then map (head_expr head (expr_of_id pool.old)) (models_under book.old pool.old routes.now word)
+        else models_under book.old pool.old out.old word)) }
     ensures left_within { IfOk result (λ left. left < length book.new.nodes) }
     ensures left { IfOk result (λ left.
         (word : ℕ) → has_word book.new left word ≡ (has_word book.old set word && not (has_word book.old part word))) }
     ensures many { IfErr result (λ stop. IfMany stop (IsOver book.new pool.new
         (λ word terms. terms ≡ (if has_word book.old set word && has_word book.old part word
-        then map (head_term head (term_at pool.old)) (terms_under book.old pool.old routes.now word)
-        else terms_under book.old pool.old out.old word)))) }
+        then map (head_expr head (expr_of_id pool.old)) (models_under book.old pool.old routes.now word)
+        else models_under book.old pool.old out.old word)))) }
 {
     let left = without(alloc, book, set, part)?;
     let both = book.and(alloc, set, part)?;
@@ -77,7 +77,7 @@ pub(crate) fn add_pairs(
     firsts: &[Route],
     seconds: &[Route],
     start: usize,
-) -> Result<(), Stop>
+) -> Result<(), TraceStop>
     requires set { set < length book.old.nodes }
     requires parts { AllBelow (length pool.old) (binary_parts binary) }
     requires first { IsRouteTable book.old pool.old firsts.now }
@@ -92,16 +92,16 @@ pub(crate) fn add_pairs(
     ensures pool { Grows pool.old pool.new }
     ensures table { OnOk result (IsRouteTable book.new pool.new out.new) }
     ensures terms { OnOk result ((word : ℕ) → word < 2 ^ book.old.bits →
-        terms_under book.new pool.new out.new word
+        models_under book.new pool.new out.new word
         ≡ (if has_word book.old set word
-        then pairs binary (term_at pool.old) (terms_under book.old pool.old firsts.now word)
-        (terms_under book.old pool.old seconds.now word)
-        else terms_under book.old pool.old out.old word)) }
+        then pairs binary (expr_of_id pool.old) (models_under book.old pool.old firsts.now word)
+        (models_under book.old pool.old seconds.now word)
+        else models_under book.old pool.old out.old word)) }
     ensures many { IfErr result (λ stop. IfMany stop (IsOver book.new pool.new
         (λ word terms. terms ≡ (if has_word book.old set word
-        then pairs binary (term_at pool.old) (terms_under book.old pool.old firsts.now word)
-        (terms_under book.old pool.old seconds.now word)
-        else terms_under book.old pool.old out.old word)))) }
+        then pairs binary (expr_of_id pool.old) (models_under book.old pool.old firsts.now word)
+        (models_under book.old pool.old seconds.now word)
+        else models_under book.old pool.old out.old word)))) }
 {
     let mut left = set;
     let mut start = start;

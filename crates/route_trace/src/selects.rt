@@ -2,14 +2,14 @@
 
 ghost use Rattle.std.specs.Prelude.{◌≡◌, ℕ, ◌+◌, ◌^◌, ◌<◌, ◌≤◌, [], length, IfErr, OnOk, true, if◌then◌else◌};
 ghost use Rattle.bit_bdd.specs.Diagrams.{Extends, has_word};
-ghost use Rattle.sym_expr.specs.Pools.{Grows, term_at};
-ghost use Rattle.transfer_set.specs.Routes.{IsRouteTable, exprs_under, terms_under};
+ghost use Rattle.sym_expr.specs.Pools.{Grows, expr_of_id};
+ghost use Rattle.transfer_set.specs.Routes.{IsRouteTable, exprs_under, models_under};
 ghost use Rattle.route_trace.specs.Inner.Selects.{AllSelectFit, selects};
 ghost use Rattle.route_trace.specs.Inner.Stops.{IfMany, IsOver};
 
 use crate::heads::Binary;
 use crate::pairs::add_pairs;
-use crate::stop::Stop;
+use crate::stop::TraceStop;
 use bit_bdd::{Book, SetId};
 use rec_bits::Items;
 use std::alloc::Global;
@@ -27,7 +27,7 @@ pub(crate) fn add_selects(
     choices: &[Route],
     firsts: &[Route],
     seconds: &[Route],
-) -> Result<(), Stop>
+) -> Result<(), TraceStop>
     requires set { set < length book.old.nodes }
     requires choice { IsRouteTable book.old pool.old choices.now }
     requires choice_one { (word : ℕ) → word < 2 ^ book.old.bits → length (exprs_under book.old choices.now word) ≤ 1 }
@@ -43,18 +43,18 @@ pub(crate) fn add_selects(
     ensures pool { Grows pool.old pool.new }
     ensures table { OnOk result (IsRouteTable book.new pool.new out.new) }
     ensures terms { OnOk result ((word : ℕ) → word < 2 ^ book.old.bits →
-        terms_under book.new pool.new out.new word
+        models_under book.new pool.new out.new word
         ≡ (if has_word book.old set word
-        then selects (terms_under book.old pool.old choices.now word)
-        (terms_under book.old pool.old firsts.now word)
-        (terms_under book.old pool.old seconds.now word)
-        else terms_under book.old pool.old out.old word)) }
+        then selects (models_under book.old pool.old choices.now word)
+        (models_under book.old pool.old firsts.now word)
+        (models_under book.old pool.old seconds.now word)
+        else models_under book.old pool.old out.old word)) }
     ensures many { IfErr result (λ stop. IfMany stop (IsOver book.new pool.new
         (λ word terms. terms ≡ (if has_word book.old set word
-        then selects (terms_under book.old pool.old choices.now word)
-        (terms_under book.old pool.old firsts.now word)
-        (terms_under book.old pool.old seconds.now word)
-        else terms_under book.old pool.old out.old word)))) }
+        then selects (models_under book.old pool.old choices.now word)
+        (models_under book.old pool.old firsts.now word)
+        (models_under book.old pool.old seconds.now word)
+        else models_under book.old pool.old out.old word)))) }
 {
     for route in choices {
         let both = book.and(alloc, set, route.set)?;

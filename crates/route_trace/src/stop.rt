@@ -1,23 +1,23 @@
 //! Why the routes of a net are given up.
 
 ghost use Rattle.std.specs.Prelude.{◌≡◌};
-ghost use Rattle.route_trace.specs.declared.stop.Stop.{Stop};
+ghost use Rattle.route_trace.specs.declared.stop.TraceStop.{TraceStop};
 
 use rec_bits::NoMemory;
 
 // Why the routes of a net are given up.
 #[derive(Clone, Copy, PartialEq, Eq)]
-pub(crate) enum Stop {
+pub(crate) enum TraceStop {
     // There are more than a net may have values.
     Many,
     // Want of memory.
     Memory,
 }
 
-impl From<NoMemory> for Stop {
-    ghost from_gives = { λ _ stop. stop ≡ Stop.Memory };
+impl From<NoMemory> for TraceStop {
+    ghost from_gives = { λ _ stop. stop ≡ TraceStop.Memory };
 
-    fn from(_: NoMemory) -> Stop {
-        Stop::Memory
+    fn from(_: NoMemory) -> TraceStop {
+        TraceStop::Memory
     }
 }

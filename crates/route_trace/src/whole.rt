@@ -2,14 +2,14 @@
 
 ghost use Rattle.std.specs.Prelude.{◌≡◌, ℕ, ◌+◌, ◌^◌, ◌<◌, ◌≤◌, [], ◌∷◌, length, IfErr, IfOk, true, Some, if◌then◌else◌};
 ghost use Rattle.bit_bdd.specs.Diagrams.{Extends, has_word};
-ghost use Rattle.net_model.specs.Terms.{Term};
+ghost use Rattle.net_model.specs.Exprs.{ExprModel};
 ghost use Rattle.net_model.specs.Widths.{IsTyped, NetFits};
 ghost use Rattle.net_model.specs.Value.{value_of};
 ghost use Rattle.net_model.specs.Nets.{gate_nets};
-ghost use Rattle.net_model.specs.Symbolic.{no_state, gate_term, is_static};
-ghost use Rattle.sym_expr.specs.Pools.{Grows, HeadFits, children_of, node_term, term_at};
-ghost use Rattle.route_trace.specs.declared.stop.Stop.TheVariants.{Memory};
-ghost use Rattle.transfer_set.specs.Routes.{IsRouteTable, terms_under, only};
+ghost use Rattle.net_model.specs.Symbolic.{no_state, gate_expr, is_static};
+ghost use Rattle.sym_expr.specs.Pools.{Grows, HeadFits, children_of, node_expr, expr_of_id};
+ghost use Rattle.route_trace.specs.declared.stop.TraceStop.TheVariants.{Memory};
+ghost use Rattle.transfer_set.specs.Routes.{IsRouteTable, models_under, only};
 ghost use Rattle.route_trace.specs.Inner.Gates.{AllGive, HaveWidths};
 ghost use Rattle.route_trace.specs.Inner.Routing.{AreTables};
 ghost use Rattle.route_trace.specs.Inner.Stops.{IfMany, IsOver};
@@ -18,7 +18,7 @@ ghost use Rattle.route_trace.specs.Inner.Tests.{IsDecided};
 use crate::cases::{bus_routes, case_routes};
 use crate::gates::{leaf_routes, routes_over, routes_under};
 use crate::heads::{Binary, Head};
-use crate::stop::Stop;
+use crate::stop::TraceStop;
 use bit_bdd::{Book, SetId};
 use ctl_bdd::ControlBits;
 use net_model::{Gate, Net, Netlist};
@@ -34,16 +34,16 @@ fn routes_of_leaf(
     pool: &mut Pool,
     legal: SetId,
     node: Node,
-) -> Result<Items<Route>, Stop>
+) -> Result<Items<Route>, TraceStop>
     requires legal { legal < length book.old.nodes }
     requires leaf { children_of node ≡ [] }
-    requires fits { HeadFits (node_term node (term_at pool.old)) }
+    requires fits { HeadFits (node_expr node (expr_of_id pool.old)) }
     ensures book { Extends book.old book.new }
     ensures pool { Grows pool.old pool.new }
     ensures table { IfOk result (λ out. IsRouteTable book.new pool.new out) }
     ensures terms { IfOk result (λ out. (word : ℕ) → word < 2 ^ book.old.bits →
-        terms_under book.new pool.new out word
-        ≡ (if has_word book.old legal word then node_term node (term_at pool.old) ∷ [] else [])) }
+        models_under book.new pool.new out word
+        ≡ (if has_word book.old legal word then node_expr node (expr_of_id pool.old) ∷ [] else [])) }
     ensures few { IfErr result (λ stop. stop ≡ Memory) }
 {
     let routes = leaf_routes(alloc, book, pool, legal, node)?;
@@ -59,7 +59,7 @@ pub(crate) fn net_routes(
     pool: &mut Pool,
     nets: &[Items<Route>],
     net: &Net,
-) -> Result<Items<Route>, Stop>
+) -> Result<Items<Route>, TraceStop>
     requires legal { controls.now.legal < length book.old.nodes }
     requires decided { IsDecided netlist.now book.old controls.now.bits net.now.gate }
     requires nets { AreTables book.old pool.old nets.now }
@@ -69,15 +69,15 @@ pub(crate) fn net_routes(
     ensures book { Extends book.old book.new }
     ensures pool { Grows pool.old pool.new }
     ensures table { IfOk result (λ out. IsRouteTable book.new pool.new out) }
-    ensures terms { IfOk result (λ out. (t : ℕ → Term) → (word : ℕ) → word < 2 ^ book.old.bits →
+    ensures terms { IfOk result (λ out. (t : ℕ → ExprModel) → (word : ℕ) → word < 2 ^ book.old.bits →
         AllGive book.old pool.old nets.now controls.now.legal t word (gate_nets net.now.gate) →
-        terms_under book.new pool.new out word
-        ≡ only book.old controls.now.legal word (gate_term t (value_of netlist.now no_state word)
+        models_under book.new pool.new out word
+        ≡ only book.old controls.now.legal word (gate_expr t (value_of netlist.now no_state word)
         (is_static netlist.now) netlist.now net.now.width net.now.gate)) }
     ensures many { IfErr result (λ stop. IfMany stop (IsOver book.new pool.new
-        (λ word terms. (t : ℕ → Term) →
+        (λ word terms. (t : ℕ → ExprModel) →
         AllGive book.old pool.old nets.now controls.now.legal t word (gate_nets net.now.gate) →
-        terms ≡ only book.old controls.now.legal word (gate_term t (value_of netlist.now no_state word)
+        terms ≡ only book.old controls.now.legal word (gate_expr t (value_of netlist.now no_state word)
         (is_static netlist.now) netlist.now net.now.width net.now.gate)))) }
 {
     let legal = controls.legal;

@@ -1,1 +1,6 @@
+mod Evaluated
+mod Moved
+mod Targets
+mod Traced
+mod Wide
 mod WordCounts

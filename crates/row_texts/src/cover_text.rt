@@ -71,7 +71,7 @@ fn jobs_of(
 }
 
 // How many temporary cells a cover fills.
-fn cell_count(alloc: Global, cover: &Cover) -> Result<usize, CoverFault> {
+fn cover_cell_count(alloc: Global, cover: &Cover) -> Result<usize, CoverFault> {
     match cells(alloc, cover) {
         Ok(filled) => Ok(filled.list.len()),
         Err(NoMemory) => Err(CoverFault::Memory),
@@ -95,7 +95,7 @@ fn count_cover(
 ) -> Result<CoverCounts, CoverFault> {
     let found = cover(alloc, forms, job, temps)?;
     let JobCover { which, cover, cost } = found;
-    let cells = cell_count(alloc, &cover);
+    let cells = cover_cell_count(alloc, &cover);
     drop(cover);
     let cells = cells?;
     Ok(CoverCounts { which, cost, cells })

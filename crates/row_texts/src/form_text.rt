@@ -1,14 +1,14 @@
 //! The forms of a netlist: each with its pattern's number, its transfer and its clobbers.
 
 ghost use Rattle.std.specs.Prelude.{◌≤◌, length};
-ghost use Rattle.net_extract.specs.Extraction.{IsExtractedFrom};
+ghost use Rattle.isa_extract.specs.Extraction.{IsExtractedFrom};
 
 use crate::expr_text::{add_expr, add_storage};
 use crate::fault::RowFault;
 use crate::text::put;
 use form_model::{Form, Forms, Goal, RegSet, Target};
 use form_set::forms;
-use net_extract::{Isa, read_extracted_taken};
+use isa_extract::{Isa, read_extracted_taken};
 use net_model::{Checked, Expr, Space};
 use rec_bits::NoMemory;
 use std::alloc::{AllocError, Global};

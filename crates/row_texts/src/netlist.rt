@@ -5,7 +5,7 @@ ghost use Rattle.std.specs.Prelude.{◌≤◌, length};
 use crate::fault::RowFault;
 use crate::text::put;
 use crate::words::{Compared, Found, compare_words};
-use net_extract::read_extracted_taken;
+use isa_extract::read_extracted_taken;
 use std::alloc::{AllocError, Global};
 
 // The newest edition of the netlists whose words are compared.

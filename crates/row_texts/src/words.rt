@@ -1,20 +1,20 @@
 //! What words do by themselves, beside what the patterns tell of them.
 
 ghost use Rattle.std.specs.Prelude.{◌≡◌, ◌<◌, ◌≤◌, length};
-ghost use Rattle.net_extract.specs.Extraction.{IsExtractedFrom};
+ghost use Rattle.isa_extract.specs.Extraction.{IsExtractedFrom};
 ghost use Rattle.net_model.specs.Nets.{word_width};
 ghost use Rattle.net_model.specs.Widths.{WordFits};
 ghost use Rattle.row_texts.specs.declared.words.TheConstants.{MOST_BITS};
 ghost use Rattle.transfer_set.specs.Tables.{AreSets};
 
+use crate::moves::{StorageMove, word_moves};
 use bit_bdd::{Book, SetId};
-use net_extract::Isa;
+use isa_extract::Isa;
 use net_model::Checked;
 use rec_bits::NoMemory;
 use std::alloc::Global;
 use sym_expr::Pool;
 use transfer_set::Patterns;
-use word_moves::{StorageMove, word_moves};
 
 // The most bits of the words that are gone through.
 const MOST_BITS: u8 = 16;

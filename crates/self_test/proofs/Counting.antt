@@ -1,7 +1,7 @@
 -- Counts that stand at the end of their type.
 use Rattle.std.proofs.Common.{◌≡◌, ℕ, ◌+◌, ◌-◌, ◌^◌, ◌<◌, Bool, true, false, cond, max, min, refl, ap, ◌∙◌, arith}
 use Rattle.rec_bits.specs.Counts.{capped}
-use Rattle.net_model.specs.Terms.{Term, term_width}
+use Rattle.net_model.specs.Exprs.{ExprModel, expr_width}
 use Rattle.src_model.specs.Sizes.{is_word}
 use Rattle.self_test.specs.Inner.Values.{inner, is_operand, node}
 
@@ -12,11 +12,11 @@ if_capped : (b : Bool) (k n : ℕ) → capped (cond b 0 (k + capped n)) ≡ capp
 if_capped true k n = refl
 if_capped false k n = grind (arith)
 
-pub node_capped : (w : ℕ) (t : Term) (n : ℕ) → capped (node w t (capped n)) ≡ capped (node w t n)
-node_capped w t n = if_capped (is_operand t) (is_word w (term_width t)) n
+pub node_capped : (w : ℕ) (t : ExprModel) (n : ℕ) → capped (node w t (capped n)) ≡ capped (node w t n)
+node_capped w t n = if_capped (is_operand t) (is_word w (expr_width t)) n
 
 -- both sides of an operator
-module _ (w : ℕ) (a b : Term) (x y l r s : ℕ) where
+module _ (w : ℕ) (a b : ExprModel) (x y l r s : ℕ) where
   pub both_capped : x ≡ capped (inner w a) → l ≡ capped (node w a x) → y ≡ capped (inner w b) → r ≡ capped (node w b y) → s ≡ min (l + r) (2 ^ 64 - 1) → s ≡ capped (node w a (inner w a) + node w b (inner w b))
   both_capped ex el ey er es =
       es

@@ -5,30 +5,30 @@ use Rattle.rec_bits.specs.Counts.{capped}
 use Rattle.net_model.specs.declared.hardware.Netlist.{Netlist}
 use Rattle.net_model.specs.Nets.{memory_width}
 use Rattle.net_model.specs.Patterns.{Pattern}
-use Rattle.net_model.specs.Terms.{Term}
-use Rattle.form_model.specs.Rules.{Rule}
-use Rattle.src_trees.specs.Lowered.{Work}
+use Rattle.net_model.specs.Exprs.{ExprModel}
+use Rattle.form_model.specs.Forms.{FormModel}
+use Rattle.src_trees.specs.Lowered.{JobModel}
 use Rattle.sym_expr.specs.declared.pool.Node.{Node}
-use Rattle.sym_expr.specs.Pools.{term_at}
-use Rattle.self_test.specs.Cells.{all_operands, test_need, test_temps, test_values, test_works, works_from}
-use Rattle.self_test.specs.Inner.Values.{greatest_inner, terms_at}
+use Rattle.sym_expr.specs.Pools.{expr_of_id}
+use Rattle.self_test.specs.Cells.{all_operands, test_need, test_temps, test_values, test_jobs, jobs_from}
+use Rattle.self_test.specs.Inner.Values.{greatest_inner, exprs_at}
 use Rattle.self_test.specs.Trees.{widths_of}
 use Rattle.self_test.proofs.Inner.{temps_are}
 
-module _ (netlist : Netlist) (rules : List Rule) (patterns : List Pattern) (pool : List Node) (ids : List ℕ) (found : terms_at pool ids ≡ test_values netlist rules patterns) where
-  module _ (width temps operands : ℕ) (w : width ≡ memory_width netlist.storages) (t : temps ≡ capped (greatest_inner width (terms_at pool ids))) (o : operands ≡ capped (all_operands (terms_at pool ids))) where
+module _ (netlist : Netlist) (rules : List FormModel) (patterns : List Pattern) (pool : List Node) (ids : List ℕ) (found : exprs_at pool ids ≡ test_values netlist rules patterns) where
+  module _ (width temps operands : ℕ) (w : width ≡ memory_width netlist.storages) (t : temps ≡ capped (greatest_inner width (exprs_at pool ids))) (o : operands ≡ capped (all_operands (exprs_at pool ids))) where
     temps_found : temps ≡ capped (test_temps netlist rules patterns)
     temps_found =
         t
-        ∙ ap (λ v. capped (greatest_inner v (terms_at pool ids))) w
-        ∙ ap (λ (values : List Term). capped (greatest_inner (memory_width netlist.storages) values)) found
+        ∙ ap (λ v. capped (greatest_inner v (exprs_at pool ids))) w
+        ∙ ap (λ (values : List ExprModel). capped (greatest_inner (memory_width netlist.storages) values)) found
         ∙ ap capped (sym (temps_are (widths_of netlist) (test_values netlist rules patterns)))
 
     operands_found : operands ≡ capped (all_operands (test_values netlist rules patterns))
-    operands_found = o ∙ ap (λ (values : List Term). capped (all_operands values)) found
+    operands_found = o ∙ ap (λ (values : List ExprModel). capped (all_operands values)) found
 
     values_found : length ids ≡ length (test_values netlist rules patterns)
-    values_found = sym (length-map ids (term_at pool)) ∙ ap (λ (values : List Term). length values) found
+    values_found = sym (length-map ids (expr_of_id pool)) ∙ ap (λ (values : List ExprModel). length values) found
 
     module _ (outputs need : ℕ) (f : outputs ≡ min (temps + operands) (2 ^ 64 - 1)) (n : need ≡ min (outputs + length ids) (2 ^ 64 - 1)) where
       pub need_found : need ≡ capped (test_need netlist rules patterns)
@@ -45,9 +45,9 @@ module _ (netlist : Netlist) (rules : List Rule) (patterns : List Pattern) (pool
         pub need_within : test_need netlist rules patterns ≤ have
         need_within = omega (arith, need_found, few, room)
 
-        pub works_found : (works : List Work) → works ≡ works_from (widths_of netlist) temps outputs (terms_at pool ids) → works ≡ test_works netlist rules patterns
-        works_found works e =
+        pub jobs_found : (works : List JobModel) → works ≡ jobs_from (widths_of netlist) temps outputs (exprs_at pool ids) → works ≡ test_jobs netlist rules patterns
+        jobs_found works e =
             e
-            ∙ ap (λ at. works_from (widths_of netlist) at outputs (terms_at pool ids)) temps_exact
-            ∙ ap (λ out. works_from (widths_of netlist) (test_temps netlist rules patterns) out (terms_at pool ids)) outputs_exact
-            ∙ ap (λ (values : List Term). works_from (widths_of netlist) (test_temps netlist rules patterns) (test_temps netlist rules patterns + all_operands (test_values netlist rules patterns)) values) found
+            ∙ ap (λ at. jobs_from (widths_of netlist) at outputs (exprs_at pool ids)) temps_exact
+            ∙ ap (λ out. jobs_from (widths_of netlist) (test_temps netlist rules patterns) out (exprs_at pool ids)) outputs_exact
+            ∙ ap (λ (values : List ExprModel). jobs_from (widths_of netlist) (test_temps netlist rules patterns) (test_temps netlist rules patterns + all_operands (test_values netlist rules patterns)) values) found

@@ -4,16 +4,16 @@ use Rattle.std.specs.Prelude.{ℕ, ◌+◌, ◌==◌, ◌&&◌, not, nat_eq, if�
 use Rattle.std.specs.List.{list_any}
 use Rattle.net_model.specs.declared.hardware.Netlist.{Netlist}
 use Rattle.net_model.specs.Nets.{counter_of, memory_width, storage_bits}
-use Rattle.net_model.specs.Terms.{Term, word, reg, const, read, un, bin, slice, cat, zext, sext, select, Move, keep, write, write_at}
+use Rattle.net_model.specs.Exprs.{ExprModel, word, reg, const, read, un, bin, slice, cat, zext, sext, select, TransferModel, keep, write, write_at}
 use Rattle.net_model.specs.Patterns.{Pattern}
-use Rattle.net_model.specs.Occurs.{move_occurs}
+use Rattle.net_model.specs.Occurs.{transfer_occurs}
 use Rattle.form_model.specs.Shapes.{is_plain}
-use Rattle.form_model.specs.Rules.{Rule}
+use Rattle.form_model.specs.Forms.{FormModel}
 
 -- ---- what holds of all parts of an expression
 
 -- each register in it has this width
-abbrev pub has_registers : ℕ → Term → Bool
+abbrev pub has_registers : ℕ → ExprModel → Bool
 has_registers w (word v) = true
 has_registers w (reg r v) = v == w
 has_registers w (const v n) = true
@@ -27,7 +27,7 @@ has_registers w (sext a v) = has_registers w a
 has_registers w (select c a b) = has_registers w c && (has_registers w a && has_registers w b)
 
 -- each read in it stands at a field shape, in which there is no read
-abbrev pub has_field_reads : Term → Bool
+abbrev pub has_field_reads : ExprModel → Bool
 has_field_reads (word v) = true
 has_field_reads (reg r v) = true
 has_field_reads (const v n) = true
@@ -41,7 +41,7 @@ has_field_reads (sext a v) = has_field_reads a
 has_field_reads (select c a b) = has_field_reads c && (has_field_reads a && has_field_reads b)
 
 -- no cat and no select occurs in it, so a tree can say it
-abbrev pub has_tree : Term → Bool
+abbrev pub has_tree : ExprModel → Bool
 has_tree (word v) = true
 has_tree (reg r v) = true
 has_tree (const v n) = true
@@ -56,18 +56,18 @@ has_tree (select c a b) = false
 
 -- ---- the same of transfers
 
-abbrev pub of_both : (Term → Bool) → Move → Bool
+abbrev pub of_both : (ExprModel → Bool) → TransferModel → Bool
 of_both f keep = false
 of_both f (write e) = f e
 of_both f (write_at a e) = f a && f e
 
-abbrev pub value_of_move : Move → Term
-value_of_move keep = const 0 0
-value_of_move (write e) = e
-value_of_move (write_at a e) = e
+abbrev pub value_of_transfer : TransferModel → ExprModel
+value_of_transfer keep = const 0 0
+value_of_transfer (write e) = e
+value_of_transfer (write_at a e) = e
 
 -- a register of this width, or the memory at a field shape
-abbrev pub has_target : ℕ → ℕ → Move → Bool
+abbrev pub has_target : ℕ → ℕ → TransferModel → Bool
 has_target w bits keep = false
 has_target w bits (write e) = bits == w
 has_target w bits (write_at a e) = is_plain a
@@ -80,26 +80,26 @@ has_target w bits (write_at a e) = is_plain a
 abbrev pub is_candidate : Netlist → Pattern → Bool
 is_candidate netlist p =
     not (p.storage == counter_of netlist.codes)
-    && (not (move_occurs (counter_of netlist.codes) p.move)
+    && (not (transfer_occurs (counter_of netlist.codes) p.move)
     && (has_target (memory_width netlist.storages) (storage_bits (slice_get netlist.storages p.storage)) p.move
     && (of_both (has_registers (memory_width netlist.storages)) p.move
-    && (of_both has_field_reads p.move && has_tree (value_of_move p.move)))))
+    && (of_both has_field_reads p.move && has_tree (value_of_transfer p.move)))))
 
 -- the pattern of this number gives a form
-abbrev pub gives_form : List Rule → ℕ → Bool
-gives_form rules number = list_any (λ (rule : Rule). nat_eq rule.pattern number) rules
+abbrev pub gives_form : List FormModel → ℕ → Bool
+gives_form rules number = list_any (λ (rule : FormModel). nat_eq rule.pattern number) rules
 
 -- the value of the pattern of this number, if it is a candidate that gives a form
-abbrev pub value_at : Netlist → List Rule → ℕ → Option Pattern → List Term
+abbrev pub value_at : Netlist → List FormModel → ℕ → Option Pattern → List ExprModel
 value_at netlist rules number None = []
 value_at netlist rules number (Some p) =
-    if gives_form rules number && is_candidate netlist p then value_of_move p.move ∷ [] else []
+    if gives_form rules number && is_candidate netlist p then value_of_transfer p.move ∷ [] else []
 
 -- those of patterns that are numbered from a number on, in their order
-abbrev pub values_from : Netlist → List Rule → ℕ → List Pattern → List Term
+abbrev pub values_from : Netlist → List FormModel → ℕ → List Pattern → List ExprModel
 values_from netlist rules number [] = []
 values_from netlist rules number (p ∷ patterns) =
     value_at netlist rules number (Some p) ++ values_from netlist rules (number + 1) patterns
 
-abbrev pub candidate_values : Netlist → List Rule → List Pattern → List Term
+abbrev pub candidate_values : Netlist → List FormModel → List Pattern → List ExprModel
 candidate_values netlist rules patterns = values_from netlist rules 0 patterns

@@ -2,25 +2,25 @@
 use Rattle.std.specs.Prelude.{ℕ, ◌≡◌, refl, List, [], ◌∷◌, None, true, false}
 use Rattle.rec_bits.specs.declared.operator.Op2.TheVariants.{Add, Sub}
 use Rattle.net_model.specs.declared.hardware.Space.TheVariants.{Memory as InMemory}
-use Rattle.net_model.specs.Terms.{Term, word, reg, const, read, bin, slice, cat, zext, sext, write, write_at}
+use Rattle.net_model.specs.Exprs.{ExprModel, word, reg, const, read, bin, slice, cat, zext, sext, write, write_at}
 use Rattle.net_model.specs.Patterns.{Pattern}
 use Rattle.net_model.specs.Worked.{a16}
-use Rattle.form_model.specs.Rules.{Rule, into_reg, cell}
+use Rattle.form_model.specs.Forms.{FormModel, into_reg, cell}
 use Rattle.self_test.specs.Candidates.{is_candidate}
 use Rattle.self_test.specs.Trees.{tree_from, widths_of}
 use Rattle.form_model.specs.WideNodes.{wide_below}
-use Rattle.self_test.specs.Cells.{test_need, test_temps, test_works}
+use Rattle.self_test.specs.Cells.{test_need, test_temps, test_jobs}
 
-abbrev f : Term
+abbrev f : ExprModel
 f = slice (word 12) 7 0
 
-abbrev acc : Term
+abbrev acc : ExprModel
 acc = reg 1 16
 
-abbrev to_acc : Term → Pattern
+abbrev to_acc : ExprModel → Pattern
 to_acc e = record { storage = 1; move = write e }
 
-abbrev form : ℕ → Rule
+abbrev form : ℕ → FormModel
 form number = record { pattern = number; goal = into_reg 1; addr = None; value = const 0 0; tied = None; fields = 0; clobbers = 0 }
 
 -- an accumulator plus a cell is one, and so are a load, an immediate and a store
@@ -65,7 +65,7 @@ abbrev four : List Pattern
 four = to_acc (read InMemory f 16) ∷ to_acc (bin Add acc (read InMemory f 16)) ∷ record { storage = 0; move = write f }
     ∷ record { storage = 2; move = write_at f acc } ∷ []
 
-abbrev forms : List Rule
+abbrev forms : List FormModel
 forms = form 1 ∷ form 1 ∷ form 2 ∷ form 3 ∷ []
 
 pub no_temps : test_temps a16 forms four ≡ 0
@@ -74,7 +74,7 @@ no_temps = refl
 pub five_cells : test_need a16 forms four ≡ 5
 five_cells = refl
 
-pub two_jobs : test_works a16 forms four
+pub two_jobs : test_jobs a16 forms four
     ≡ record { destination = cell 3; trees = bin Add (read InMemory (const 8 0) 16) (read InMemory (const 8 1) 16) ∷ [] }
     ∷ record { destination = cell 4; trees = read InMemory (const 8 2) 16 ∷ [] } ∷ []
 two_jobs = refl

@@ -3,13 +3,13 @@
 ghost use Rattle.std.specs.Prelude.{◌≡◌, ◌+◌, ◌^◌, ◌<◌, ◌≤◌, [], ◌∷◌, length, IfErr, IfOk};
 ghost use Rattle.rec_bits.specs.Counts.{capped};
 ghost use Rattle.binding.specs.Refusals.{IsBindFault};
-ghost use Rattle.form_model.specs.Rules.{cell, rules_of};
+ghost use Rattle.form_model.specs.Forms.{cell, models_of_forms};
 ghost use Rattle.net_model.specs.Nets.{memory_size};
-ghost use Rattle.src_trees.specs.Jobs.{work_of, works_of};
-ghost use Rattle.sym_expr.specs.Pools.{term_at};
+ghost use Rattle.src_trees.specs.Jobs.{model_of_job, models_of_jobs};
+ghost use Rattle.sym_expr.specs.Pools.{expr_of_id};
 ghost use Rattle.transfer_set.specs.Rows.{row_patterns};
-ghost use Rattle.self_test.specs.Cells.{all_operands as all_operands_of, test_need, test_temps, test_works, works_from};
-ghost use Rattle.self_test.specs.Inner.Values.{AreBelow, AreKnown, IsKnown, greatest_inner, terms_at};
+ghost use Rattle.self_test.specs.Cells.{all_operands as all_operands_of, test_need, test_temps, test_jobs, jobs_from};
+ghost use Rattle.self_test.specs.Inner.Values.{AreBelow, AreKnown, IsKnown, greatest_inner, exprs_at};
 ghost use Rattle.self_test.specs.Told.{IsTold};
 ghost use Rattle.self_test.specs.Trees.{operands as operands_of, tree_from, widths_of};
 
@@ -36,7 +36,7 @@ pub struct TestJobs {
 // How many cells the operands of all values take.
 fn all_operands(pool: &Pool, values: &[ExprId]) -> u64
     requires { AreBelow (length pool.now) values.now }
-    ensures { result ≡ capped (all_operands_of (terms_at pool.now values.now)) }
+    ensures { result ≡ capped (all_operands_of (exprs_at pool.now values.now)) }
 {
     let mut count = 0u64;
     for value in values {
@@ -48,7 +48,7 @@ fn all_operands(pool: &Pool, values: &[ExprId]) -> u64
 // How many temporary cells the trees of all values may need.
 fn all_temps(pool: &Pool, values: &[ExprId], width: u8) -> u64
     requires { AreBelow (length pool.now) values.now }
-    ensures { result ≡ capped (greatest_inner width (terms_at pool.now values.now)) }
+    ensures { result ≡ capped (greatest_inner width (exprs_at pool.now values.now)) }
 {
     let mut most = 0u64;
     for value in values {
@@ -70,9 +70,9 @@ fn job(
     out: u32,
 ) -> Result<Job, NoMemory>
     requires known { IsKnown checked.now.netlist pool.now value }
-    requires room { at + operands_of (term_at pool.now value) < 2 ^ 32 }
-    ensures { IfOk result (λ job. work_of job
-        ≡ record { destination = cell out; trees = tree_from (widths_of checked.now.netlist) at (term_at pool.now value) ∷ [] }) }
+    requires room { at + operands_of (expr_of_id pool.now value) < 2 ^ 32 }
+    ensures { IfOk result (λ job. model_of_job job
+        ≡ record { destination = cell out; trees = tree_from (widths_of checked.now.netlist) at (expr_of_id pool.now value) ∷ [] }) }
 {
     let tree = tree(alloc, checked, pool, at, value)?;
     let trees = vec![in alloc; tree]?;
@@ -92,10 +92,10 @@ fn jobs(
     outputs: u32,
 ) -> Result<Vec<Job>, NoMemory>
     requires known { AreKnown checked.now.netlist pool.now values.now }
-    requires operands { first + all_operands_of (terms_at pool.now values.now) < 2 ^ 32 }
+    requires operands { first + all_operands_of (exprs_at pool.now values.now) < 2 ^ 32 }
     requires outputs { outputs + length values.now < 2 ^ 32 }
-    ensures { IfOk result (λ jobs. works_of jobs.items
-        ≡ works_from (widths_of checked.now.netlist) first outputs (terms_at pool.now values.now)) }
+    ensures { IfOk result (λ jobs. models_of_jobs jobs.items
+        ≡ jobs_from (widths_of checked.now.netlist) first outputs (exprs_at pool.now values.now)) }
 {
     let mut jobs = Vec::new(alloc);
     let mut at = first;
@@ -122,14 +122,14 @@ pub fn candidates(
 ) -> Result<TestJobs, BindFault>
     requires ready { IsTold checked.now.netlist pool.now patterns.now }
     ensures temps { IfOk result (λ tests. tests.temps
-        ≡ test_temps checked.now.netlist (rules_of forms.now.list.items) (row_patterns pool.now patterns.now.rows)) }
+        ≡ test_temps checked.now.netlist (models_of_forms forms.now.list.items) (row_patterns pool.now patterns.now.rows)) }
     ensures flow { IfOk result (λ tests. tests.blocks.flow ≡ []) }
-    ensures jobs { IfOk result (λ tests. works_of tests.blocks.jobs.items
-        ≡ test_works checked.now.netlist (rules_of forms.now.list.items) (row_patterns pool.now patterns.now.rows)) }
-    ensures enough { IfOk result (λ _. test_need checked.now.netlist (rules_of forms.now.list.items)
+    ensures jobs { IfOk result (λ tests. models_of_jobs tests.blocks.jobs.items
+        ≡ test_jobs checked.now.netlist (models_of_forms forms.now.list.items) (row_patterns pool.now patterns.now.rows)) }
+    ensures enough { IfOk result (λ _. test_need checked.now.netlist (models_of_forms forms.now.list.items)
         (row_patterns pool.now patterns.now.rows) ≤ memory_size checked.now.netlist.storages) }
     ensures refused { IfErr result (IsBindFault
-        (capped (test_need checked.now.netlist (rules_of forms.now.list.items) (row_patterns pool.now patterns.now.rows)))
+        (capped (test_need checked.now.netlist (models_of_forms forms.now.list.items) (row_patterns pool.now patterns.now.rows)))
         (memory_size checked.now.netlist.storages)) }
 {
     let values = values(alloc, checked, pool, patterns, &forms.list)?;

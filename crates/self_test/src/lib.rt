@@ -1,7 +1,7 @@
 //! What a self-test computes: of each pattern whose operands code can load and whose result it can
 //! store, the value over cells of its own.
 //!
-//! Promise: `candidates` gives the jobs of all candidates in their order (`jobs`: `test_works`),
+//! Promise: `candidates` gives the jobs of all candidates in their order (`jobs`: `test_jobs`),
 //! with the temporary cells that their trees may need before them (`temps`: `test_temps`), or
 //! `DataFull` exactly where these cells are more than the memory has (`enough`; `refused`:
 //! `IsBindFault`).

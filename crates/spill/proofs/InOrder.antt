@@ -4,12 +4,12 @@ use Rattle.std.proofs.Common.{◌≡◌, ℕ, zero, suc, ◌+◌, ◌-◌, ◌<�
 use Rattle.std.specs.Prelude.{slice_get, remove, insert}
 use Rattle.std.specs.List.{AllZip, range_with_len}
 use Rattle.std.proofs.lemmas.List.FromFn.{length-range_with_len}
-use Rattle.net_model.specs.Terms.{Term}
-use Rattle.form_model.specs.Rules.{Rule, Destination, temporary}
-use Rattle.form_model.specs.Matches.{Site, operand, cut, Found, taken}
-use Rattle.form_model.specs.Plans.{Plan, use_form, Operands, no_operands, operand_then, Cuts, no_cuts, cut_then}
-use Rattle.form_model.specs.Covers.{Stock, Operand, home_destination, operands_of, cuts_of, IsOrderly, AreOrderly, AreCut}
-use Rattle.form_model.specs.Steps.{OperandCells, CutCells, cut_count, operands_count, cuts_count, operand_counts, cut_counts, operand_cells, cut_cells, plan_operand_cells, plan_cut_cells, operand_cells_or_none, rule_or_none, found_or_none, rule_at, found_at}
+use Rattle.net_model.specs.Exprs.{ExprModel}
+use Rattle.form_model.specs.Forms.{FormModel, DestinationModel, temporary}
+use Rattle.form_model.specs.Matches.{LeafModel, operand, cut, MatchModel, taken}
+use Rattle.form_model.specs.CoverModels.{CoverModel, use_form, CoverOperandsModel, no_operands, operand_then, CoverCutsModel, no_cuts, cut_then}
+use Rattle.form_model.specs.Covers.{StockModel, Operand, home_destination, operands_of, cuts_of, IsOrderly, AreOrderly, AreCut}
+use Rattle.form_model.specs.Steps.{OperandCellsModel, CutCellsModel, cut_count, operands_count, cuts_count, operand_counts, cut_counts, operand_cells, cut_cells, cover_operand_cells, cover_cut_cells, operand_cells_or_none, form_or_none, match_or_none, form_at, match_at}
 use Rattle.spill.specs.Filled.{woven_cells, filled_cells, filled_in_operands, filled_by_cuts}
 use Rattle.form_model.proofs.Zips.{zip_put, zip_at, map-remove, get_mapped, length_in, length_out, total, total-insert}
 
@@ -23,31 +23,31 @@ range_joined a (suc m) n =
 
 -- ---- the trees and the counts of a form's sites
 
-operands_same : (sites : List Site) (ks ls : List ℕ) (n : ℕ) → map (λ (c : OperandCells). c.operand) (operand_cells sites ks ls n) ≡ operands_of sites
+operands_same : (sites : List LeafModel) (ks ls : List ℕ) (n : ℕ) → map (λ (c : OperandCellsModel). c.operand) (operand_cells sites ks ls n) ≡ operands_of sites
 operands_same [] ks ls n = refl
 operands_same (operand home tree whole ∷ sites) ks ls n = ap (λ (z : List Operand). record { home = home; tree = tree; whole = whole } ∷ z) (operands_same sites (drop 1 ks) ls _)
 operands_same (cut shape tree ∷ sites) ks ls n = operands_same sites ks (drop 1 ls) _
 
-cuts_same : (sites : List Site) (ks ls : List ℕ) (n : ℕ) → map (λ (c : CutCells). c.tree) (cut_cells sites ks ls n) ≡ cuts_of sites
+cuts_same : (sites : List LeafModel) (ks ls : List ℕ) (n : ℕ) → map (λ (c : CutCellsModel). c.tree) (cut_cells sites ks ls n) ≡ cuts_of sites
 cuts_same [] ks ls n = refl
 cuts_same (operand home tree whole ∷ sites) ks ls n = cuts_same sites (drop 1 ks) ls _
-cuts_same (cut shape tree ∷ sites) ks ls n = ap (λ (z : List Term). tree ∷ z) (cuts_same sites ks (drop 1 ls) _)
+cuts_same (cut shape tree ∷ sites) ks ls n = ap (λ (z : List ExprModel). tree ∷ z) (cuts_same sites ks (drop 1 ls) _)
 
 -- so many cells are inside an operand, and inside a cut
-abbrev HasInside : OperandCells → ℕ → Type 0
+abbrev HasInside : OperandCellsModel → ℕ → Type 0
 HasInside c k = c.past ≡ c.first + k
 
-abbrev CutHasInside : CutCells → ℕ → Type 0
+abbrev CutHasInside : CutCellsModel → ℕ → Type 0
 CutHasInside c k = c.cell ≡ c.first + k
 
-operands_inside : (sites : List Site) (ks ls : List ℕ) (n : ℕ) → length ks ≡ length (operands_of sites) → AllZip HasInside (operand_cells sites ks ls n) ks
+operands_inside : (sites : List LeafModel) (ks ls : List ℕ) (n : ℕ) → length ks ≡ length (operands_of sites) → AllZip HasInside (operand_cells sites ks ls n) ks
 operands_inside [] [] ls n p = tt
 operands_inside [] (k ∷ ks) ls n p = absurd (omega (arith, p))
 operands_inside (operand home tree whole ∷ sites) [] ls n p = absurd (omega (arith, p))
 operands_inside (operand home tree whole ∷ sites) (k ∷ ks) ls n p = (refl, operands_inside sites ks ls (n + k) (omega (arith, p)))
 operands_inside (cut shape tree ∷ sites) ks ls n p = operands_inside sites ks (drop 1 ls) _ p
 
-cuts_inside : (sites : List Site) (ks ls : List ℕ) (n : ℕ) → length ls ≡ length (cuts_of sites) → AllZip CutHasInside (cut_cells sites ks ls n) ls
+cuts_inside : (sites : List LeafModel) (ks ls : List ℕ) (n : ℕ) → length ls ≡ length (cuts_of sites) → AllZip CutHasInside (cut_cells sites ks ls n) ls
 cuts_inside [] ks [] n p = tt
 cuts_inside [] ks (l ∷ ls) n p = absurd (omega (arith, p))
 cuts_inside (operand home tree whole ∷ sites) ks ls n p = cuts_inside sites (drop 1 ks) ls _ p
@@ -56,13 +56,13 @@ cuts_inside (cut shape tree ∷ sites) ks (l ∷ ls) n p = (refl, cuts_inside si
 
 -- ---- cells in their order
 
-abbrev IsFilled : OperandCells → List ℕ → Type 0
+abbrev IsFilled : OperandCellsModel → List ℕ → Type 0
 IsFilled c cells = cells ≡ range_with_len c.first (c.past - c.first)
 
-abbrev CutIsFilled : CutCells → List ℕ → Type 0
+abbrev CutIsFilled : CutCellsModel → List ℕ → Type 0
 CutIsFilled c cells = cells ≡ range_with_len c.first (c.cell - c.first + 1)
 
-woven_in_order : (sites : List Site) (ks ls : List ℕ) (n : ℕ) (xs ys : List (List ℕ)) → length ks ≡ length (operands_of sites) → length ls ≡ length (cuts_of sites)
+woven_in_order : (sites : List LeafModel) (ks ls : List ℕ) (n : ℕ) (xs ys : List (List ℕ)) → length ks ≡ length (operands_of sites) → length ls ≡ length (cuts_of sites)
     → AllZip IsFilled (operand_cells sites ks ls n) xs → AllZip CutIsFilled (cut_cells sites ks ls n) ys
     → woven_cells sites xs ys ≡ range_with_len n (total ks + (total ls + length ls))
 woven_in_order [] [] [] n xs ys p q h g = refl
@@ -86,37 +86,37 @@ woven_in_order (cut shape tree ∷ sites) ks (l ∷ ls) n xs (y ∷ ys) p q h g 
 
 -- ---- counts of a plan
 
-operands_long : (stock : Stock) (ps : Operands) (left : List Operand) → AreOrderly stock left ps → length (operand_counts ps) ≡ length left
+operands_long : (stock : StockModel) (ps : CoverOperandsModel) (left : List Operand) → AreOrderly stock left ps → length (operand_counts ps) ≡ length left
 operands_long stock no_operands left c = sym (ap length c)
 operands_long stock (operand_then i p ps) left c =
     let h = operands_long stock ps (remove left i) c.4 in
     omega (arith, h, length_in (operand_counts ps) i (cut_count p), length_out left i c.0 c.1)
 
-cuts_long : (stock : Stock) (cs : Cuts) (cuts : List Term) → AreCut stock cuts cs → length (cut_counts cs) ≡ length cuts
+cuts_long : (stock : StockModel) (cs : CoverCutsModel) (cuts : List ExprModel) → AreCut stock cuts cs → length (cut_counts cs) ≡ length cuts
 cuts_long stock no_cuts cuts c = sym (ap length c)
 cuts_long stock (cut_then p cs) cuts c = let h = cuts_long stock cs c.1 c.5 in omega (arith, h, ap length c.2)
 
-operands_total : (ps : Operands) → total (operand_counts ps) ≡ operands_count ps
+operands_total : (ps : CoverOperandsModel) → total (operand_counts ps) ≡ operands_count ps
 operands_total no_operands = refl
 operands_total (operand_then i p ps) = let h = operands_total ps in omega (arith, h, total-insert (operand_counts ps) i (cut_count p))
 
-cuts_total : (cs : Cuts) → total (cut_counts cs) + length (cut_counts cs) ≡ cuts_count cs
+cuts_total : (cs : CoverCutsModel) → total (cut_counts cs) + length (cut_counts cs) ≡ cuts_count cs
 cuts_total no_cuts = refl
 cuts_total (cut_then p cs) = let h = cuts_total cs in omega (arith, h)
 
 -- ---- the form at the root
 
-rule_is : (stock : Stock) (k : ℕ) (rule : Rule) → slice_get stock.rules k ≡ Some rule → rule_at stock k ≡ rule
-rule_is stock k rule e = ap rule_or_none e
+form_is : (stock : StockModel) (k : ℕ) (rule : FormModel) → slice_get stock.rules k ≡ Some rule → form_at stock k ≡ rule
+form_is stock k rule e = ap form_or_none e
 
-found_is : (stock : Stock) (k : ℕ) (rule : Rule) (destination : Destination) (tree : Term) (whole : Bool) (found : Found) → slice_get stock.rules k ≡ Some rule → taken stock.temps rule destination tree whole ≡ Some found
-    → found_at stock k destination tree whole ≡ found
-found_is stock k rule destination tree whole found e f =
-    ap found_or_none (ap (λ r. taken stock.temps r destination tree whole) (rule_is stock k rule e) ∙ f)
+match_is : (stock : StockModel) (k : ℕ) (rule : FormModel) (destination : DestinationModel) (tree : ExprModel) (whole : Bool) (found : MatchModel) → slice_get stock.rules k ≡ Some rule → taken stock.temps rule destination tree whole ≡ Some found
+    → match_at stock k destination tree whole ≡ found
+match_is stock k rule destination tree whole found e f =
+    ap match_or_none (ap (λ r. taken stock.temps r destination tree whole) (form_is stock k rule e) ∙ f)
 
-module _ (stock : Stock) where
+module _ (stock : StockModel) where
   mutual
-    pub in_order : (p : Plan) (n : ℕ) (destination : Destination) (tree : Term) (whole : Bool) → IsOrderly stock destination tree whole p
+    pub in_order : (p : CoverModel) (n : ℕ) (destination : DestinationModel) (tree : ExprModel) (whole : Bool) → IsOrderly stock destination tree whole p
         → filled_cells stock p n destination tree whole ≡ range_with_len n (cut_count p)
     in_order (use_form k ps cs) n destination tree whole (rule, listed, found, is, orderly, are_cut) =
         let ks : List ℕ = operand_counts ps in
@@ -124,38 +124,38 @@ module _ (stock : Stock) where
         let p = operands_long stock ps (operands_of found.sites) orderly in
         let q = cuts_long stock cs (cuts_of found.sites) are_cut in
         let counts : total ks + (total ls + length ls) ≡ cut_count (use_form k ps cs) = (let a = operands_total ps in let b = cuts_total cs in omega (arith, a, b)) in
-        subst (λ (f : Found). woven_cells f.sites (filled_in_operands stock ps (plan_operand_cells f.sites ps cs n)) (filled_by_cuts stock cs (plan_cut_cells f.sites ps cs n)) ≡ range_with_len n (cut_count (use_form k ps cs)))
-        (sym (found_is stock k rule destination tree whole found listed is))
+        subst (λ (f : MatchModel). woven_cells f.sites (filled_in_operands stock ps (cover_operand_cells f.sites ps cs n)) (filled_by_cuts stock cs (cover_cut_cells f.sites ps cs n)) ≡ range_with_len n (cut_count (use_form k ps cs)))
+        (sym (match_is stock k rule destination tree whole found listed is))
         (woven_in_order found.sites ks ls n _ _ p q
         (operands_in_order ps (operand_cells found.sites ks ls n) (subst (λ l. AreOrderly stock l ps) (sym (operands_same found.sites ks ls n)) orderly) (operands_inside found.sites ks ls n p))
         (cuts_in_order cs (cut_cells found.sites ks ls n) (subst (λ l. AreCut stock l cs) (sym (cuts_same found.sites ks ls n)) are_cut) (cuts_inside found.sites ks ls n q))
         ∙ ap (range_with_len n) counts)
 
-    operands_in_order : (ps : Operands) (left : List OperandCells) → AreOrderly stock (map (λ (c : OperandCells). c.operand) left) ps → AllZip HasInside left (operand_counts ps)
+    operands_in_order : (ps : CoverOperandsModel) (left : List OperandCellsModel) → AreOrderly stock (map (λ (c : OperandCellsModel). c.operand) left) ps → AllZip HasInside left (operand_counts ps)
         → AllZip IsFilled left (filled_in_operands stock ps left)
     operands_in_order no_operands [] c h = tt
     operands_in_order no_operands (x ∷ left) c h = absurd (cc)
     operands_in_order (operand_then i p ps) left (o, get, orderly, apart, rest) h =
-        let (x, got, same) = get_mapped (λ (c : OperandCells). c.operand) left i o get in
+        let (x, got, same) = get_mapped (λ (c : OperandCellsModel). c.operand) left i o get in
         let (inside, others) = zip_at HasInside left (operand_counts ps) i x (cut_count p) got h in
         let mine : IsOrderly stock (home_destination x.operand.home) x.operand.tree x.operand.whole p =
         subst (λ (y : Operand). IsOrderly stock (home_destination y.home) y.tree y.whole p) (sym same) orderly in
         let is : filled_cells stock p x.first (home_destination x.operand.home) x.operand.tree x.operand.whole ≡ range_with_len x.first (x.past - x.first) =
         in_order p x.first (home_destination x.operand.home) x.operand.tree x.operand.whole mine ∙ ap (range_with_len x.first) (omega (arith, inside)) in
         subst
-        (λ (g : Option OperandCells). AllZip IsFilled left (insert (filled_in_operands stock ps (remove left i)) i
+        (λ (g : Option OperandCellsModel). AllZip IsFilled left (insert (filled_in_operands stock ps (remove left i)) i
         (filled_cells stock p (operand_cells_or_none g).first (home_destination (operand_cells_or_none g).operand.home) (operand_cells_or_none g).operand.tree (operand_cells_or_none g).operand.whole))) (sym got)
         (zip_put IsFilled left (filled_in_operands stock ps (remove left i)) i x _ got is
-        (operands_in_order ps (remove left i) (subst (λ l. AreOrderly stock l ps) (sym (map-remove (λ (c : OperandCells). c.operand) left i)) rest) others))
+        (operands_in_order ps (remove left i) (subst (λ l. AreOrderly stock l ps) (sym (map-remove (λ (c : OperandCellsModel). c.operand) left i)) rest) others))
 
-    cuts_in_order : (cs : Cuts) (cuts : List CutCells) → AreCut stock (map (λ (c : CutCells). c.tree) cuts) cs → AllZip CutHasInside cuts (cut_counts cs)
+    cuts_in_order : (cs : CoverCutsModel) (cuts : List CutCellsModel) → AreCut stock (map (λ (c : CutCellsModel). c.tree) cuts) cs → AllZip CutHasInside cuts (cut_counts cs)
         → AllZip CutIsFilled cuts (filled_by_cuts stock cs cuts)
     cuts_in_order no_cuts [] c h = tt
     cuts_in_order no_cuts (x ∷ cuts) c h = absurd (cc)
     cuts_in_order (cut_then p cs) [] (tree, later, e, orderly, enough, rest) h = absurd (cc)
     cuts_in_order (cut_then p cs) (x ∷ cuts) (tree, later, e, orderly, enough, rest) h =
         let same : tree ≡ x.tree = cc in
-        let same' : later ≡ map (λ (c : CutCells). c.tree) cuts = cc in
+        let same' : later ≡ map (λ (c : CutCellsModel). c.tree) cuts = cc in
         let mine : IsOrderly stock temporary x.tree false p = subst (λ t. IsOrderly stock temporary t false p) same orderly in
         let inside = h.0 in
         let is : filled_cells stock p x.first temporary x.tree false ≡ range_with_len x.first (cut_count p) = in_order p x.first temporary x.tree false mine in (
@@ -171,23 +171,23 @@ range_get a zero i m h = absurd (cc)
 range_get a (suc n) zero m h = (let e : a ≡ m = cc in omega (arith, e), omega arith)
 range_get a (suc n) (suc i) m h = let r = range_get (a + 1) n i m h in let e = r.0 in let l = r.1 in (omega (arith, e), omega (arith, l))
 
-pub filled_many : (stock : Stock) (plan : Plan) (destination : Destination) (tree : Term) (whole : Bool) → IsOrderly stock destination tree whole plan
+pub filled_many : (stock : StockModel) (plan : CoverModel) (destination : DestinationModel) (tree : ExprModel) (whole : Bool) → IsOrderly stock destination tree whole plan
     → length (filled_cells stock plan 0 destination tree whole) ≡ cut_count plan
 filled_many stock plan destination tree whole h = ap length (in_order stock plan 0 destination tree whole h) ∙ length-range_with_len 0 (cut_count plan)
 
-filled_get : (stock : Stock) (plan : Plan) (destination : Destination) (tree : Term) (whole : Bool) (i cell : ℕ) → IsOrderly stock destination tree whole plan
+filled_get : (stock : StockModel) (plan : CoverModel) (destination : DestinationModel) (tree : ExprModel) (whole : Bool) (i cell : ℕ) → IsOrderly stock destination tree whole plan
     → slice_get (filled_cells stock plan 0 destination tree whole) i ≡ Some cell → (cell ≡ i) × (i < cut_count plan)
 filled_get stock plan destination tree whole i cell h e =
     let r = range_get 0 (cut_count plan) i cell (subst (λ l. slice_get l i ≡ Some cell) (in_order stock plan 0 destination tree whole h) e) in
     let same = r.0 in
     (omega (arith, same), r.1)
 
-pub filled_below : (stock : Stock) (plan : Plan) (destination : Destination) (tree : Term) (whole : Bool) (i cell : ℕ) → IsOrderly stock destination tree whole plan
+pub filled_below : (stock : StockModel) (plan : CoverModel) (destination : DestinationModel) (tree : ExprModel) (whole : Bool) (i cell : ℕ) → IsOrderly stock destination tree whole plan
     → slice_get (filled_cells stock plan 0 destination tree whole) i ≡ Some cell → cell < cut_count plan
 filled_below stock plan destination tree whole i cell h e =
     let r = filled_get stock plan destination tree whole i cell h e in let s = r.0 in let l = r.1 in omega (arith, s, l)
 
-pub filled_once : (stock : Stock) (plan : Plan) (destination : Destination) (tree : Term) (whole : Bool) (i j cell : ℕ) → IsOrderly stock destination tree whole plan
+pub filled_once : (stock : StockModel) (plan : CoverModel) (destination : DestinationModel) (tree : ExprModel) (whole : Bool) (i j cell : ℕ) → IsOrderly stock destination tree whole plan
     → slice_get (filled_cells stock plan 0 destination tree whole) i ≡ Some cell → slice_get (filled_cells stock plan 0 destination tree whole) j ≡ Some cell → i ≡ j
 filled_once stock plan destination tree whole i j cell h e f =
     sym (filled_get stock plan destination tree whole i cell h e).0 ∙ (filled_get stock plan destination tree whole j cell h f).0

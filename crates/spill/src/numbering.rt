@@ -2,10 +2,10 @@
 
 ghost use Rattle.std.specs.Prelude.{◌≡◌, ◌++◌, ℕ, Bool, IfOk, OnOk, length};
 ghost use Rattle.std.specs.List.{range_with_len};
-ghost use Rattle.net_model.specs.Terms.{Term};
-ghost use Rattle.form_model.specs.Rules.{Destination};
-ghost use Rattle.form_model.specs.Covers.{IsOrderly, Stock};
-ghost use Rattle.form_model.specs.Plans.{cuts_plan, operands_plan, plan_of};
+ghost use Rattle.net_model.specs.Exprs.{ExprModel};
+ghost use Rattle.form_model.specs.Forms.{DestinationModel};
+ghost use Rattle.form_model.specs.Covers.{IsOrderly, StockModel};
+ghost use Rattle.form_model.specs.CoverModels.{model_of_cover_cuts, model_of_cover_operands, model_of_cover};
 ghost use Rattle.form_model.specs.Steps.{cut_count, cuts_count, operands_count};
 ghost use Rattle.spill.specs.Filled.{filled_cells};
 
@@ -18,7 +18,7 @@ use std::alloc::Global;
 #[cycle(adding)]
 fn add_in_operands(operands: &CoverOperands, list: &mut Vec<usize>) -> Result<(), NoMemory>
     ensures { OnOk result (list.new.items ≡ list.old.items
-        ++ range_with_len (length list.old.items) (operands_count (operands_plan operands.now))) }
+        ++ range_with_len (length list.old.items) (operands_count (model_of_cover_operands operands.now))) }
 {
     match operands {
         CoverOperands::Empty => Ok(()),
@@ -33,7 +33,7 @@ fn add_in_operands(operands: &CoverOperands, list: &mut Vec<usize>) -> Result<()
 #[cycle(adding)]
 fn add_in_cuts(cuts: &CoverCuts, list: &mut Vec<usize>) -> Result<(), NoMemory>
     ensures { OnOk result (list.new.items ≡ list.old.items
-        ++ range_with_len (length list.old.items) (cuts_count (cuts_plan cuts.now))) }
+        ++ range_with_len (length list.old.items) (cuts_count (model_of_cover_cuts cuts.now))) }
 {
     match cuts {
         CoverCuts::Empty => Ok(()),
@@ -50,7 +50,7 @@ fn add_in_cuts(cuts: &CoverCuts, list: &mut Vec<usize>) -> Result<(), NoMemory>
 #[cycle(adding)]
 fn add_in(cover: &Cover, list: &mut Vec<usize>) -> Result<(), NoMemory>
     ensures { OnOk result (list.new.items ≡ list.old.items
-        ++ range_with_len (length list.old.items) (cut_count (plan_of cover.now))) }
+        ++ range_with_len (length list.old.items) (cut_count (model_of_cover cover.now))) }
 {
     add_in_operands(&cover.operands, list)?;
     add_in_cuts(&cover.cuts, list)
@@ -61,10 +61,10 @@ fn add_in(cover: &Cover, list: &mut Vec<usize>) -> Result<(), NoMemory>
 /// whatever the order of the operands that they stand in; the steps of an orderly cover fill these
 /// very cells. Want of memory is the only refusal.
 pub fn cells(alloc: Global, cover: &Cover) -> Result<Cells, NoMemory>
-    ensures numbered { IfOk result (λ cells. cells.list.items ≡ range_with_len 0 (cut_count (plan_of cover.now))) }
-    ensures filled { IfOk result (λ cells. (stock : Stock) (destination : Destination) (tree : Term) (whole : Bool) →
-        IsOrderly stock destination tree whole (plan_of cover.now) →
-        filled_cells stock (plan_of cover.now) 0 destination tree whole ≡ cells.list.items) }
+    ensures numbered { IfOk result (λ cells. cells.list.items ≡ range_with_len 0 (cut_count (model_of_cover cover.now))) }
+    ensures filled { IfOk result (λ cells. (stock : StockModel) (destination : DestinationModel) (tree : ExprModel) (whole : Bool) →
+        IsOrderly stock destination tree whole (model_of_cover cover.now) →
+        filled_cells stock (model_of_cover cover.now) 0 destination tree whole ≡ cells.list.items) }
 {
     let mut list = Vec::new(alloc);
     add_in(cover, &mut list)?;

@@ -4,7 +4,7 @@ use Rattle.std.specs.Map.{lookup}
 use Rattle.std.proofs.lemmas.List.{take_more, drop_all}
 use Rattle.std.proofs.lemmas.Slice.Eq.{bytes_eq-Decides}
 use Rattle.src_model.proofs.LookupLemmas.{later, later_none, later_there, lookup_append}
-use Rattle.rec_bits.specs.Faults.{sooner, least, broken}
+use Rattle.rec_bits.specs.Faults.{lesser_offset, least, offsets_if}
 use Rattle.rec_bits.proofs.Faults.{drop_item, least_append, sooner_assoc, sooner_none}
 use Rattle.src_model.specs.declared.program.Var.{Var as Declared}
 use Rattle.src_model.specs.Names.{declared, repeats}
@@ -45,18 +45,18 @@ finds_old entries vars v there finds name = finds name ∙ by (same_name name v.
 
 -- what is repeated so far, one declaration further
 pub repeats_next : (vars : List Declared) (i : ℕ) (v : Declared) (found all : Option ℕ) → i < length vars → v ≡ get_or vars i v
-    → sooner found (least (repeats (take i vars) (drop i vars))) ≡ all
-    → sooner (sooner found (least (broken (is_some (declared (take i vars) v.name)) v.at))) (least (repeats (take (i + 1) vars) (drop (i + 1) vars))) ≡ all
+    → lesser_offset found (least (repeats (take i vars) (drop i vars))) ≡ all
+    → lesser_offset (lesser_offset found (least (offsets_if (is_some (declared (take i vars) v.name)) v.at))) (least (repeats (take (i + 1) vars) (drop (i + 1) vars))) ≡ all
 repeats_next vars i v found all h e k =
     let front : take (i + 1) vars ≡ take i vars ++ v ∷ [] = take_more vars i v h ∙ ap (λ x. take i vars ++ x ∷ []) (sym e) in
-    sooner_assoc found (least (broken (is_some (declared (take i vars) v.name)) v.at)) (least (repeats (take (i + 1) vars) (drop (i + 1) vars)))
-    ∙ ap (λ l. sooner found (sooner (least (broken (is_some (declared (take i vars) v.name)) v.at)) (least (repeats l (drop (i + 1) vars))))) front
-    ∙ ap (sooner found) (sym (least_append (broken (is_some (declared (take i vars) v.name)) v.at) (repeats (take i vars ++ v ∷ []) (drop (i + 1) vars))))
-    ∙ ap (λ l. sooner found (least (repeats (take i vars) l))) (sym (drop_item vars i v h e)) ∙ k
+    sooner_assoc found (least (offsets_if (is_some (declared (take i vars) v.name)) v.at)) (least (repeats (take (i + 1) vars) (drop (i + 1) vars)))
+    ∙ ap (λ l. lesser_offset found (lesser_offset (least (offsets_if (is_some (declared (take i vars) v.name)) v.at)) (least (repeats l (drop (i + 1) vars))))) front
+    ∙ ap (lesser_offset found) (sym (least_append (offsets_if (is_some (declared (take i vars) v.name)) v.at) (repeats (take i vars ++ v ∷ []) (drop (i + 1) vars))))
+    ∙ ap (λ l. lesser_offset found (least (repeats (take i vars) l))) (sym (drop_item vars i v h e)) ∙ k
 
 pub repeats_end : (vars : List Declared) (i : ℕ) (found all : Option ℕ) → length vars ≤ i
-    → sooner found (least (repeats (take i vars) (drop i vars))) ≡ all → found ≡ all
-repeats_end vars i found all h k = sym (sooner_none found) ∙ ap (λ l. sooner found (least (repeats (take i vars) l))) (sym (drop_all i vars h)) ∙ k
+    → lesser_offset found (least (repeats (take i vars) (drop i vars))) ≡ all → found ≡ all
+repeats_end vars i found all h k = sym (sooner_none found) ∙ ap (λ l. lesser_offset found (least (repeats (take i vars) l))) (sym (drop_all i vars h)) ∙ k
 
 module _ (entries : List (Bor (List ℕ) × Bor Declared)) (vars : List Declared) (i : ℕ) (v : Declared) (h : i < length vars) (e : v ≡ get_or vars i v) where
   front_next : take (i + 1) vars ≡ take i vars ++ v ∷ []

@@ -1,8 +1,8 @@
 -- How large an expression is: what recursions over expressions go down by.
 use Rattle.std.proofs.Common.{ℕ, ◌+◌}
-use Rattle.src_model.specs.Written.{Shape, num, plain, element, un, bin, zext, sext, low}
+use Rattle.src_model.specs.Written.{SrcNodeModel, num, plain, element, un, bin, zext, sext, low}
 
-abbrev pub weight : Shape → ℕ
+abbrev pub weight : SrcNodeModel → ℕ
 weight (num n) = 1
 weight (plain name at) = 1
 weight (element name at to x) = 1 + weight x

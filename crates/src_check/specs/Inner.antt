@@ -2,4 +2,4 @@
 -- proofs speak of.
 pub mod Tables
 pub mod Rounds
-pub mod Questions
+pub mod LoopRules

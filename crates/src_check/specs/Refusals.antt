@@ -6,17 +6,17 @@ use Rattle.src_model.specs.declared.fault.SrcFault.{SrcFault}
 use Rattle.src_model.specs.declared.fault.SrcFault.TheVariants.{Unknown, Width, Index, Counter}
 use Rattle.src_model.specs.declared.typed.SrcFault2.{SrcFault2}
 use Rattle.src_model.specs.declared.typed.SrcFault2.TheVariants.{Fault, Memory}
-use Rattle.src_model.specs.Written.{Listing, act_of}
+use Rattle.src_model.specs.Written.{ProgramModel, model_of_stmt}
 use Rattle.src_model.specs.Rules.{unknown_names, bad_widths, bad_indexes, bad_counters, limits}
 use Rattle.rec_bits.specs.Faults.{fault_at}
 use Rattle.rec_bits.specs.Faults.{or_else}
 use Rattle.rec_bits.specs.Faults.{least}
 
-abbrev pub listing : List Declared → List Stmt → Listing
-listing vars body = record { vars = vars; body = map act_of body }
+abbrev pub listing : List Declared → List Stmt → ProgramModel
+listing vars body = record { vars = vars; body = map model_of_stmt body }
 
 -- the first fault behind S1
-abbrev pub behind_duplicates : ℕ → Listing → Option SrcFault
+abbrev pub behind_duplicates : ℕ → ProgramModel → Option SrcFault
 behind_duplicates word l =
     or_else (fault_at Unknown (least (unknown_names l)))
     (or_else (fault_at Width (least (bad_widths word l)))

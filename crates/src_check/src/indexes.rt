@@ -4,13 +4,13 @@ ghost use Rattle.std.specs.Prelude.{◌≡◌, IfSome};
 ghost use Rattle.rec_bits.specs.Faults.{least};
 ghost use Rattle.rec_bits.specs.Ranges.{HasEnds};
 ghost use Rattle.src_model.specs.Names.{declared};
-ghost use Rattle.src_model.specs.Written.{shape_of, spot_shape};
+ghost use Rattle.src_model.specs.Written.{model_of_src_node, spot_node};
 ghost use Rattle.src_model.specs.Indexes.{between, times, product_range, masked_range, range_by, index_range, counted_range, length_of, is_within, loose};
 ghost use Rattle.src_check.specs.Inner.Rounds.{rounds_of};
 
-use crate::names::Table;
+use crate::names::SymbolTable;
 use crate::rounds::Rounds;
-use rec_bits::{Name, Op2, Range, broken, range_add, range_mul, range_sub, sooner};
+use rec_bits::{Name, Op2, Range, lesser_offset, offset_if, range_add, range_mul, range_sub};
 use src_model::{Spot, SrcExpr, SrcNode, number_of};
 
 fn between(from: u64, to: u64) -> Range
@@ -116,7 +116,7 @@ fn range_by(
 
 /// The range of an index over whole numbers, where it is known.
 pub fn index_range(rounds: &Rounds<'_>, e: &SrcExpr) -> Option<Range>
-    ensures value { result ≡ index_range (rounds_of rounds.now) (shape_of e.now.node) }
+    ensures value { result ≡ index_range (rounds_of rounds.now) (model_of_src_node e.now.node) }
     ensures ends { IfSome result HasEnds }
 {
     match &e.node {
@@ -134,7 +134,7 @@ pub fn index_range(rounds: &Rounds<'_>, e: &SrcExpr) -> Option<Range>
     }
 }
 
-fn length_of(table: &Table<'_>, name: &Name) -> u64
+fn length_of(table: &SymbolTable<'_>, name: &Name) -> u64
     ensures { result ≡ length_of (declared table.now name.now) }
 {
     match table.find(name) {
@@ -155,8 +155,8 @@ fn is_within(len: u64, range: Option<Range>) -> bool
 /// The least offset in an expression of an index that may lie outside its array.
 #[cycle(loose)]
 #[tactic(auto, using(rec_bits::proofs::Faults::least_rules))]
-pub fn loose(table: &Table<'_>, rounds: &Rounds<'_>, e: &SrcExpr) -> Option<u64>
-    ensures { result ≡ least (loose table.now (rounds_of rounds.now) (shape_of e.now.node)) }
+pub fn loose(table: &SymbolTable<'_>, rounds: &Rounds<'_>, e: &SrcExpr) -> Option<u64>
+    ensures { result ≡ least (loose table.now (rounds_of rounds.now) (model_of_src_node e.now.node)) }
 {
     match &e.node {
         SrcNode::Num(_) => None,
@@ -164,22 +164,22 @@ pub fn loose(table: &Table<'_>, rounds: &Rounds<'_>, e: &SrcExpr) -> Option<u64>
         SrcNode::Un(_, x) | SrcNode::Zext(x, _) | SrcNode::Sext(x, _) | SrcNode::Low(x, _) => {
             loose(table, rounds, x)
         }
-        SrcNode::Bin(_, x, y) => sooner(loose(table, rounds, x), loose(table, rounds, y)),
+        SrcNode::Bin(_, x, y) => lesser_offset(loose(table, rounds, x), loose(table, rounds, y)),
     }
 }
 
 /// The same of a place.
 #[cycle(loose)]
 #[tactic(auto, using(rec_bits::proofs::Faults::least_rules))]
-pub fn loose_spot(table: &Table<'_>, rounds: &Rounds<'_>, spot: &Spot) -> Option<u64>
-    ensures { result ≡ least (loose table.now (rounds_of rounds.now) (spot_shape spot.now)) }
+pub fn loose_spot(table: &SymbolTable<'_>, rounds: &Rounds<'_>, spot: &Spot) -> Option<u64>
+    ensures { result ≡ least (loose table.now (rounds_of rounds.now) (spot_node spot.now)) }
 {
     match &spot.index {
         None => None,
         Some(index) => {
             let len = length_of(table, &spot.name);
-            let found = broken(!is_within(len, index_range(rounds, index)), index.at);
-            sooner(found, loose(table, rounds, index))
+            let found = offset_if(!is_within(len, index_range(rounds, index)), index.at);
+            lesser_offset(found, loose(table, rounds, index))
         }
     }
 }

@@ -16,7 +16,7 @@
 //!   it.
 //! - `indexes`: S4; the range of an index over whole numbers.
 //! - `rounds`: the loops round a statement.
-//! - `walk`: S2 to S5 statement by statement: a `Question` is the rule that is asked.
+//! - `walk`: S2 to S5 statement by statement: a `LoopRule` is the rule that is asked.
 //! - `whole`: the rules in their order, with S6 and what is asked of declarations, and `check`.
 //! - `specs/`: `Refusals`, cited by public contracts, and the rules are `src_model/specs`.
 //!   `specs/Inner/`: `Questions`, `Rounds` and `Tables`, which go with the walk.

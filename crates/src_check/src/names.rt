@@ -3,10 +3,10 @@
 ghost use Rattle.std.specs.Prelude.{◌≡◌, ℕ, List, [], IfOk, option_copied};
 ghost use Rattle.rec_bits.specs.Faults.{least};
 ghost use Rattle.src_model.specs.Names.{declared, is_plain, is_array, repeats, unknown};
-ghost use Rattle.src_model.specs.Written.{shape_of, spot_shape};
+ghost use Rattle.src_model.specs.Written.{model_of_src_node, spot_node};
 
 use indexmap::IndexMap;
-use rec_bits::{Name, NoMemory, broken, sooner};
+use rec_bits::{Name, NoMemory, lesser_offset, offset_if};
 use src_model::{Spot, SrcExpr, SrcNode, Var};
 use std::alloc::Global;
 use std::marker::Model;
@@ -14,12 +14,12 @@ use std::marker::Model;
 /// The declarations of a program, with a table of their names. Contracts see the list of the
 /// declarations.
 #[derive(Drop)]
-pub struct Table<'a> {
+pub struct SymbolTable<'a> {
     vars: &'a [Var],
     first: IndexMap<&'a [u8], &'a Var>,
 }
 
-impl<'a> Model for Table<'a> {
+impl<'a> Model for SymbolTable<'a> {
     ghost use Rattle.std.specs.Prelude.{List};
     ghost use Rattle.src_model.specs.declared.program.Var.{Var as Declared};
     ghost use Rattle.src_check.specs.Inner.Tables.{Finds};
@@ -31,7 +31,7 @@ impl<'a> Model for Table<'a> {
     ghost invariant = { λ table. Finds table.first.entries table.vars.now };
 }
 
-impl<'a> Table<'a> {
+impl<'a> SymbolTable<'a> {
     /// The first declaration of a name.
     pub fn find(&self, name: &Name) -> Option<&'a Var>
         ensures { option_copied result ≡ declared self.now name.now }
@@ -41,7 +41,10 @@ impl<'a> Table<'a> {
 }
 
 /// The table of some declarations, and the least offset of a name that an earlier one has.
-pub fn declare<'a>(alloc: Global, vars: &'a [Var]) -> Result<(Table<'a>, Option<u64>), NoMemory>
+pub fn declare<'a>(
+    alloc: Global,
+    vars: &'a [Var],
+) -> Result<(SymbolTable<'a>, Option<u64>), NoMemory>
     ensures table { IfOk result (λ made. made.0 ≡ vars.now) }
     ensures repeated { IfOk result (λ made. made.1 ≡ least (repeats [] vars.now)) }
 {
@@ -49,16 +52,16 @@ pub fn declare<'a>(alloc: Global, vars: &'a [Var]) -> Result<(Table<'a>, Option<
     let mut repeated = None;
     for var in vars {
         if first.get(var.name.as_slice()).is_some() {
-            repeated = sooner(repeated, Some(var.at));
+            repeated = lesser_offset(repeated, Some(var.at));
         } else {
             first.insert(var.name.as_slice(), var)?;
         }
     }
-    Ok((Table { vars, first }, repeated))
+    Ok((SymbolTable { vars, first }, repeated))
 }
 
 /// Whether a name is that of a plain variable.
-pub fn is_plain(table: &Table<'_>, name: &Name) -> bool
+pub fn is_plain(table: &SymbolTable<'_>, name: &Name) -> bool
     ensures { result ≡ is_plain (declared table.now name.now) }
 {
     match table.find(name) {
@@ -67,7 +70,7 @@ pub fn is_plain(table: &Table<'_>, name: &Name) -> bool
     }
 }
 
-fn is_array(table: &Table<'_>, name: &Name) -> bool
+fn is_array(table: &SymbolTable<'_>, name: &Name) -> bool
     ensures { result ≡ is_array (declared table.now name.now) }
 {
     match table.find(name) {
@@ -79,8 +82,8 @@ fn is_array(table: &Table<'_>, name: &Name) -> bool
 /// The least offset in an expression of a name that doesn't stand for what is asked of it.
 #[cycle(unknown)]
 #[tactic(auto, using(rec_bits::proofs::Faults::least_rules))]
-pub fn unknown(table: &Table<'_>, e: &SrcExpr) -> Option<u64>
-    ensures { result ≡ least (unknown table.now (shape_of e.now.node)) }
+pub fn unknown(table: &SymbolTable<'_>, e: &SrcExpr) -> Option<u64>
+    ensures { result ≡ least (unknown table.now (model_of_src_node e.now.node)) }
 {
     match &e.node {
         SrcNode::Num(_) => None,
@@ -88,21 +91,21 @@ pub fn unknown(table: &Table<'_>, e: &SrcExpr) -> Option<u64>
         SrcNode::Un(_, x) | SrcNode::Zext(x, _) | SrcNode::Sext(x, _) | SrcNode::Low(x, _) => {
             unknown(table, x)
         }
-        SrcNode::Bin(_, x, y) => sooner(unknown(table, x), unknown(table, y)),
+        SrcNode::Bin(_, x, y) => lesser_offset(unknown(table, x), unknown(table, y)),
     }
 }
 
 /// The same of a place.
 #[cycle(unknown)]
 #[tactic(auto, using(rec_bits::proofs::Faults::least_rules))]
-pub fn unknown_spot(table: &Table<'_>, spot: &Spot) -> Option<u64>
-    ensures { result ≡ least (unknown table.now (spot_shape spot.now)) }
+pub fn unknown_spot(table: &SymbolTable<'_>, spot: &Spot) -> Option<u64>
+    ensures { result ≡ least (unknown table.now (spot_node spot.now)) }
 {
     match &spot.index {
-        None => broken(!is_plain(table, &spot.name), spot.at),
+        None => offset_if(!is_plain(table, &spot.name), spot.at),
         Some(index) => {
-            let found = broken(!is_array(table, &spot.name), spot.at);
-            sooner(found, unknown(table, index))
+            let found = offset_if(!is_array(table, &spot.name), spot.at);
+            lesser_offset(found, unknown(table, index))
         }
     }
 }

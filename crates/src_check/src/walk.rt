@@ -4,28 +4,28 @@ ghost use Rattle.std.specs.Prelude.{◌≡◌, ◌+◌, ◌^◌, ◌||◌, nat_l
 ghost use Rattle.rec_bits.specs.Faults.{least};
 ghost use Rattle.rec_bits.specs.Faults.{same_name};
 ghost use Rattle.src_model.specs.Widths.{misfit};
-ghost use Rattle.src_model.specs.Written.{place_of, phrase_of, test_of, act_of, acts_of};
+ghost use Rattle.src_model.specs.Written.{model_of_spot, model_of_src_expr, model_of_src_test, model_of_stmt, stmts_of};
 ghost use Rattle.src_model.specs.Loops.{breaks, breaks_in};
 ghost use Rattle.src_check.specs.Inner.Rounds.{rounds_of};
-ghost use Rattle.src_check.specs.Inner.Questions.{rule_of, round};
+ghost use Rattle.src_check.specs.Inner.LoopRules.{model_of_loop_rule, round};
 
 use crate::indexes::{loose, loose_spot};
-use crate::names::{Table, is_plain, unknown, unknown_spot};
+use crate::names::{SymbolTable, is_plain, unknown, unknown_spot};
 use crate::rounds::Rounds;
 use crate::widths::{fits, sides, spot_wide, whole, wide};
-use rec_bits::{Name, broken, sooner};
+use rec_bits::{Name, lesser_offset, offset_if};
 use src_model::{Spot, SrcExpr, SrcTest, Stmt};
 
 /// A rule, with what it needs: the declarations, the number of bits of a word, or the name of a
 /// variable.
 #[derive(Drop)]
-pub enum Question<'a> {
+pub enum LoopRule<'a> {
     /// S2: which names don't stand for what is asked of them.
-    Names(&'a Table<'a>),
+    Names(&'a SymbolTable<'a>),
     /// S3, but for declarations.
     Widths(u64),
     /// S4.
-    Indexes(&'a Table<'a>),
+    Indexes(&'a SymbolTable<'a>),
     /// S5.
     Counters(u64),
     /// Where a variable is assigned, or is the counter of a loop.
@@ -56,90 +56,93 @@ fn out_of_order(word: u64, from: u64, to: u64) -> bool
 
 #[tactic(auto, using(rec_bits::proofs::Faults::least_rules))]
 fn assigned(
-    question: &Question<'_>,
+    question: &LoopRule<'_>,
     rounds: &Rounds<'_>,
     place: &Spot,
     value: &SrcExpr,
 ) -> Option<u64>
-    ensures { result ≡ least ((rule_of question.now).assigned (rounds_of rounds.now)
-        (place_of place.now) (phrase_of value.now)) }
+    ensures { result ≡ least ((model_of_loop_rule question.now).assigned (rounds_of rounds.now)
+        (model_of_spot place.now) (model_of_src_expr value.now)) }
 {
     match question {
-        Question::Names(table) => sooner(unknown_spot(table, place), unknown(table, value)),
-        Question::Widths(word) => {
+        LoopRule::Names(table) => lesser_offset(unknown_spot(table, place), unknown(table, value)),
+        LoopRule::Widths(word) => {
             let value = whole(*word, value.at, wide(*word, *word, value));
-            sooner(misfit(spot_wide(*word, place)), misfit(value))
+            lesser_offset(misfit(spot_wide(*word, place)), misfit(value))
         }
-        Question::Indexes(table) => {
-            sooner(
+        LoopRule::Indexes(table) => {
+            lesser_offset(
                 loose_spot(table, rounds, place),
                 loose(table, rounds, value),
             )
         }
-        Question::Counters(_) => None,
-        Question::Changes(name) => broken(same_name(&place.name, name), place.at),
+        LoopRule::Counters(_) => None,
+        LoopRule::Changes(name) => offset_if(same_name(&place.name, name), place.at),
     }
 }
 
 #[tactic(auto, using(rec_bits::proofs::Faults::least_rules))]
-fn tested(question: &Question<'_>, rounds: &Rounds<'_>, test: &SrcTest) -> Option<u64>
-    ensures { result ≡ least ((rule_of question.now).tested (rounds_of rounds.now) (test_of test.now)) }
+fn tested(question: &LoopRule<'_>, rounds: &Rounds<'_>, test: &SrcTest) -> Option<u64>
+    ensures { result ≡ least ((model_of_loop_rule question.now).tested (rounds_of rounds.now) (model_of_src_test test.now)) }
 {
     match question {
-        Question::Names(table) => sooner(unknown(table, &test.left), unknown(table, &test.right)),
-        Question::Widths(word) => misfit(sides(*word, &test.left, &test.right)),
-        Question::Indexes(table) => {
+        LoopRule::Names(table) => lesser_offset(
+            unknown(table, &test.left),
+            unknown(table, &test.right),
+        ),
+        LoopRule::Widths(word) => misfit(sides(*word, &test.left, &test.right)),
+        LoopRule::Indexes(table) => {
             let left = loose(table, rounds, &test.left);
-            sooner(left, loose(table, rounds, &test.right))
+            lesser_offset(left, loose(table, rounds, &test.right))
         }
-        Question::Counters(_) | Question::Changes(_) => None,
+        LoopRule::Counters(_) | LoopRule::Changes(_) => None,
     }
 }
 
 // What the rule says of a `for` by itself.
 #[cycle(walk)]
 fn counted(
-    question: &Question<'_>,
+    question: &LoopRule<'_>,
     counter: &Name,
     at: u64,
     from: u64,
     to: u64,
     body: &[Stmt],
 ) -> Option<u64>
-    ensures { result ≡ least ((rule_of question.now).counted (round counter.now from to) at
-        (acts_of (map act_of body.now))) }
+    ensures { result ≡ least ((model_of_loop_rule question.now).counted (round counter.now from to) at
+        (stmts_of (map model_of_stmt body.now))) }
 {
     match question {
-        Question::Names(table) => broken(!is_plain(table, counter), at),
-        Question::Counters(word) => {
-            let changes = Question::Changes(counter);
+        LoopRule::Names(table) => offset_if(!is_plain(table, counter), at),
+        LoopRule::Counters(word) => {
+            let changes = LoopRule::Changes(counter);
             let changed = of_block(&changes, &Rounds::Outside, body);
-            broken(changed.is_some() || out_of_order(*word, from, to), at)
+            offset_if(changed.is_some() || out_of_order(*word, from, to), at)
         }
-        Question::Changes(name) => broken(same_name(counter, name), at),
-        Question::Widths(_) | Question::Indexes(_) => None,
+        LoopRule::Changes(name) => offset_if(same_name(counter, name), at),
+        LoopRule::Widths(_) | LoopRule::Indexes(_) => None,
     }
 }
 
 #[cycle(walk)]
 #[tactic(auto, using(rec_bits::proofs::Faults::least_rules))]
-fn of_statement(question: &Question<'_>, rounds: &Rounds<'_>, statement: &Stmt) -> Option<u64>
-    ensures { result ≡ least (breaks (rule_of question.now) (rounds_of rounds.now) (act_of statement.now)) }
+fn of_statement(question: &LoopRule<'_>, rounds: &Rounds<'_>, statement: &Stmt) -> Option<u64>
+    ensures { result ≡ least (breaks (model_of_loop_rule question.now) (rounds_of rounds.now) (model_of_stmt statement.now)) }
 {
     match statement {
         Stmt::Assign { place, value } => assigned(question, rounds, place, value),
         Stmt::If { test, yes, no } => {
-            let found = sooner(
+            let found = lesser_offset(
                 tested(question, rounds, test),
                 of_block(question, rounds, yes),
             );
             match no {
                 None => found,
-                Some(other) => sooner(found, of_block(question, rounds, other)),
+                Some(other) => lesser_offset(found, of_block(question, rounds, other)),
             }
         }
         Stmt::While { test, body } => {
-            sooner(
+            lesser_offset(
                 tested(question, rounds, test),
                 of_block(question, rounds, body),
             )
@@ -158,7 +161,7 @@ fn of_statement(question: &Question<'_>, rounds: &Rounds<'_>, statement: &Stmt) 
                 to: *to,
                 outer: &*rounds,
             };
-            sooner(found, of_block(question, &within, body))
+            lesser_offset(found, of_block(question, &within, body))
         }
     }
 }
@@ -166,13 +169,13 @@ fn of_statement(question: &Question<'_>, rounds: &Rounds<'_>, statement: &Stmt) 
 /// The least offset at which a rule is broken in a block.
 #[cycle(walk)]
 #[tactic(auto, using(rec_bits::proofs::Faults::least_rules))]
-pub fn of_block(question: &Question<'_>, rounds: &Rounds<'_>, block: &[Stmt]) -> Option<u64>
+pub fn of_block(question: &LoopRule<'_>, rounds: &Rounds<'_>, block: &[Stmt]) -> Option<u64>
     ensures { result ≡ least
-        (breaks_in (rule_of question.now) (rounds_of rounds.now) (acts_of (map act_of block.now))) }
+        (breaks_in (model_of_loop_rule question.now) (rounds_of rounds.now) (stmts_of (map model_of_stmt block.now))) }
 {
     let mut found = None;
     for statement in block {
-        found = sooner(found, of_statement(question, rounds, statement));
+        found = lesser_offset(found, of_statement(question, rounds, statement));
     }
     found
 }

@@ -2,7 +2,7 @@
 
 ghost use Rattle.std.specs.Prelude.{◌≡◌, ◌≤◌, [], None, IfOk, IfErr, map};
 ghost use Rattle.rec_bits.specs.Faults.{least, gather};
-ghost use Rattle.src_model.specs.Written.{act_of, acts_of, listing_of};
+ghost use Rattle.src_model.specs.Written.{model_of_stmt, stmts_of, model_of_program};
 ghost use Rattle.src_model.specs.Widths.{empty_array};
 ghost use Rattle.src_model.specs.Loops.{breaks_in};
 ghost use Rattle.src_model.specs.Sizes.{longest};
@@ -10,13 +10,13 @@ ghost use Rattle.src_model.specs.Rules.{above, limits, bad_widths, first_fault};
 ghost use Rattle.rec_bits.specs.Faults.{fault_at};
 ghost use Rattle.rec_bits.specs.Faults.{or_else};
 ghost use Rattle.src_model.specs.declared.fault.SrcFault.TheVariants.{Duplicate};
-ghost use Rattle.src_check.specs.Inner.Questions.{rule_of};
+ghost use Rattle.src_check.specs.Inner.LoopRules.{model_of_loop_rule};
 ghost use Rattle.src_check.specs.Refusals.{listing, behind_duplicates, IsCheckFault};
 
-use crate::names::{Table, declare};
+use crate::names::{SymbolTable, declare};
 use crate::rounds::Rounds;
-use crate::walk::{Question, of_block};
-use rec_bits::{NoMemory, broken, sooner};
+use crate::walk::{LoopRule, of_block};
+use rec_bits::{NoMemory, lesser_offset, offset_if};
 use src_model::{Program, SrcFault, SrcFault2, SrcKind, Stmt, Typed, Var, block_sizes};
 use std::alloc::Global;
 
@@ -27,8 +27,8 @@ const STATEMENTS: u64 = 65536;
 
 const NODES: u64 = 255;
 
-fn broken_in(question: &Question<'_>, body: &[Stmt]) -> Option<u64>
-    ensures { result ≡ least (breaks_in (rule_of question.now) [] (acts_of (map act_of body.now))) }
+fn broken_in(question: &LoopRule<'_>, body: &[Stmt]) -> Option<u64>
+    ensures { result ≡ least (breaks_in (model_of_loop_rule question.now) [] (stmts_of (map model_of_stmt body.now))) }
 {
     of_block(question, &Rounds::Outside, body)
 }
@@ -36,7 +36,7 @@ fn broken_in(question: &Question<'_>, body: &[Stmt]) -> Option<u64>
 fn empty_array(var: &Var) -> Option<u64>
     ensures { result ≡ least (empty_array var.now) }
 {
-    broken(var.len == Some(0), var.at)
+    offset_if(var.len == Some(0), var.at)
 }
 
 // The least offset of an array without cells.
@@ -45,7 +45,7 @@ fn empty_arrays(vars: &[Var]) -> Option<u64>
 {
     let mut found = None;
     for var in vars {
-        found = sooner(found, empty_array(var));
+        found = lesser_offset(found, empty_array(var));
     }
     found
 }
@@ -54,7 +54,7 @@ fn empty_arrays(vars: &[Var]) -> Option<u64>
 fn bad_width(vars: &[Var], word: u64, body: &[Stmt]) -> Option<u64>
     ensures { result ≡ least (bad_widths word (listing vars.now body.now)) }
 {
-    sooner(empty_arrays(vars), broken_in(&Question::Widths(word), body))
+    lesser_offset(empty_arrays(vars), broken_in(&LoopRule::Widths(word), body))
 }
 
 // The greatest length of an array.
@@ -92,20 +92,25 @@ fn limits(vars: &[Var], word: u64, body: &[Stmt]) -> Option<SrcFault>
 }
 
 // The first fault of a program whose names are declared once.
-fn behind_duplicates(table: &Table<'_>, vars: &[Var], word: u64, body: &[Stmt]) -> Option<SrcFault>
+fn behind_duplicates(
+    table: &SymbolTable<'_>,
+    vars: &[Var],
+    word: u64,
+    body: &[Stmt],
+) -> Option<SrcFault>
     requires { table.now ≡ vars.now }
     ensures { result ≡ behind_duplicates word (listing vars.now body.now) }
 {
-    if let Some(at) = broken_in(&Question::Names(table), body) {
+    if let Some(at) = broken_in(&LoopRule::Names(table), body) {
         return Some(SrcFault::Unknown(at));
     }
     if let Some(at) = bad_width(vars, word, body) {
         return Some(SrcFault::Width(at));
     }
-    if let Some(at) = broken_in(&Question::Indexes(table), body) {
+    if let Some(at) = broken_in(&LoopRule::Indexes(table), body) {
         return Some(SrcFault::Index(at));
     }
-    if let Some(at) = broken_in(&Question::Counters(word), body) {
+    if let Some(at) = broken_in(&LoopRule::Counters(word), body) {
         return Some(SrcFault::Counter(at));
     }
     limits(vars, word, body)
@@ -113,7 +118,7 @@ fn behind_duplicates(table: &Table<'_>, vars: &[Var], word: u64, body: &[Stmt]) 
 
 // The first fault of a program, given the least offset of a name that is declared twice.
 fn first_of(
-    table: &Table<'_>,
+    table: &SymbolTable<'_>,
     repeated: Option<u64>,
     vars: &[Var],
     word: u64,
@@ -129,7 +134,7 @@ fn first_of(
 }
 
 fn first_fault(alloc: Global, program: &Program, word: u64) -> Result<Option<SrcFault>, NoMemory>
-    ensures { IfOk result (λ found. found ≡ first_fault word (listing_of program.now)) }
+    ensures { IfOk result (λ found. found ≡ first_fault word (model_of_program program.now)) }
 {
     let vars = program.vars.as_slice();
     let (table, repeated) = declare(alloc, vars)?;
@@ -144,10 +149,10 @@ fn first_fault(alloc: Global, program: &Program, word: u64) -> Result<Option<Src
 pub fn check(alloc: Global, program: Program, width: u8) -> Result<Typed, SrcFault2>
     requires some { 1 ≤ width }
     requires most { width ≤ 64 }
-    ensures taken { IfOk result (λ typed. first_fault width (listing_of program) ≡ None) }
+    ensures taken { IfOk result (λ typed. first_fault width (model_of_program program) ≡ None) }
     ensures program { IfOk result (λ typed. typed.program ≡ program) }
     ensures width { IfOk result (λ typed. typed.width ≡ width) }
-    ensures refused { IfErr result (IsCheckFault (first_fault width (listing_of program))) }
+    ensures refused { IfErr result (IsCheckFault (first_fault width (model_of_program program))) }
 {
     if let Some(fault) = first_fault(alloc, &program, u64::from(width))? {
         return Err(SrcFault2::Fault(fault));

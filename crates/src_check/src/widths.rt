@@ -1,7 +1,7 @@
 //! The rule of widths, S3.
 
 ghost use Rattle.std.specs.Prelude.{◌≡◌, ◌^◌, ℕ, nat_lt};
-ghost use Rattle.src_model.specs.Written.{shape_of, spot_shape, phrase_of};
+ghost use Rattle.src_model.specs.Written.{model_of_src_node, spot_node, model_of_src_expr};
 ghost use Rattle.src_model.specs.Widths.{wide, whole, alike, extended, lowered, sides};
 
 use rec_bits::written_result_width;
@@ -60,7 +60,7 @@ fn lowered(to: u64, at: u64, width: Result<u64, u64>) -> Result<u64, u64>
 /// literal has the width `asked`.
 #[cycle(wide)]
 pub fn wide(word: u64, asked: u64, e: &SrcExpr) -> Result<u64, u64>
-    ensures { result ≡ wide word asked e.now.at (shape_of e.now.node) }
+    ensures { result ≡ wide word asked e.now.at (model_of_src_node e.now.node) }
 {
     match &e.node {
         SrcNode::Num(n) => {
@@ -81,7 +81,7 @@ pub fn wide(word: u64, asked: u64, e: &SrcExpr) -> Result<u64, u64>
 /// The same of a place.
 #[cycle(wide)]
 pub fn spot_wide(word: u64, spot: &Spot) -> Result<u64, u64>
-    ensures { (asked at : ℕ) → result ≡ wide word asked at (spot_shape spot.now) }
+    ensures { (asked at : ℕ) → result ≡ wide word asked at (spot_node spot.now) }
 {
     match &spot.index {
         None => Ok(word),
@@ -93,7 +93,7 @@ pub fn spot_wide(word: u64, spot: &Spot) -> Result<u64, u64>
 /// and two literals have a word's.
 #[cycle(wide)]
 pub fn sides(word: u64, x: &SrcExpr, y: &SrcExpr) -> Result<u64, u64>
-    ensures { result ≡ sides word (phrase_of x.now) (phrase_of y.now) }
+    ensures { result ≡ sides word (model_of_src_expr x.now) (model_of_src_expr y.now) }
 {
     match (is_literal(x), is_literal(y)) {
         (true, false) => wide(word, wide(word, word, y)?, x),

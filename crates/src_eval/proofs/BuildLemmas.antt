@@ -7,11 +7,11 @@ use Rattle.std.specs.declared.vec.Vec.{Vec}
 use Rattle.src_model.specs.declared.program.Var.{Var as Declared}
 use Rattle.src_model.specs.declared.program.SrcTest.{SrcTest}
 use Rattle.src_model.specs.declared.program.Stmt.{Stmt, If, While, For}
-use Rattle.src_model.specs.Written.{assign, choice, while, count, Acts, without, otherwise, act_of, acts_of, Place, Phrase, Test}
+use Rattle.src_model.specs.Written.{assign, choice, while, count, StmtsModel, without, otherwise, model_of_stmt, stmts_of, SpotModel, SrcExprModel, SrcTestModel}
 use Rattle.src_model.specs.Sizes.{statements, statements_in, statements_else}
 use Rattle.src_model.specs.Meaning.{assigned, holds}
 use Rattle.src_model.specs.Trace.{started, stepped, counting}
-use Rattle.src_model.proofs.Views.{act_If, act_While, act_For, else_acts}
+use Rattle.src_model.proofs.Views.{stmt_If, stmt_While, stmt_For, else_stmts}
 use Rattle.src_eval.specs.declared.machine.Step.{Step}
 use Rattle.src_eval.specs.declared.machine.Step.TheVariants.{Assign, Test as Asking}
 use Rattle.src_eval.specs.Inner.Steps.{StepsFit, FitsStep, is_test}
@@ -20,20 +20,20 @@ use Rattle.src_eval.proofs.FlowLemmas.{within}
 
 -- ---- how many trees
 
-abbrev pub block_acts : List Stmt → Acts
-block_acts l = acts_of (map act_of l)
+abbrev pub block_stmts : List Stmt → StmtsModel
+block_stmts l = stmts_of (map model_of_stmt l)
 
 abbrev pub trees_of : List Stmt → ℕ
-trees_of l = statements_in (block_acts l)
+trees_of l = statements_in (block_stmts l)
 
-pub trees_If : (s : Stmt) (test : SrcTest) (v : Vec Stmt Global) (o : Option (Vec Stmt Global)) → s ≡ If test v o → statements (act_of s) ≡ 1 + trees_of v.items + statements_else (else_acts o)
-trees_If s test v o is = ap (λ x. statements (act_of x)) is ∙ ap statements (act_If test v o)
+pub trees_If : (s : Stmt) (test : SrcTest) (v : Vec Stmt Global) (o : Option (Vec Stmt Global)) → s ≡ If test v o → statements (model_of_stmt s) ≡ 1 + trees_of v.items + statements_else (else_stmts o)
+trees_If s test v o is = ap (λ x. statements (model_of_stmt x)) is ∙ ap statements (stmt_If test v o)
 
-pub trees_While : (s : Stmt) (test : SrcTest) (v : Vec Stmt Global) → s ≡ While test v → statements (act_of s) ≡ 1 + trees_of v.items
-trees_While s test v is = ap (λ x. statements (act_of x)) is ∙ ap statements (act_While test v)
+pub trees_While : (s : Stmt) (test : SrcTest) (v : Vec Stmt Global) → s ≡ While test v → statements (model_of_stmt s) ≡ 1 + trees_of v.items
+trees_While s test v is = ap (λ x. statements (model_of_stmt x)) is ∙ ap statements (stmt_While test v)
 
-pub trees_For : (s : Stmt) (counter : List ℕ) (at from to : ℕ) (v : Vec Stmt Global) → s ≡ For counter at from to v → statements (act_of s) ≡ 3 + trees_of v.items
-trees_For s counter at from to v is = ap (λ x. statements (act_of x)) is ∙ ap statements (act_For counter at from to v)
+pub trees_For : (s : Stmt) (counter : List ℕ) (at from to : ℕ) (v : Vec Stmt Global) → s ≡ For counter at from to v → statements (model_of_stmt s) ≡ 3 + trees_of v.items
+trees_For s counter at from to v is = ap (λ x. statements (model_of_stmt x)) is ∙ ap statements (stmt_For counter at from to v)
 
 -- ---- one step more
 
@@ -178,20 +178,20 @@ behind_itself steps end next le = let e : nat_le end next ≡ true = grind (arit
 
 -- ---- statements
 
-pub assign_built : (word : ℕ) (vars : List Declared) (old new : List Step) (place : Place) (e : Phrase) (next : ℕ) → Pushed word old new (IsDoing (assigned word vars place e) next) → Ready word old 1 next
+pub assign_built : (word : ℕ) (vars : List Declared) (old new : List Step) (place : SpotModel) (e : SrcExprModel) (next : ℕ) → Pushed word old new (IsDoing (assigned word vars place e) next) → Ready word old 1 next
     → Built word old new 1 (λ last. Laid word vars last (assign place e) (length old) next)
 assign_built word vars old new place e next p r =
     let one = doing_one word old new (assigned word vars place e) next p r.all r.target in
     record { grown = one.longer; kept = one.keeps; all = one.all; laid = one.has }
 
 -- the body of a `while` may be built
-pub while_ready : (word : ℕ) (vars : List Declared) (old mid : List Step) (test : Test) (body : Acts) (next yes_to : ℕ) → Pushed word old mid (IsAsking (holds word vars test) yes_to next)
+pub while_ready : (word : ℕ) (vars : List Declared) (old mid : List Step) (test : SrcTestModel) (body : StmtsModel) (next yes_to : ℕ) → Pushed word old mid (IsAsking (holds word vars test) yes_to next)
     → Ready word old (1 + statements_in body) next → Ready word mid (statements_in body) (length old)
 while_ready word vars old mid test body next yes_to p r =
     let one = asking_one word old mid (holds word vars test) yes_to next p r.all in
     record { width = r.width; few = omega (arith, r.few, one.longer); all = one.all; target = behind_test word old mid (holds word vars test) yes_to next (length mid + statements_in body) one }
 
-pub while_built : (word : ℕ) (vars : List Declared) (old mid new : List Step) (test : Test) (body : Acts) (next : ℕ) → Pushed word old mid (IsAsking (holds word vars test) (entry body (length old + 1) (length old)) next)
+pub while_built : (word : ℕ) (vars : List Declared) (old mid new : List Step) (test : SrcTestModel) (body : StmtsModel) (next : ℕ) → Pushed word old mid (IsAsking (holds word vars test) (entry body (length old + 1) (length old)) next)
     → Ready word old (1 + statements_in body) next → Built word mid new (statements_in body) (λ last. LaidIn word vars last body (length mid) (length old))
     → Built word old new (1 + statements_in body) (λ last. Laid word vars last (while test body) (length old) next)
 while_built word vars old mid new test body next p r b =
@@ -204,7 +204,7 @@ while_built word vars old mid new test body next p r b =
     }
 
 -- the first part of a choice may be built
-pub taken_ready : (word : ℕ) (vars : List Declared) (old mid : List Step) (test : Test) (taken : Acts) (others next yes_to no_to : ℕ) → Pushed word old mid (IsAsking (holds word vars test) yes_to no_to)
+pub taken_ready : (word : ℕ) (vars : List Declared) (old mid : List Step) (test : SrcTestModel) (taken : StmtsModel) (others next yes_to no_to : ℕ) → Pushed word old mid (IsAsking (holds word vars test) yes_to no_to)
     → Ready word old (1 + statements_in taken + others) next → Ready word mid (statements_in taken) next
 taken_ready word vars old mid test taken others next yes_to no_to p r =
     let one = asking_one word old mid (holds word vars test) yes_to no_to p r.all in
@@ -215,7 +215,7 @@ taken_ready word vars old mid test taken others next yes_to no_to p r =
       target = behind_kept old mid one.keeps (length old + (1 + statements_in taken + others)) (length mid + statements_in taken) next (omega (arith, one.longer)) r.target;
     }
 
-pub if_built : (word : ℕ) (vars : List Declared) (old mid new : List Step) (test : Test) (taken : Acts) (next : ℕ) → Pushed word old mid (IsAsking (holds word vars test) (entry taken (length old + 1) next) next)
+pub if_built : (word : ℕ) (vars : List Declared) (old mid new : List Step) (test : SrcTestModel) (taken : StmtsModel) (next : ℕ) → Pushed word old mid (IsAsking (holds word vars test) (entry taken (length old + 1) next) next)
     → Ready word old (1 + statements_in taken + 0) next → Built word mid new (statements_in taken) (λ last. LaidIn word vars last taken (length mid) next)
     → Built word old new (1 + statements_in taken + 0) (λ last. Laid word vars last (choice test taken without) (length old) next)
 if_built word vars old mid new test taken next p r b =
@@ -238,7 +238,7 @@ other_ready word old mid high n others next A longer keeps b r =
       target = behind_kept old high (extends_all old mid high keeps (omega (arith, longer)) b.kept) (length old + (1 + n + others)) (length high + others) next (omega (arith, longer, b.grown)) r.target;
     }
 
-pub else_built : (word : ℕ) (vars : List Declared) (old mid high new : List Step) (test : Test) (taken other : Acts) (next : ℕ)
+pub else_built : (word : ℕ) (vars : List Declared) (old mid high new : List Step) (test : SrcTestModel) (taken other : StmtsModel) (next : ℕ)
     → Pushed word old mid (IsAsking (holds word vars test) (entry taken (length old + 1) next) (entry other (length old + 1 + statements_in taken) next))
     → Ready word old (1 + statements_in taken + statements_in other) next → Built word mid high (statements_in taken) (λ last. LaidIn word vars last taken (length mid) next)
     → Built word high new (statements_in other) (λ last. LaidIn word vars last other (length high) next)
@@ -273,7 +273,7 @@ pub for_ready : (word : ℕ) (vars : List Declared) (old low mid : List Step) (c
 for_ready word vars old low mid counter from to yes_to next n step s e r =
     record { width = r.width; few = omega (arith, r.few, s.start.longer, s.test.longer); all = s.test.all; target = behind_itself mid (length mid + n) step (omega (arith, e, s.start.longer, s.test.longer)) }
 
-pub for_built : (word : ℕ) (vars : List Declared) (old low mid high new : List Step) (counter : List ℕ) (at from to next : ℕ) (body : Acts)
+pub for_built : (word : ℕ) (vars : List Declared) (old low mid high new : List Step) (counter : List ℕ) (at from to next : ℕ) (body : StmtsModel)
     → Started word vars old low mid counter from to (entry body (length old + 2) (length old + 2 + statements_in body)) next
     → Ready word old (3 + statements_in body) next → Built word mid high (statements_in body) (λ last. LaidIn word vars last body (length mid) (length old + 2 + statements_in body))
     → Pushed word high new (IsDoing (stepped word vars counter) (length old + 1))

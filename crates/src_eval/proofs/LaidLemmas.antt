@@ -3,11 +3,11 @@ use Rattle.std.proofs.Common.{◌≡◌, ℕ, zero, suc, ◌+◌, ◌≤◌, Boo
 use Rattle.std.proofs.lemmas.Option.{slice_get_past}
 use Rattle.src_model.specs.declared.checkpoint.Checkpoint.TheVariants.{At}
 use Rattle.src_model.specs.declared.program.Var.{Var as Declared}
-use Rattle.src_model.specs.Written.{Act, assign, choice, while, count, Acts, no_acts, act, Otherwise, without, otherwise}
+use Rattle.src_model.specs.Written.{StmtModel, assign, choice, while, count, StmtsModel, no_acts, act, ElseModel, without, otherwise}
 use Rattle.src_model.specs.Sizes.{statements, statements_in}
 use Rattle.src_model.specs.Ways.{Onward, pass, choose, loop, finish}
 use Rattle.src_model.specs.Meaning.{assigned, holds}
-use Rattle.src_model.specs.Trace.{started, stepped, counting, after_change, run_act, run_in, run_else}
+use Rattle.src_model.specs.Trace.{started, stepped, counting, after_change, run_stmt, run_in, run_else}
 use Rattle.src_model.proofs.WayLemmas.{Agree, Keeps, pass_agree, choose_agree, agree_less, loop_step}
 use Rattle.src_model.proofs.TraceLemmas.{body_keeps, counted_body, counted_keeps}
 use Rattle.src_eval.specs.declared.machine.Step.{Step}
@@ -68,9 +68,9 @@ loop_agrees steps at question yes_to no_to body next h keeps inner (suc m) b = �
 
 module _ (word : ℕ) (vars : List Declared) (steps : List Step) (fits : StepsFit word steps) where
   mutual
-    unfolding run_act run_in run_else
+    unfolding run_stmt run_in run_else
 
-    pub laid_agrees : (a : Act) (tree next : ℕ) → Laid word vars steps a tree next → (m : ℕ) (k : Onward) → Agree m (way steps next) k → Agree m (way steps tree) (run_act word vars a tree k)
+    pub laid_agrees : (a : StmtModel) (tree next : ℕ) → Laid word vars steps a tree next → (m : ℕ) (k : Onward) → Agree m (way steps next) k → Agree m (way steps tree) (run_stmt word vars a tree k)
     laid_agrees (assign place e) tree next h m k a = does_agree word steps fits tree (assigned word vars place e) next h m k a
     laid_agrees (choice test taken other) tree next h m k a =
         agree_less (suc m) m (way steps tree)
@@ -89,17 +89,17 @@ module _ (word : ℕ) (vars : List Declared) (steps : List Step) (fits : StepsFi
         (λ i r b. in_agrees body (tree + 2) (tree + 2 + statements_in body) h.2 i (after_change (stepped word vars counter) r)
         (does_agree word steps fits (tree + 2 + statements_in body) (stepped word vars counter) (tree + 1) h.3 i r b)) m a)
 
-    pub in_agrees : (list : Acts) (tree next : ℕ) → LaidIn word vars steps list tree next → (m : ℕ) (k : Onward) → Agree m (way steps next) k → Agree m (way steps (entry list tree next)) (run_in word vars list tree k)
+    pub in_agrees : (list : StmtsModel) (tree next : ℕ) → LaidIn word vars steps list tree next → (m : ℕ) (k : Onward) → Agree m (way steps next) k → Agree m (way steps (entry list tree next)) (run_in word vars list tree k)
     in_agrees no_acts tree next h m k a = a
     in_agrees (act s rest) tree next h m k a =
         laid_agrees s tree (entry rest (tree + statements s) next) h.0 m (run_in word vars rest (tree + statements s) k) (in_agrees rest (tree + statements s) next h.1 m k a)
 
-    pub else_agrees : (o : Otherwise) (tree next : ℕ) → LaidElse word vars steps o tree next → (m : ℕ) (k : Onward) → Agree m (way steps next) k → Agree m (way steps (entry_else o tree next)) (run_else word vars o tree k)
+    pub else_agrees : (o : ElseModel) (tree next : ℕ) → LaidElse word vars steps o tree next → (m : ℕ) (k : Onward) → Agree m (way steps next) k → Agree m (way steps (entry_else o tree next)) (run_else word vars o tree k)
     else_agrees without tree next h m k a = a
     else_agrees (otherwise body) tree next h m k a = in_agrees body tree next h m k a
 
 -- a program's steps, behind which there is none
-pub whole_ahead : (word : ℕ) (vars : List Declared) (steps : List Step) → StepsFit word steps → (list : Acts) (past : ℕ) → LaidIn word vars steps list 0 past → length steps ≡ statements_in list → length steps ≤ past
+pub whole_ahead : (word : ℕ) (vars : List Declared) (steps : List Step) → StepsFit word steps → (list : StmtsModel) (past : ℕ) → LaidIn word vars steps list 0 past → length steps ≡ statements_in list → length steps ≤ past
     → (m : ℕ) (cells : List ℕ) → ahead steps m 0 cells ≡ run_in word vars list 0 finish m cells
 unfolding run_in
 whole_ahead word vars steps fits no_acts past h e le m cells = over_end steps 0 (slice_get_past steps 0 (omega (arith, e))) m cells

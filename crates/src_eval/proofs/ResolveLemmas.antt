@@ -4,7 +4,7 @@ use Rattle.std.specs.Global.{Box}
 use Rattle.rec_bits.specs.Operators.{apply2_of, slice_of}
 use Rattle.src_model.specs.declared.program.Var.{Var as Declared}
 use Rattle.src_model.specs.declared.program.SrcExpr.{SrcExpr}
-use Rattle.src_model.specs.Written.{Shape, num, plain, element, un, bin, zext, sext, low, shape_of}
+use Rattle.src_model.specs.Written.{SrcNodeModel, num, plain, element, un, bin, zext, sext, low, model_of_src_node}
 use Rattle.src_model.specs.Meaning.{shape_width, operand_width, first_cell}
 use Rattle.src_model.specs.Fitting.{Fitting}
 use Rattle.src_model.proofs.FittingLemmas.{width_wide, sides_wide}
@@ -22,10 +22,10 @@ use Rattle.src_eval.specs.Inner.Resolved.{Resolves}
 use Rattle.src_eval.proofs.FormulaLemmas.{fits_wider}
 
 module _ (word : ℕ) (vars : List Declared) (w : IsWidth word) where
-  pub zext_resolves : (asked at : ℕ) (x : Shape) (to : ℕ) → Fitting word asked (zext at x to) → (f : Formula) → Resolves word vars word x f → Resolves word vars asked (zext at x to) f
+  pub zext_resolves : (asked at : ℕ) (x : SrcNodeModel) (to : ℕ) → Fitting word asked (zext at x to) → (f : Formula) → Resolves word vars word x f → Resolves word vars asked (zext at x to) f
   zext_resolves asked at x to h f r = record { value = r.value; fits = fits_wider word (shape_width word word x) to f (omega (arith, h.1)) r.fits }
 
-  pub low_resolves : (asked at : ℕ) (x : Shape) (to : ℕ) → Fitting word asked (low at x to) → (b : Box Formula) → Resolves word vars word x b.value → Resolves word vars asked (low at x to) (Low to b)
+  pub low_resolves : (asked at : ℕ) (x : SrcNodeModel) (to : ℕ) → Fitting word asked (low at x to) → (b : Box Formula) → Resolves word vars word x b.value → Resolves word vars asked (low at x to) (Low to b)
   low_resolves asked at x to h b r =
       let i = width_wide word word x w w h.0 in
       record {
@@ -40,8 +40,8 @@ module _ (word : ℕ) (vars : List Declared) (w : IsWidth word) where
           (λ j. d j % 2 ^ e j)
 
 -- a formula of an expression as it is borrowed, and then held in a box
-pub held_resolves : (word : ℕ) (vars : List Declared) (asked : ℕ) (d x : SrcExpr) (f g : Formula) → d ≡ x → g ≡ f → Resolves word vars asked (shape_of d.node) f → Resolves word vars asked (shape_of x.node) g
-held_resolves word vars asked d x f g e same r = subst (λ (n : SrcExpr). Resolves word vars asked (shape_of n.node) g) e (subst (λ (h : Formula). Resolves word vars asked (shape_of d.node) h) (sym same) r)
+pub held_resolves : (word : ℕ) (vars : List Declared) (asked : ℕ) (d x : SrcExpr) (f g : Formula) → d ≡ x → g ≡ f → Resolves word vars asked (model_of_src_node d.node) f → Resolves word vars asked (model_of_src_node x.node) g
+held_resolves word vars asked d x f g e same r = subst (λ (n : SrcExpr). Resolves word vars asked (model_of_src_node n.node) g) e (subst (λ (h : Formula). Resolves word vars asked (model_of_src_node d.node) h) (sym same) r)
 
 -- the step of a `for`
 pub step_pushed : (word : ℕ) (vars : List Declared) (counter : List ℕ) (next f : ℕ) (old new : List Step) (n one : Box Formula) → new ≡ old ++ Assign f (Number 0) (Bin Add word n one) next ∷ [] → f ≡ first_cell vars counter

@@ -1,35 +1,35 @@
 //! The steps of a program's statements.
 
 ghost use Rattle.std.specs.Prelude.{◌≡◌, ◌+◌, ◌<◌, ◌≤◌, ◌^◌, ℕ, List, OnOk, map, length};
-ghost use Rattle.src_model.specs.Written.{act_of, acts_of, place_of, phrase_of, test_of, shape_of};
+ghost use Rattle.src_model.specs.Written.{model_of_stmt, stmts_of, model_of_spot, model_of_src_expr, model_of_src_test, model_of_src_node};
 ghost use Rattle.src_model.specs.Loops.{place_shape};
 ghost use Rattle.src_model.specs.Sizes.{statements, statements_in};
 ghost use Rattle.src_model.specs.Meaning.{assigned, holds};
 ghost use Rattle.src_model.specs.Trace.{started, stepped, counting};
 ghost use Rattle.src_model.specs.Fitting.{Fitting, FitsWord, FitsSides};
-ghost use Rattle.src_model.specs.Inner.Fitting.{FitsCount, FitsAct, FitsActs};
+ghost use Rattle.src_model.specs.Inner.Fitting.{FitsCount, FitsStmt, FitsStmts};
 ghost use Rattle.rec_bits.specs.Operators.{IsWidth};
 ghost use Rattle.src_eval.specs.Inner.Laid.{IsDoing, IsAsking, entry, Laid, LaidIn, Pushed, Ready, Built};
 
 use crate::formula::{Comparison, Formula};
 use crate::machine::Step;
 use crate::resolve::{resolve, resolve_index, resolve_test};
-use crate::table::Table;
+use crate::table::SymbolTable;
 use rec_bits::{Items, Name, NoMemory, Op2};
 use src_model::{Cmp, Spot, SrcExpr, SrcTest, Stmt, block_sizes};
 use std::alloc::Global;
 
 // The number of trees of some statements.
 fn trees_in(block: &[Stmt]) -> usize
-    requires { statements_in (acts_of (map act_of block.now)) ≤ 65536 }
-    ensures { result ≡ statements_in (acts_of (map act_of block.now)) }
+    requires { statements_in (stmts_of (map model_of_stmt block.now)) ≤ 65536 }
+    ensures { result ≡ statements_in (stmts_of (map model_of_stmt block.now)) }
 {
     block_sizes(1, block).statements as usize
 }
 
 fn trees(statement: &Stmt) -> usize
-    requires { statements (act_of statement.now) ≤ 65536 }
-    ensures { result ≡ statements (act_of statement.now) }
+    requires { statements (model_of_stmt statement.now) ≤ 65536 }
+    ensures { result ≡ statements (model_of_stmt statement.now) }
 {
     match statement {
         Stmt::Assign { .. } => 1,
@@ -47,7 +47,7 @@ fn trees(statement: &Stmt) -> usize
 
 // Where a block begins whose first tree has this number; an empty one is what comes after it.
 fn entry(block: &[Stmt], tree: usize, next: usize) -> usize
-    ensures { result ≡ entry (acts_of (map act_of block.now)) tree next }
+    ensures { result ≡ entry (stmts_of (map model_of_stmt block.now)) tree next }
 {
     match block.split_first() {
         None => next,
@@ -59,17 +59,17 @@ fn entry(block: &[Stmt], tree: usize, next: usize) -> usize
 fn push_assign(
     alloc: Global,
     word: u8,
-    table: &Table<'_>,
+    table: &SymbolTable<'_>,
     steps: &mut Items<Step>,
     place: &Spot,
     e: &SrcExpr,
     next: usize,
 ) -> Result<(), NoMemory>
     requires word { IsWidth word }
-    requires place { Fitting word word (place_shape (place_of place.now)) }
-    requires value { FitsWord word (shape_of e.now.node) }
+    requires place { Fitting word word (place_shape (model_of_spot place.now)) }
+    requires value { FitsWord word (model_of_src_node e.now.node) }
     ensures { OnOk result (Pushed word steps.old steps.new
-        (IsDoing (assigned word table.now (place_of place.now) (phrase_of e.now)) next)) }
+        (IsDoing (assigned word table.now (model_of_spot place.now) (model_of_src_expr e.now)) next)) }
 {
     let first = table.first_cell(&place.name);
     let index = resolve_index(alloc, word, table, place)?;
@@ -85,7 +85,7 @@ fn push_assign(
 
 // The start of a `for`.
 fn push_start(
-    table: &Table<'_>,
+    table: &SymbolTable<'_>,
     word: u8,
     steps: &mut Items<Step>,
     counter: &Name,
@@ -108,7 +108,7 @@ fn push_start(
 fn push_step(
     alloc: Global,
     word: u8,
-    table: &Table<'_>,
+    table: &SymbolTable<'_>,
     steps: &mut Items<Step>,
     counter: &Name,
     next: usize,
@@ -132,16 +132,16 @@ fn push_step(
 fn push_test(
     alloc: Global,
     word: u8,
-    table: &Table<'_>,
+    table: &SymbolTable<'_>,
     steps: &mut Items<Step>,
     test: &SrcTest,
     on_true: usize,
     on_false: usize,
 ) -> Result<(), NoMemory>
     requires word { IsWidth word }
-    requires fitting { FitsSides word (shape_of test.now.left.node) (shape_of test.now.right.node) }
+    requires fitting { FitsSides word (model_of_src_node test.now.left.node) (model_of_src_node test.now.right.node) }
     ensures { OnOk result (Pushed word steps.old steps.new
-        (IsAsking (holds word table.now (test_of test.now)) on_true on_false)) }
+        (IsAsking (holds word table.now (model_of_src_test test.now)) on_true on_false)) }
 {
     let test = resolve_test(alloc, word, table, test)?;
     steps.push(Step::Test {
@@ -154,7 +154,7 @@ fn push_test(
 
 // The test of a `for`.
 fn push_counting(
-    table: &Table<'_>,
+    table: &SymbolTable<'_>,
     word: u8,
     steps: &mut Items<Step>,
     counter: &Name,
@@ -186,15 +186,15 @@ fn push_counting(
 pub fn build(
     alloc: Global,
     word: u8,
-    table: &Table<'_>,
+    table: &SymbolTable<'_>,
     steps: &mut Items<Step>,
     statement: &Stmt,
     next: usize,
 ) -> Result<(), NoMemory>
-    requires ready { Ready word steps.old (statements (act_of statement.now)) next }
-    requires fits { FitsAct word (act_of statement.now) }
-    ensures { OnOk result (Built word steps.old steps.new (statements (act_of statement.now)) (λ last.
-        Laid word table.now last (act_of statement.now) (length steps.old) next)) }
+    requires ready { Ready word steps.old (statements (model_of_stmt statement.now)) next }
+    requires fits { FitsStmt word (model_of_stmt statement.now) }
+    ensures { OnOk result (Built word steps.old steps.new (statements (model_of_stmt statement.now)) (λ last.
+        Laid word table.now last (model_of_stmt statement.now) (length steps.old) next)) }
 {
     match statement {
         Stmt::Assign { place, value } => {
@@ -245,15 +245,15 @@ pub fn build(
 pub fn build_block(
     alloc: Global,
     word: u8,
-    table: &Table<'_>,
+    table: &SymbolTable<'_>,
     steps: &mut Items<Step>,
     block: &[Stmt],
     next: usize,
 ) -> Result<(), NoMemory>
-    requires ready { Ready word steps.old (statements_in (acts_of (map act_of block.now))) next }
-    requires fits { FitsActs word (acts_of (map act_of block.now)) }
-    ensures { OnOk result (Built word steps.old steps.new (statements_in (acts_of (map act_of block.now))) (λ last.
-        LaidIn word table.now last (acts_of (map act_of block.now)) (length steps.old) next)) }
+    requires ready { Ready word steps.old (statements_in (stmts_of (map model_of_stmt block.now))) next }
+    requires fits { FitsStmts word (stmts_of (map model_of_stmt block.now)) }
+    ensures { OnOk result (Built word steps.old steps.new (statements_in (stmts_of (map model_of_stmt block.now))) (λ last.
+        LaidIn word table.now last (stmts_of (map model_of_stmt block.now)) (length steps.old) next)) }
 {
     let mut left = block;
     while let Some((statement, rest)) = left.split_first() {

@@ -1,14 +1,14 @@
 //! Expressions of a program as formulas.
 
 ghost use Rattle.std.specs.Prelude.{◌≡◌, List, IfOk};
-ghost use Rattle.src_model.specs.Written.{shape_of, spot_shape, place_of, test_of};
+ghost use Rattle.src_model.specs.Written.{model_of_src_node, spot_node, model_of_spot, model_of_src_test};
 ghost use Rattle.src_model.specs.Meaning.{holds};
 ghost use Rattle.src_model.specs.Fitting.{Fitting, FitsSides};
 ghost use Rattle.rec_bits.specs.Operators.{IsWidth};
 ghost use Rattle.src_eval.specs.Inner.Resolved.{Resolves, ResolvesIndex, ResolvesTest};
 
 use crate::formula::{Comparison, Formula};
-use crate::table::Table;
+use crate::table::SymbolTable;
 use rec_bits::NoMemory;
 use src_model::{Spot, SrcExpr, SrcNode, SrcTest, operand_width, width_of};
 use std::alloc::Global;
@@ -18,14 +18,14 @@ use std::alloc::Global;
 pub fn resolve(
     alloc: Global,
     word: u8,
-    table: &Table<'_>,
+    table: &SymbolTable<'_>,
     asked: u8,
     e: &SrcExpr,
 ) -> Result<Formula, NoMemory>
     requires word { IsWidth word }
     requires asked { IsWidth asked }
-    requires fitting { Fitting word asked (shape_of e.now.node) }
-    ensures { IfOk result (Resolves word table.now asked (shape_of e.now.node)) }
+    requires fitting { Fitting word asked (model_of_src_node e.now.node) }
+    ensures { IfOk result (Resolves word table.now asked (model_of_src_node e.now.node)) }
 {
     match &e.node {
         SrcNode::Num(n) => Ok(Formula::Number(*n)),
@@ -59,14 +59,14 @@ pub fn resolve(
 fn operand(
     alloc: Global,
     word: u8,
-    table: &Table<'_>,
+    table: &SymbolTable<'_>,
     asked: u8,
     e: &SrcExpr,
 ) -> Result<Box<Formula>, NoMemory>
     requires word { IsWidth word }
     requires asked { IsWidth asked }
-    requires fitting { Fitting word asked (shape_of e.now.node) }
-    ensures { IfOk result (λ made. Resolves word table.now asked (shape_of e.now.node) made.value) }
+    requires fitting { Fitting word asked (model_of_src_node e.now.node) }
+    ensures { IfOk result (λ made. Resolves word table.now asked (model_of_src_node e.now.node) made.value) }
 {
     let formula = resolve(alloc, word, table, asked, e)?;
     let made = Box::new(alloc, formula)?;
@@ -78,13 +78,13 @@ fn operand(
 fn read(
     alloc: Global,
     word: u8,
-    table: &Table<'_>,
+    table: &SymbolTable<'_>,
     asked: u8,
     spot: &Spot,
 ) -> Result<Formula, NoMemory>
     requires word { IsWidth word }
-    requires fitting { Fitting word word (spot_shape spot.now) }
-    ensures { IfOk result (Resolves word table.now asked (spot_shape spot.now)) }
+    requires fitting { Fitting word word (spot_node spot.now) }
+    ensures { IfOk result (Resolves word table.now asked (spot_node spot.now)) }
 {
     let first = table.first_cell(&spot.name);
     match &spot.index {
@@ -100,12 +100,12 @@ fn read(
 pub fn resolve_index(
     alloc: Global,
     word: u8,
-    table: &Table<'_>,
+    table: &SymbolTable<'_>,
     spot: &Spot,
 ) -> Result<Formula, NoMemory>
     requires word { IsWidth word }
-    requires fitting { Fitting word word (spot_shape spot.now) }
-    ensures { IfOk result (ResolvesIndex word table.now (place_of spot.now).index) }
+    requires fitting { Fitting word word (spot_node spot.now) }
+    ensures { IfOk result (ResolvesIndex word table.now (model_of_spot spot.now).index) }
 {
     match &spot.index {
         None => Ok(Formula::Number(0)),
@@ -120,12 +120,12 @@ pub fn resolve_index(
 pub fn resolve_test(
     alloc: Global,
     word: u8,
-    table: &Table<'_>,
+    table: &SymbolTable<'_>,
     test: &SrcTest,
 ) -> Result<Comparison, NoMemory>
     requires word { IsWidth word }
-    requires fitting { FitsSides word (shape_of test.now.left.node) (shape_of test.now.right.node) }
-    ensures { IfOk result (ResolvesTest word table.now (test_of test.now)) }
+    requires fitting { FitsSides word (model_of_src_node test.now.left.node) (model_of_src_node test.now.right.node) }
+    ensures { IfOk result (ResolvesTest word table.now (model_of_src_test test.now)) }
 {
     let width = operand_width(word, &test.left, &test.right);
     let left = resolve(alloc, word, table, width, &test.left)?;

@@ -20,7 +20,7 @@ pub struct Runner<'a> {
 
 impl<'a> Runner<'a> {
     ghost use Rattle.std.specs.Prelude.{◌≡◌, ◌<◌, ◌^◌, ℕ, IfOk, length};
-    ghost use Rattle.src_model.specs.Written.{listing_of};
+    ghost use Rattle.src_model.specs.Written.{model_of_program};
     ghost use Rattle.src_model.specs.Meaning.{FitsStore};
     ghost use Rattle.src_model.specs.Trace.{strace};
     ghost use Rattle.src_eval.specs.Runs.{HasEnded, Advances, ahead_in, runner_store};
@@ -31,7 +31,7 @@ impl<'a> Runner<'a> {
         requires { FitsStore typed.now.width typed.now.program.vars store.cells }
         ensures cells { IfOk result (λ run. runner_store run ≡ store) }
         ensures ahead { IfOk result (λ run.
-            (m : ℕ) → ahead_in run m ≡ strace typed.now.width (listing_of typed.now.program) store.cells m) }
+            (m : ℕ) → ahead_in run m ≡ strace typed.now.width (model_of_program typed.now.program) store.cells m) }
     {
         let word = typed.width();
         let program = typed.program();

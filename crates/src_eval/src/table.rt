@@ -12,13 +12,13 @@ use std::marker::Model;
 /// The declarations of a program, with a table of their first cells. Contracts see the list of the
 /// declarations.
 #[derive(Drop)]
-pub struct Table<'a> {
+pub struct SymbolTable<'a> {
     vars: &'a [Var],
     first: IndexMap<&'a [u8], u64>,
     total: u64,
 }
 
-impl<'a> Model for Table<'a> {
+impl<'a> Model for SymbolTable<'a> {
     ghost use Rattle.std.specs.Prelude.{List};
     ghost use Rattle.src_model.specs.declared.program.Var.{Var as Declared};
     ghost use Rattle.src_eval.specs.Inner.Tables.{IsCellTable};
@@ -30,7 +30,7 @@ impl<'a> Model for Table<'a> {
     ghost invariant = { λ table. IsCellTable table.first.entries table.total table.vars.now };
 }
 
-impl<'a> Table<'a> {
+impl<'a> SymbolTable<'a> {
     /// The first cell of a variable, and the number of all cells where there is none of that name.
     pub fn first_cell(&self, name: &Name) -> u64
         ensures { result ≡ first_cell self.now name.now }
@@ -43,7 +43,7 @@ impl<'a> Table<'a> {
 }
 
 /// The table of some declarations.
-pub fn declare<'a>(alloc: Global, vars: &'a [Var]) -> Result<Table<'a>, NoMemory>
+pub fn declare<'a>(alloc: Global, vars: &'a [Var]) -> Result<SymbolTable<'a>, NoMemory>
     requires { cell_count vars.now < 2 ^ 64 }
     ensures { IfOk result (λ table. table ≡ vars.now) }
 {
@@ -55,5 +55,5 @@ pub fn declare<'a>(alloc: Global, vars: &'a [Var]) -> Result<Table<'a>, NoMemory
         }
         total += var.len.unwrap_or(1);
     }
-    Ok(Table { vars, first, total })
+    Ok(SymbolTable { vars, first, total })
 }

@@ -1,15 +1,15 @@
 -- The answers on a program's bytes exclude each other.
 use Rattle.std.proofs.Common.{◌≡◌, ℕ, List}
 use Rattle.src_model.specs.declared.fault.SrcFault.{SrcFault}
-use Rattle.src_model.specs.Written.{Listing}
+use Rattle.src_model.specs.Written.{ProgramModel}
 use Rattle.src_parser.specs.Texts.{IsNoSrcText}
 use Rattle.src_parser.proofs.TextFaults.{no_fault_of_src_text}
 use Rattle.src_front.specs.Fronts.{SaysSrc, IsSrcFile, BreaksSrcRule}
 
-pub no_text_fault : (bytes : List ℕ) (listing : Listing) (offset : ℕ) → SaysSrc bytes listing → IsNoSrcText bytes offset → ⊥
+pub no_text_fault : (bytes : List ℕ) (listing : ProgramModel) (offset : ℕ) → SaysSrc bytes listing → IsNoSrcText bytes offset → ⊥
 no_text_fault bytes listing offset says faulty = no_fault_of_src_text bytes listing offset says.text faulty
 
-pub no_broken_rule : (bytes : List ℕ) (width : ℕ) (listing : Listing) (fault : SrcFault) → IsSrcFile bytes width listing → BreaksSrcRule bytes width fault → ⊥
+pub no_broken_rule : (bytes : List ℕ) (width : ℕ) (listing : ProgramModel) (fault : SrcFault) → IsSrcFile bytes width listing → BreaksSrcRule bytes width fault → ⊥
 no_broken_rule bytes width listing fault file breaks =
     let same = file.says.only breaks.listing breaks.says.text in let a = file.kept in let b = breaks.broken in absurd cc
 

@@ -3,10 +3,10 @@ use Rattle.std.proofs.Common.{◌≤◌, ℕ, List, length, ap, arith, length-ap
 use Rattle.grammar.specs.Reading.{ListOf, none, some}
 use Rattle.src_lexer.specs.Programs.{programs}
 use Rattle.src_model.specs.declared.program.Var.{Var as Declared}
-use Rattle.src_model.specs.Grammar.{Lexed, IsDecl, IsDecls, IsLines, IsListing}
+use Rattle.src_model.specs.Grammar.{Lexed, IsDecl, IsDecls, IsLines, IsProgram}
 use Rattle.src_model.specs.declared.words.Symbol.TheVariants.{Comma}
 use Rattle.grammar.specs.Tokens.{Behind}
-use Rattle.src_model.specs.Written.{Listing}
+use Rattle.src_model.specs.Written.{ProgramModel}
 use Rattle.src_parser.specs.Texts.{src_lexed, IsSrcText}
 use Rattle.src_parser.specs.Words.{reserved_of, sign_word}
 use Rattle.lexing.proofs.TokenLaws.{few_words}
@@ -47,11 +47,11 @@ lines_long ts vs (some {us = us} {b = b} {zs = zs} {w = w} p q) =
     let k : length w ≤ length zs = lines_long zs w q in
     omega (arith, decls_long us b p, length-append us zs, length-append b w)
 
-text_long : (ts : List Lexed) (l : Listing) → IsListing ts l → length l.vars ≤ length ts
+text_long : (ts : List Lexed) (l : ProgramModel) → IsProgram ts l → length l.vars ≤ length ts
 text_long ts l t =
     let k : length t.value ≤ length t.front = lines_long t.front t.value t.first in
-    omega (arith, ap length t.parts, length-append t.front t.back, ap (λ (m : Listing). length m.vars) t.second.second.same)
+    omega (arith, ap length t.parts, length-append t.front t.back, ap (λ (m : ProgramModel). length m.vars) t.second.second.same)
 
-pub few_variables : (bytes : List ℕ) (listing : Listing) → IsSrcText bytes listing → length listing.vars ≤ length bytes
+pub few_variables : (bytes : List ℕ) (listing : ProgramModel) → IsSrcText bytes listing → length listing.vars ≤ length bytes
 few_variables bytes listing text =
     omega (arith, text_long (src_lexed bytes) listing text.spelled, few_words reserved_of sign_word programs bytes)

@@ -21,8 +21,8 @@ use Rattle.src_lexer.specs.Programs.{programs, src_tokens}
 use Rattle.src_model.specs.declared.program.Var.{Var as Declared}
 use Rattle.src_model.specs.declared.words.Key.TheVariants.{Operator as Operates, Compare as Compares, Call as Calls}
 use Rattle.src_model.specs.declared.words.Symbol.TheVariants.{Comma}
-use Rattle.src_model.specs.Grammar.{Lexed, Word, IsDecl, IsDecls, IsLines, IsListing}
-use Rattle.src_model.specs.Written.{Listing}
+use Rattle.src_model.specs.Grammar.{Lexed, Word, IsDecl, IsDecls, IsLines, IsProgram}
+use Rattle.src_model.specs.Written.{ProgramModel}
 use Rattle.src_parser.specs.Texts.{src_lexed, IsSrcText}
 use Rattle.src_parser.specs.Words.{call_of, compare_of, operator_of, reserved_of, sign_of, sign_word, signed_of, symbol_of}
 use Rattle.src_front.specs.Fronts.{AreNamed, IsNamed}
@@ -132,10 +132,10 @@ named_lines ts vars named (some {us = us} {b = b} {zs = zs} {w = w} is rest) =
     let both = named_parts us zs named in
     all_append IsNamed b w (named_decls us b both.0 is) (named_lines zs w both.1 rest)
 
-named_text : (ts : List Lexed) (listing : Listing) → NamedTokens ts → IsListing ts listing → AreNamed listing.vars
+named_text : (ts : List Lexed) (listing : ProgramModel) → NamedTokens ts → IsProgram ts listing → AreNamed listing.vars
 named_text ts listing named is =
-    subst (λ (l : Listing). AreNamed l.vars) (sym is.second.second.same) (named_lines is.front is.value (named_front is named) is.first)
+    subst (λ (l : ProgramModel). AreNamed l.vars) (sym is.second.second.same) (named_lines is.front is.value (named_front is named) is.first)
 
 -- the variables of a program text are named by names
-pub source_names : (bytes : List ℕ) (listing : Listing) → IsSrcText bytes listing → AreNamed listing.vars
+pub source_names : (bytes : List ℕ) (listing : ProgramModel) → IsSrcText bytes listing → AreNamed listing.vars
 source_names bytes listing text = named_text (src_lexed bytes) listing (named_words bytes) text.spelled

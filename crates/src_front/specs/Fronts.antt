@@ -5,24 +5,24 @@ use Rattle.text_lines.specs.Fields.{is_name}
 use Rattle.src_model.specs.declared.fault.SrcFault.{SrcFault}
 use Rattle.src_model.specs.declared.program.Var.{Var as Declared}
 use Rattle.src_model.specs.Rules.{first_fault}
-use Rattle.src_model.specs.Written.{Listing}
+use Rattle.src_model.specs.Written.{ProgramModel}
 use Rattle.src_parser.specs.Texts.{IsSrcText, IsNoSrcText}
 use Rattle.src_front.specs.declared.front.SrcRefusal.{SrcRefusal}
 use Rattle.src_front.specs.declared.front.SrcRefusal.TheVariants.{Text, Fault, Memory}
 
 -- the bytes are a program text, of this listing and no other
-pub record SaysSrc (bytes : List ℕ) (listing : Listing) : Type 0 where
+pub record SaysSrc (bytes : List ℕ) (listing : ProgramModel) : Type 0 where
   pub text : IsSrcText bytes listing
-  pub only : (l : Listing) → IsSrcText bytes l → listing ≡ l
+  pub only : (l : ProgramModel) → IsSrcText bytes l → listing ≡ l
 
 -- the bytes are a program text, and it keeps the rules for words of `width` bits
-pub record IsSrcFile (bytes : List ℕ) (width : ℕ) (listing : Listing) : Type 0 where
+pub record IsSrcFile (bytes : List ℕ) (width : ℕ) (listing : ProgramModel) : Type 0 where
   pub says : SaysSrc bytes listing
   pub kept : first_fault width listing ≡ None
 
 -- the bytes are a program text, and this is the first rule that it breaks
 pub record BreaksSrcRule (bytes : List ℕ) (width : ℕ) (fault : SrcFault) : Type 0 where
-  pub listing : Listing
+  pub listing : ProgramModel
   pub says : SaysSrc bytes listing
   pub broken : first_fault width listing ≡ Some fault
 

@@ -1,7 +1,7 @@
 //! Programs from bytes.
 
 ghost use Rattle.std.specs.Prelude.{◌≡◌, ℕ, ◌^◌, ◌<◌, ◌≤◌, length, IfOk, IfErr};
-ghost use Rattle.src_model.specs.Written.{listing_of};
+ghost use Rattle.src_model.specs.Written.{model_of_program};
 ghost use Rattle.src_front.specs.Fronts.{SaysSrc, IsSrcFile, IsSrcRefusal};
 
 use rec_bits::ParseFault;
@@ -23,7 +23,7 @@ pub enum SrcRefusal {
 // The program that the bytes say.
 fn program(alloc: Global, bytes: &[u8]) -> Result<Program, SrcRefusal>
     requires { length bytes.now < 2 ^ 32 }
-    ensures found { IfOk result (λ program. SaysSrc bytes.now (listing_of program)) }
+    ensures found { IfOk result (λ program. SaysSrc bytes.now (model_of_program program)) }
     ensures refused { (width : ℕ) → IfErr result (IsSrcRefusal bytes.now width) }
 {
     match src_parser::read(alloc, bytes) {
@@ -42,7 +42,7 @@ pub fn read_src(alloc: Global, bytes: &[u8], width: u8) -> Result<Typed, SrcRefu
     requires short { length bytes.now < 2 ^ 32 }
     requires some { 1 ≤ width }
     requires most { width ≤ 64 }
-    ensures found { IfOk result (λ typed. IsSrcFile bytes.now width (listing_of typed.program)) }
+    ensures found { IfOk result (λ typed. IsSrcFile bytes.now width (model_of_program typed.program)) }
     ensures width { IfOk result (λ typed. typed.width ≡ width) }
     ensures refused { IfErr result (IsSrcRefusal bytes.now width) }
 {

@@ -12,7 +12,7 @@
 //!   the names of a program are names.
 //! - `proofs/`: `FrontLaws`: the answers on a program's bytes exclude each other. `SourceNames` and
 //!   `Lengths`: the names that a text declares are names, and are no more than its bytes;
-//!   `net_compile` cites them.
+//!   `compile_command` cites them.
 #![tactic(auto)]
 
 mod front;

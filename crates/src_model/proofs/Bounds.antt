@@ -7,7 +7,7 @@ use Rattle.src_model.specs.declared.fault.SrcFault.TheVariants.{Duplicate, Unkno
 use Rattle.src_model.specs.declared.fault.SrcKind.{SrcKind}
 use Rattle.src_model.specs.declared.fault.SrcKind.TheVariants.{Length, Statements, Nodes}
 use Rattle.src_model.specs.declared.sizes.Subtree.{Subtree}
-use Rattle.src_model.specs.Written.{Shape, num, plain, element, un, bin, zext, sext, low, Listing, acts_of}
+use Rattle.src_model.specs.Written.{SrcNodeModel, num, plain, element, un, bin, zext, sext, low, ProgramModel, stmts_of}
 use Rattle.src_model.specs.Widths.{is_literal}
 use Rattle.src_model.specs.Indexes.{number_of}
 use Rattle.src_model.specs.Sizes.{Root, value, store, compare, difference, nodes, nodes_of, read_nodes, part, read_part, sided, all_of, is_word, temps_of, greatest, roots_in, longest}
@@ -35,7 +35,7 @@ node_le : (word width below n : ℕ) → below ≤ n → is_word word width + be
 node_le word width below n h = let b : is_word word width ≤ 1 = bit_le _ in omega (arith, b, h)
 
 -- the nodes of a word's width are among the nodes
-part_le : (word asked : ℕ) (e : Shape) → all_of (part word asked e) ≤ nodes e
+part_le : (word asked : ℕ) (e : SrcNodeModel) → all_of (part word asked e) ≤ nodes e
 part_le word asked (num n) = node_le word asked 0 0 (omega arith)
 part_le word asked (plain name at) = omega arith
 part_le word asked (element name at to x) = read_le word (number_of x) (part word word x) (nodes x) (part_le word word x)
@@ -49,7 +49,7 @@ part_le word asked (zext at x width) = node_le word width _ _ (part_le word word
 part_le word asked (sext at x width) = node_le word width _ _ (part_le word word x)
 part_le word asked (low at x width) = node_le word width _ _ (part_le word word x)
 
-sides_le : (word : ℕ) (x y : Shape) → (sided (is_literal x) (part word word x) (part word word y) (λ w. part word w x) (λ w. part word w y)).below ≤ nodes x + nodes y
+sides_le : (word : ℕ) (x y : SrcNodeModel) → (sided (is_literal x) (part word word x) (part word word y) (λ w. part word w x) (λ w. part word w y)).below ≤ nodes x + nodes y
 sides_le word x y = sided_le (is_literal x) (part word word x) (part word word y) (λ w. part word w x) (λ w. part word w y) (nodes x) (nodes y)
     (part_le word word x) (part_le word word y) (λ w. part_le word w x) (λ w. part_le word w y)
 
@@ -87,7 +87,7 @@ none_broken rule offsets h = least_none offsets (none (least offsets) h)
     none (Some at) e = absurd (cc e)
 
 -- the rules behind each
-module _ (word : ℕ) (l : Listing) (h : first_fault word l ≡ None) where
+module _ (word : ℕ) (l : ProgramModel) (h : first_fault word l ≡ None) where
   behind_first : or_else (fault_at Unknown (least (unknown_names l))) (or_else (fault_at Width (least (bad_widths word l)))
       (or_else (fault_at Index (least (bad_indexes l))) (or_else (fault_at Counter (least (bad_counters word l))) (limits l)))) ≡ None
   behind_first = or_else_none (fault_at Duplicate (least (duplicate_names l))) _ h
@@ -126,4 +126,4 @@ module _ (word : ℕ) (l : Listing) (h : first_fault word l ≡ None) where
 
   -- and none of its trees needs more temporary cells than it has nodes
   pub few_temps : temp_count word l ≤ 255
-  few_temps = let n = rules_hold.few_nodes in let k = greatest_le (temps_of word) nodes_of (temps_le word) (roots_in (acts_of l.body)) in omega (arith, n, k)
+  few_temps = let n = rules_hold.few_nodes in let k = greatest_le (temps_of word) nodes_of (temps_le word) (roots_in (stmts_of l.body)) in omega (arith, n, k)

@@ -5,7 +5,7 @@ use Rattle.std.proofs.Math.Nat.{mod-eq_of_lt}
 use Rattle.std.proofs.lemmas.Bool.{ltb-true}
 use Rattle.rec_bits.proofs.Booleans.{both}
 use Rattle.src_model.specs.declared.program.Var.{Var as Declared}
-use Rattle.src_model.specs.Written.{Phrase, Place, shape_at}
+use Rattle.src_model.specs.Written.{SrcExprModel, SpotModel, node_at}
 use Rattle.src_model.specs.Names.{declared, is_plain}
 use Rattle.src_model.specs.Loops.{Round, place_shape}
 use Rattle.src_model.specs.Meaning.{FitsStore, shape_value, index_value, assigned, cells_in, first_cell}
@@ -26,7 +26,7 @@ fits_set : (bits : ℕ) (vars : List Declared) (cells : List ℕ) (at v : ℕ) �
 fits_set bits vars cells at v f lt = record { all_cells = length-set cells at v ∙ f.all_cells; below = words_set (2 ^ bits) cells at v f.below lt }
 
 -- the variable of a place, and that its cell is one of it
-spot : (bits : ℕ) (vars : List Declared) (cells : List ℕ) (name : List ℕ) (at : ℕ) (index : Option Phrase) → Known vars (shape_at name at index) → is_inside bits vars cells (shape_at name at index) ≡ true
+spot : (bits : ℕ) (vars : List Declared) (cells : List ℕ) (name : List ℕ) (at : ℕ) (index : Option SrcExprModel) → Known vars (node_at name at index) → is_inside bits vars cells (node_at name at index) ≡ true
     → (v : Declared) × (declared vars name ≡ Some v) × (index_value bits vars cells index < cells_in v)
 spot bits vars cells name at None k i = plain_var (declared vars name) k
 spot bits vars cells name at (Some x) k i = array_var (declared vars name) _ k.0 (ltb-true _ _ (both (is_inside bits vars cells x.shape) _ i).1)
@@ -45,7 +45,7 @@ counts_set vars cells name v i n d lt (round ∷ outer) free c =
     (record { plain = c.0.plain; least = omega (arith, a, same); most = omega (arith, b, same) }, counts_set vars cells name v i n d lt outer free.1 c.1)
 
 module _ (bits : ℕ) (vars : List Declared) (rounds : List Round) where
-  pub assign_holds : (place : Place) (e : Phrase) (cells : List ℕ) → SoundAssign bits vars rounds place e → is_inside bits vars cells (place_shape place) ≡ true → Holds bits vars rounds cells → Holds bits vars rounds (assigned bits vars place e cells)
+  pub assign_holds : (place : SpotModel) (e : SrcExprModel) (cells : List ℕ) → SoundAssign bits vars rounds place e → is_inside bits vars cells (place_shape place) ≡ true → Holds bits vars rounds cells → Holds bits vars rounds (assigned bits vars place e cells)
   assign_holds place e cells f i h =
       let v = spot bits vars cells place.name place.at place.index f.left.known i in
       record {

@@ -5,14 +5,14 @@ use Rattle.std.proofs.lemmas.Bool.Decides.{nat_tests}
 use Rattle.rec_bits.specs.Operators.{result_width}
 use Rattle.rec_bits.specs.declared.operator.Op2.{Op2}
 use Rattle.rec_bits.specs.declared.operator.Op2.TheVariants.{Add, Sub, Mul, And, Or, Xor, Shl, Shr, Sar, Eq, Ltu, Lts}
-use Rattle.rec_bits.specs.Faults.{broken, least}
-use Rattle.src_model.specs.Written.{Shape, num, plain, element, un, bin, zext, sext, low, Phrase, Place, Act, assign, choice, while, count, Acts, no_acts, act, Otherwise, without, otherwise, Listing, acts_of}
+use Rattle.rec_bits.specs.Faults.{offsets_if, least}
+use Rattle.src_model.specs.Written.{SrcNodeModel, num, plain, element, un, bin, zext, sext, low, SrcExprModel, SpotModel, StmtModel, assign, choice, while, count, StmtsModel, no_acts, act, ElseModel, without, otherwise, ProgramModel, stmts_of}
 use Rattle.src_model.specs.Widths.{is_literal, whole, alike, asking, operated, extended, lowered, side_by_side, wide, sides, misfit}
 use Rattle.src_model.specs.Loops.{Round, place_shape, breaks, breaks_in, breaks_else, changes_rule, miscounted, counters}
 use Rattle.src_model.specs.Rules.{widths, first_fault}
 use Rattle.src_model.specs.Meaning.{shape_width, operand_width}
 use Rattle.src_model.specs.Fitting.{Fitting, FitsWord, FitsSides}
-use Rattle.src_model.specs.Inner.Fitting.{FitsCount, FitsAct, FitsActs, FitsElse}
+use Rattle.src_model.specs.Inner.Fitting.{FitsCount, FitsStmt, FitsStmts, FitsElse}
 use Rattle.src_model.proofs.Bounds.{rules_hold}
 
 ok_is : (a b : ℕ) → (let r : Result ℕ ℕ = Ok a in r) ≡ Ok b → a ≡ b
@@ -32,7 +32,7 @@ chosen false a b c e = not_ok b c e
 
 -- ---- literals
 
-literal_width : (word asked : ℕ) (e : Shape) → is_literal e ≡ true → shape_width word asked e ≡ asked
+literal_width : (word asked : ℕ) (e : SrcNodeModel) → is_literal e ≡ true → shape_width word asked e ≡ asked
 literal_width word asked (num n) h = refl
 literal_width word asked (un op at x) h = literal_width word asked x h
 literal_width word asked (plain name at) h = absurd (cc h)
@@ -43,7 +43,7 @@ literal_width word asked (sext at x width) h = absurd (cc h)
 literal_width word asked (low at x width) h = absurd (cc h)
 
 -- what is asked for is nothing to any other expression
-other_width : (word a b : ℕ) (e : Shape) → is_literal e ≡ false → shape_width word a e ≡ shape_width word b e
+other_width : (word a b : ℕ) (e : SrcNodeModel) → is_literal e ≡ false → shape_width word a e ≡ shape_width word b e
 other_width word a b (num n) h = absurd (cc h)
 other_width word a b (un op at x) h = other_width word a b x h
 other_width word a b (plain name at) h = refl
@@ -53,7 +53,7 @@ other_width word a b (zext at x width) h = refl
 other_width word a b (sext at x width) h = refl
 other_width word a b (low at x width) h = refl
 
-other_fitting : (word a b : ℕ) (e : Shape) → is_literal e ≡ false → Fitting word a e → Fitting word b e
+other_fitting : (word a b : ℕ) (e : SrcNodeModel) → is_literal e ≡ false → Fitting word a e → Fitting word b e
 other_fitting word a b (num n) h f = absurd (cc h)
 other_fitting word a b (un op at x) h f = other_fitting word a b x h f
 other_fitting word a b (plain name at) h f = f
@@ -66,17 +66,17 @@ other_fitting word a b (low at x width) h f = f
 -- ---- expressions
 
 -- an expression that keeps the rule has this width
-pub record Wide (word asked : ℕ) (e : Shape) (width : ℕ) : Type 0 where
+pub record Wide (word asked : ℕ) (e : SrcNodeModel) (width : ℕ) : Type 0 where
   pub parts : Fitting word asked e
   pub is : shape_width word asked e ≡ width
 
 -- the sides of an operator or a test
-pub record Sided (word : ℕ) (x y : Shape) (width : ℕ) : Type 0 where
+pub record Sided (word : ℕ) (x y : SrcNodeModel) (width : ℕ) : Type 0 where
   pub sides : FitsSides word x y
   pub is : operand_width word x y ≡ width
 
 -- both sides at the width of one of them
-sides_at : (word width : ℕ) (x y : Shape) → operand_width word x y ≡ width → Wide word width x width → Wide word width y width → Sided word x y width
+sides_at : (word width : ℕ) (x y : SrcNodeModel) → operand_width word x y ≡ width → Wide word width x width → Wide word width y width → Sided word x y width
 sides_at word width x y o l r = record {
   sides = record {
     left = subst (λ w. Fitting word w x) (sym o) l.parts;
@@ -87,16 +87,16 @@ sides_at word width x y o l r = record {
   is = o;
 }
 
-at_other : (word a b : ℕ) (e : Shape) (width : ℕ) → is_literal e ≡ false → Wide word a e width → Wide word b e width
+at_other : (word a b : ℕ) (e : SrcNodeModel) (width : ℕ) → is_literal e ≡ false → Wide word a e width → Wide word b e width
 at_other word a b e width h w = record { parts = other_fitting word a b e h w.parts; is = sym (other_width word a b e h) ∙ w.is }
 
-first_side : (word : ℕ) (x y : Shape) → is_literal x ≡ false → operand_width word x y ≡ shape_width word word x
+first_side : (word : ℕ) (x y : SrcNodeModel) → is_literal x ≡ false → operand_width word x y ≡ shape_width word word x
 first_side word x y h = ap (λ (b : Bool). if b then shape_width word word y else shape_width word word x) h
 
-second_side : (word : ℕ) (x y : Shape) → is_literal x ≡ true → operand_width word x y ≡ shape_width word word y
+second_side : (word : ℕ) (x y : SrcNodeModel) → is_literal x ≡ true → operand_width word x y ≡ shape_width word word y
 second_side word x y h = ap (λ (b : Bool). if b then shape_width word word y else shape_width word word x) h
 
-sided : (word : ℕ) (x y : Shape) (at to width : ℕ) (lx ly : Bool) → is_literal x ≡ lx → is_literal y ≡ ly
+sided : (word : ℕ) (x y : SrcNodeModel) (at to width : ℕ) (lx ly : Bool) → is_literal x ≡ lx → is_literal y ≡ ly
     → ((asked w : ℕ) → wide word asked at x ≡ Ok w → Wide word asked x w) → ((asked w : ℕ) → wide word asked to y ≡ Ok w → Wide word asked y w)
     → side_by_side lx ly to (wide word word at x) (wide word word to y) (λ w. wide word w at x) (λ w. wide word w to y) ≡ Ok width → Sided word x y width
 sided word x y at to width true false hx hy fx fy e = by (wide word word to y) refl e
@@ -171,7 +171,7 @@ operated_is f width (Err g) k = not_ok g width k
 operated_is f width (Ok v) k = (v, refl, ok_is (f v) width k)
 
 -- an expression whose width the rule tells
-pub wide_is : (word asked here : ℕ) (e : Shape) (width : ℕ) → wide word asked here e ≡ Ok width → Wide word asked e width
+pub wide_is : (word asked here : ℕ) (e : SrcNodeModel) (width : ℕ) → wide word asked here e ≡ Ok width → Wide word asked e width
 wide_is word asked here (num n) width k =
     let c = chosen (nat_lt n (2 ^ asked)) asked here width k in
     let t = c.0 in
@@ -210,25 +210,25 @@ fit_is : (r : Result ℕ ℕ) → misfit r ≡ [] → (width : ℕ) × (r ≡ Ok
 fit_is (Ok width) h = (width, refl)
 fit_is (Err at) h = absurd (cc h)
 
-word_fits : (word at : ℕ) (e : Shape) → misfit (whole word at (wide word word at e)) ≡ [] → FitsWord word e
+word_fits : (word at : ℕ) (e : SrcNodeModel) → misfit (whole word at (wide word word at e)) ≡ [] → FitsWord word e
 word_fits word at e h =
     let f = fit_is (whole word at (wide word word at e)) h in
     let w = whole_is word at f.0 (wide word word at e) f.1 in
     let i = wide_is word word at e word w.0 in
     record { parts = i.parts; width = i.is }
 
-place_fits : (word : ℕ) (place : Place) → misfit (wide word word place.at (place_shape place)) ≡ [] → Fitting word word (place_shape place)
+place_fits : (word : ℕ) (place : SpotModel) → misfit (wide word word place.at (place_shape place)) ≡ [] → Fitting word word (place_shape place)
 place_fits word place h =
     let f = fit_is (wide word word place.at (place_shape place)) h in
     (wide_is word word place.at (place_shape place) f.0 f.1).parts
 
-pub test_fits : (word : ℕ) (left right : Phrase) → misfit (sides word left right) ≡ [] → FitsSides word left.shape right.shape
+pub test_fits : (word : ℕ) (left right : SrcExprModel) → misfit (sides word left right) ≡ [] → FitsSides word left.shape right.shape
 test_fits word left right h =
     let f = fit_is (sides word left right) h in
     (sided word left.shape right.shape left.at right.at f.0 (is_literal left.shape) (is_literal right.shape) refl refl
     (λ a w. wide_is word a left.at left.shape w) (λ a w. wide_is word a right.at right.shape w) f.1).sides
 
-not_broken : (b : Bool) (at : ℕ) → broken b at ≡ [] → b ≡ false
+not_broken : (b : Bool) (at : ℕ) → offsets_if b at ≡ [] → b ≡ false
 not_broken false at h = refl
 not_broken true at h = absurd (cc h)
 
@@ -240,51 +240,51 @@ former_false : (a b : Bool) → (a || b) ≡ false → a ≡ false
 former_false false b h = refl
 former_false true b h = absurd (cc h)
 
-count_fits : (word : ℕ) (round : Round) (body : Acts) → miscounted word round body ≡ false → FitsCount word round.from round.to
+count_fits : (word : ℕ) (round : Round) (body : StmtsModel) → miscounted word round body ≡ false → FitsCount word round.from round.to
 count_fits word round body h =
     let t = later_false (is_some (least (breaks_in (changes_rule round.counter) [] body)) || nat_lt (round.to + 1) round.from) (nat_le (2 ^ word) (round.to + 1)) h in
     let s = later_false (is_some (least (breaks_in (changes_rule round.counter) [] body))) (nat_lt (round.to + 1) round.from) (former_false _ _ h) in
     record { order = grind (arith, nat_tests, s); below = grind (arith, nat_tests, t) }
 
 mutual
-  act_fits : (word : ℕ) (rounds : List Round) (a : Act) → breaks (widths word) rounds a ≡ [] → breaks (counters word) rounds a ≡ [] → FitsAct word a
-  act_fits word rounds (assign place e) h g = let p = append_none _ _ h in (place_fits word place p.0, word_fits word e.at e.shape p.1)
-  act_fits word rounds (choice test taken other) h g =
+  stmt_fits : (word : ℕ) (rounds : List Round) (a : StmtModel) → breaks (widths word) rounds a ≡ [] → breaks (counters word) rounds a ≡ [] → FitsStmt word a
+  stmt_fits word rounds (assign place e) h g = let p = append_none _ _ h in (place_fits word place p.0, word_fits word e.at e.shape p.1)
+  stmt_fits word rounds (choice test taken other) h g =
       let p = append_none (misfit (sides word test.left test.right) ++ breaks_in (widths word) rounds taken) _ h in
       let q = append_none (misfit (sides word test.left test.right)) _ p.0 in
       let r = append_none (breaks_in (counters word) rounds taken) _ g in
-      (test_fits word test.left test.right q.0, acts_fit word rounds taken q.1 r.0, else_fits word rounds other p.1 r.1)
-  act_fits word rounds (while test body) h g =
+      (test_fits word test.left test.right q.0, stmts_fit word rounds taken q.1 r.0, else_fits word rounds other p.1 r.1)
+  stmt_fits word rounds (while test body) h g =
       let p = append_none (misfit (sides word test.left test.right)) _ h in
-      (test_fits word test.left test.right p.0, acts_fit word rounds body p.1 g)
-  act_fits word rounds (count counter at from to body) h g =
+      (test_fits word test.left test.right p.0, stmts_fit word rounds body p.1 g)
+  stmt_fits word rounds (count counter at from to body) h g =
       let here : Round = record { counter = counter; from = from; to = to } in
-      let r = append_none (broken (miscounted word here body) at) _ g in
-      (count_fits word here body (not_broken _ at r.0), acts_fit word (here ∷ rounds) body h r.1)
+      let r = append_none (offsets_if (miscounted word here body) at) _ g in
+      (count_fits word here body (not_broken _ at r.0), stmts_fit word (here ∷ rounds) body h r.1)
 
-  acts_fit : (word : ℕ) (rounds : List Round) (list : Acts) → breaks_in (widths word) rounds list ≡ [] → breaks_in (counters word) rounds list ≡ [] → FitsActs word list
-  acts_fit word rounds no_acts h g = tt
-  acts_fit word rounds (act a rest) h g =
+  stmts_fit : (word : ℕ) (rounds : List Round) (list : StmtsModel) → breaks_in (widths word) rounds list ≡ [] → breaks_in (counters word) rounds list ≡ [] → FitsStmts word list
+  stmts_fit word rounds no_acts h g = tt
+  stmts_fit word rounds (act a rest) h g =
       let p = append_none (breaks (widths word) rounds a) _ h in
       let q = append_none (breaks (counters word) rounds a) _ g in
-      (act_fits word rounds a p.0 q.0, acts_fit word rounds rest p.1 q.1)
+      (stmt_fits word rounds a p.0 q.0, stmts_fit word rounds rest p.1 q.1)
 
-  else_fits : (word : ℕ) (rounds : List Round) (o : Otherwise) → breaks_else (widths word) rounds o ≡ [] → breaks_else (counters word) rounds o ≡ [] → FitsElse word o
+  else_fits : (word : ℕ) (rounds : List Round) (o : ElseModel) → breaks_else (widths word) rounds o ≡ [] → breaks_else (counters word) rounds o ≡ [] → FitsElse word o
   else_fits word rounds without h g = tt
-  else_fits word rounds (otherwise body) h g = acts_fit word rounds body h g
+  else_fits word rounds (otherwise body) h g = stmts_fit word rounds body h g
 
 -- a program that keeps the rules
-pub program_fits : (word : ℕ) (l : Listing) → first_fault word l ≡ None → FitsActs word (acts_of l.body)
+pub program_fits : (word : ℕ) (l : ProgramModel) → first_fault word l ≡ None → FitsStmts word (stmts_of l.body)
 program_fits word l h =
     let r = rules_hold word l h in
-    acts_fit word [] (acts_of l.body) (append_none _ _ r.widths_fit).1 r.counters_kept
+    stmts_fit word [] (stmts_of l.body) (append_none _ _ r.widths_fit).1 r.counters_kept
 
 -- ---- widths of 1 to 64 bits
 
 abbrev pub IsWide : ℕ → Type 0
 IsWide width = (1 ≤ width) × (width ≤ 64)
 
-operands_wide : (word : ℕ) (x y : Shape) (lx ly : Bool) → is_literal x ≡ lx → is_literal y ≡ ly → IsWide word
+operands_wide : (word : ℕ) (x y : SrcNodeModel) (lx ly : Bool) → is_literal x ≡ lx → is_literal y ≡ ly → IsWide word
     → (Fitting word word x → IsWide (shape_width word word x)) → (Fitting word word y → IsWide (shape_width word word y))
     → Fitting word (operand_width word x y) x → Fitting word (operand_width word x y) y → IsWide (operand_width word x y)
 operands_wide word x y true true hx hy w fx fy l r = subst IsWide (sym (literal_width word word y hy) ∙ sym (second_side word x y hx)) w
@@ -306,7 +306,7 @@ result_wide Shr width w = w
 result_wide Sar width w = w
 
 -- an expression that fits has such a width
-pub width_wide : (word asked : ℕ) (e : Shape) → IsWide word → IsWide asked → Fitting word asked e → IsWide (shape_width word asked e)
+pub width_wide : (word asked : ℕ) (e : SrcNodeModel) → IsWide word → IsWide asked → Fitting word asked e → IsWide (shape_width word asked e)
 width_wide word asked (num n) w a f = a
 width_wide word asked (plain name at) w a f = w
 width_wide word asked (element name at to x) w a f = w
@@ -318,5 +318,5 @@ width_wide word asked (sext at x to) w a f = let i = width_wide word word x w w 
 width_wide word asked (low at x to) w a f = let i = width_wide word word x w w f.0 in (f.1, omega (arith, i, f.2))
 
 -- and so have operands
-pub sides_wide : (word : ℕ) (x y : Shape) → IsWide word → Fitting word (operand_width word x y) x → Fitting word (operand_width word x y) y → IsWide (operand_width word x y)
+pub sides_wide : (word : ℕ) (x y : SrcNodeModel) → IsWide word → Fitting word (operand_width word x y) x → Fitting word (operand_width word x y) y → IsWide (operand_width word x y)
 sides_wide word x y w l r = operands_wide word x y (is_literal x) (is_literal y) refl refl w (λ g. width_wide word word x w w g) (λ g. width_wide word word y w w g) l r

@@ -4,13 +4,13 @@ use Rattle.std.specs.Cmp.Derive.{both_true}
 use Rattle.src_model.specs.declared.checkpoint.Checkpoint.{Checkpoint}
 use Rattle.src_model.specs.declared.checkpoint.Checkpoint.TheVariants.{At}
 use Rattle.src_model.specs.declared.program.Var.{Var as Declared}
-use Rattle.src_model.specs.Written.{Phrase, Place, Test, Act, assign, choice, while, count, Acts, no_acts, act, Otherwise, without, otherwise, Listing, acts_of}
+use Rattle.src_model.specs.Written.{SrcExprModel, SpotModel, SrcTestModel, StmtModel, assign, choice, while, count, StmtsModel, no_acts, act, ElseModel, without, otherwise, ProgramModel, stmts_of}
 use Rattle.src_model.specs.Sizes.{statements, statements_in}
 use Rattle.src_model.specs.Loops.{Round, place_shape}
 use Rattle.src_model.specs.Rules.{first_fault}
 use Rattle.src_model.specs.Meaning.{FitsStore, assigned, holds}
 use Rattle.src_model.specs.Ways.{Passed, Onward, pass, choose, turns, loop, finish}
-use Rattle.src_model.specs.Trace.{started, stepped, counting, after_change, run_act, run_in, run_else, strace}
+use Rattle.src_model.specs.Trace.{started, stepped, counting, after_change, run_stmt, run_in, run_else, strace}
 use Rattle.src_model.specs.Inside.{assign_inside, test_inside, if_holds, run_inside, all_inside, else_inside, strace_inside}
 use Rattle.src_model.specs.Inner.Sound.{Holds, Turns, SoundAssign, SoundTest, Sound, SoundIn, SoundElse}
 use Rattle.src_model.proofs.RangeLemmas.{inside}
@@ -58,16 +58,16 @@ loop_agree m label test P body body' k k' keeps h j le cells p = turns_agree j m
 -- ---- statements
 
 module _ (bits : ℕ) (vars : List Declared) where
-  assign_is : (rounds : List Round) (place : Place) (e : Phrase) → SoundAssign bits vars rounds place e → (cells : List ℕ) → Holds bits vars rounds cells → assign_inside bits vars place e cells ≡ true
+  assign_is : (rounds : List Round) (place : SpotModel) (e : SrcExprModel) → SoundAssign bits vars rounds place e → (cells : List ℕ) → Holds bits vars rounds cells → assign_inside bits vars place e cells ≡ true
   assign_is rounds place e f cells h = both_true (inside bits vars cells h.fits.below rounds h.counts bits (place_shape place) f.left.fits f.left.known f.left.within) (inside bits vars cells h.fits.below rounds h.counts bits e.shape f.right.fits f.right.known f.right.within)
 
-  test_is : (rounds : List Round) (test : Test) → SoundTest bits vars rounds test → (cells : List ℕ) → Holds bits vars rounds cells → test_inside bits vars test cells ≡ true
+  test_is : (rounds : List Round) (test : SrcTestModel) → SoundTest bits vars rounds test → (cells : List ℕ) → Holds bits vars rounds cells → test_inside bits vars test cells ≡ true
   test_is rounds test f cells h = both_true (inside bits vars cells h.fits.below rounds h.counts _ test.left.shape f.sides.left f.left_known f.left_within) (inside bits vars cells h.fits.below rounds h.counts _ test.right.shape f.sides.right f.right_known f.right_within)
 
   mutual
-    unfolding run_act run_in run_else run_inside all_inside else_inside
+    unfolding run_stmt run_in run_else run_inside all_inside else_inside
 
-    run_agree : (rounds : List Round) (a : Act) → Sound bits vars rounds a → (tree m : ℕ) (k k' : Onward) → Agree m (Holds bits vars rounds) k k' → Agree m (Holds bits vars rounds) (run_inside bits vars a tree k) (run_act bits vars a tree k')
+    run_agree : (rounds : List Round) (a : StmtModel) → Sound bits vars rounds a → (tree m : ℕ) (k k' : Onward) → Agree m (Holds bits vars rounds) k k' → Agree m (Holds bits vars rounds) (run_inside bits vars a tree k) (run_stmt bits vars a tree k')
     run_agree rounds (assign place e) f tree m k k' h =
         only_agree m (assign_inside bits vars place e) (Holds bits vars rounds) (after_change (assigned bits vars place e) k) (after_change (assigned bits vars place e) k') (assign_is rounds place e f)
         (λ j le cells p. h j le (assigned bits vars place e cells)
@@ -91,17 +91,17 @@ module _ (bits : ℕ) (vars : List Declared) where
         (λ j le cells q. h j le cells q.0.holds)
         j le (started vars counter from cells) (start_turns bits vars rounds counter from to f.0 cells p)
 
-    in_agree : (rounds : List Round) (list : Acts) → SoundIn bits vars rounds list → (tree m : ℕ) (k k' : Onward) → Agree m (Holds bits vars rounds) k k' → Agree m (Holds bits vars rounds) (all_inside bits vars list tree k) (run_in bits vars list tree k')
+    in_agree : (rounds : List Round) (list : StmtsModel) → SoundIn bits vars rounds list → (tree m : ℕ) (k k' : Onward) → Agree m (Holds bits vars rounds) k k' → Agree m (Holds bits vars rounds) (all_inside bits vars list tree k) (run_in bits vars list tree k')
     in_agree rounds no_acts f tree m k k' h = h
     in_agree rounds (act a rest) f tree m k k' h =
         run_agree rounds a f.0 tree m (all_inside bits vars rest (tree + statements a) k) (run_in bits vars rest (tree + statements a) k') (in_agree rounds rest f.1 (tree + statements a) m k k' h)
 
-    else_agree : (rounds : List Round) (o : Otherwise) → SoundElse bits vars rounds o → (tree m : ℕ) (k k' : Onward) → Agree m (Holds bits vars rounds) k k' → Agree m (Holds bits vars rounds) (else_inside bits vars o tree k) (run_else bits vars o tree k')
+    else_agree : (rounds : List Round) (o : ElseModel) → SoundElse bits vars rounds o → (tree m : ℕ) (k k' : Onward) → Agree m (Holds bits vars rounds) k k' → Agree m (Holds bits vars rounds) (else_inside bits vars o tree k) (run_else bits vars o tree k')
     else_agree rounds without f tree m k k' h = h
     else_agree rounds (otherwise body) f tree m k k' h = in_agree rounds body f tree m k k' h
 
 -- ---- programs
 
-pub indexes_inside : (word : ℕ) (l : Listing) → first_fault word l ≡ None → (cells : List ℕ) → FitsStore word l.vars cells → (m : ℕ) → strace_inside word l cells m ≡ strace word l cells m
+pub indexes_inside : (word : ℕ) (l : ProgramModel) → first_fault word l ≡ None → (cells : List ℕ) → FitsStore word l.vars cells → (m : ℕ) → strace_inside word l cells m ≡ strace word l cells m
 indexes_inside word l h cells fits m =
-    in_agree word l.vars [] (acts_of l.body) (program_sound word l h) 0 m finish finish (λ j le cells p. refl) m (omega arith) cells (record { fits = fits; counts = tt })
+    in_agree word l.vars [] (stmts_of l.body) (program_sound word l h) 0 m finish finish (λ j le cells p. refl) m (omega arith) cells (record { fits = fits; counts = tt })

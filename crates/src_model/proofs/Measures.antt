@@ -5,10 +5,10 @@ use Rattle.std.specs.declared.vec.Vec.{Vec}
 use Rattle.src_model.specs.declared.sizes.Sizes.{Sizes}
 use Rattle.src_model.specs.declared.program.Stmt.{Stmt, If, While, For}
 use Rattle.src_model.specs.declared.program.SrcTest.{SrcTest}
-use Rattle.src_model.specs.Written.{Acts, act_of, acts_of, test_of}
+use Rattle.src_model.specs.Written.{StmtsModel, model_of_stmt, stmts_of, model_of_src_test}
 use Rattle.src_model.specs.Sizes.{Root, roots, roots_in, roots_else, start_roots, step_roots, tested_roots, greatest, nodes_of, temps_of, is_word, statements, statements_in, statements_else, measured, together}
 use Rattle.rec_bits.specs.Counts.{capped}
-use Rattle.src_model.proofs.Views.{act_If, act_While, act_For, else_acts}
+use Rattle.src_model.proofs.Views.{stmt_If, stmt_While, stmt_For, else_stmts}
 
 pub greatest_append : (f : Root → ℕ) (xs ys : List Root) → greatest f (xs ++ ys) ≡ max (greatest f xs) (greatest f ys)
 greatest_append f [] ys = omega arith
@@ -23,22 +23,22 @@ measured_append word xs ys n m =
     λ j. record { statements = a j; nodes = b j; temps = d j }
 
 -- the sizes of a block, and of a list of statements
-abbrev pub acts_measured : ℕ → Acts → Sizes
-acts_measured word acts = measured word (roots_in acts) (statements_in acts)
+abbrev pub stmts_measured : ℕ → StmtsModel → Sizes
+stmts_measured word acts = measured word (roots_in acts) (statements_in acts)
 
 abbrev pub list_measured : ℕ → List Stmt → Sizes
-list_measured word list = acts_measured word (acts_of (map act_of list))
+list_measured word list = stmts_measured word (stmts_of (map model_of_stmt list))
 
-abbrev pub act_measured : ℕ → Stmt → Sizes
-act_measured word s = measured word (roots (act_of s)) (statements (act_of s))
+abbrev pub stmt_measured : ℕ → Stmt → Sizes
+stmt_measured word s = measured word (roots (model_of_stmt s)) (statements (model_of_stmt s))
 
 abbrev pub test_measured : ℕ → SrcTest → Sizes
-test_measured word test = measured word (tested_roots (test_of test)) 1
+test_measured word test = measured word (tested_roots (model_of_src_test test)) 1
 
 module _ (word : ℕ) where
-  pub while_measured : (s : Stmt) (test : SrcTest) (body : Vec Stmt Global) → s ≡ While test body → act_measured word s ≡ together (test_measured word test) (list_measured word body.items)
-  while_measured s test body is = ap (λ a. measured word (roots a) (statements a)) (ap act_of is ∙ act_While test body)
-      ∙ measured_append word (tested_roots (test_of test)) (roots_in (acts_of (map act_of body.items))) 1 (statements_in (acts_of (map act_of body.items)))
+  pub while_measured : (s : Stmt) (test : SrcTest) (body : Vec Stmt Global) → s ≡ While test body → stmt_measured word s ≡ together (test_measured word test) (list_measured word body.items)
+  while_measured s test body is = ap (λ a. measured word (roots a) (statements a)) (ap model_of_stmt is ∙ stmt_While test body)
+      ∙ measured_append word (tested_roots (model_of_src_test test)) (roots_in (stmts_of (map model_of_stmt body.items))) 1 (statements_in (stmts_of (map model_of_stmt body.items)))
 
   -- the start, the test and the step of a `for`
   abbrev pub for_sizes : Sizes
@@ -47,7 +47,7 @@ module _ (word : ℕ) where
   same_is_word : (n : ℕ) → is_word n n ≡ 1
   same_is_word n = ap (λ b. if b then 1 else 0) (eq-eqb n n refl)
 
-  for_whole : (counter : List ℕ) (at from to : ℕ) (acts : Acts) → measured word (start_roots counter at from to ++ roots_in acts ++ step_roots counter at) (3 + statements_in acts) ≡ together for_sizes (acts_measured word acts)
+  for_whole : (counter : List ℕ) (at from to : ℕ) (acts : StmtsModel) → measured word (start_roots counter at from to ++ roots_in acts ++ step_roots counter at) (3 + statements_in acts) ≡ together for_sizes (stmts_measured word acts)
   for_whole counter at from to acts =
       let one = same_is_word word in
       let a : capped (3 + statements_in acts) ≡ capped (3 + capped (statements_in acts)) = omega arith in
@@ -57,15 +57,15 @@ module _ (word : ℕ) where
       = omega (arith, one, greatest_append (temps_of word) (roots_in acts) (step_roots counter at)) in
       λ j. record { statements = a j; nodes = b j; temps = d j }
 
-  pub for_measured : (s : Stmt) (counter : List ℕ) (at from to : ℕ) (body : Vec Stmt Global) → s ≡ For counter at from to body → act_measured word s ≡ together for_sizes (list_measured word body.items)
-  for_measured s counter at from to body is = ap (λ a. measured word (roots a) (statements a)) (ap act_of is ∙ act_For counter at from to body)
-      ∙ for_whole counter at from to (acts_of (map act_of body.items))
+  pub for_measured : (s : Stmt) (counter : List ℕ) (at from to : ℕ) (body : Vec Stmt Global) → s ≡ For counter at from to body → stmt_measured word s ≡ together for_sizes (list_measured word body.items)
+  for_measured s counter at from to body is = ap (λ a. measured word (roots a) (statements a)) (ap model_of_stmt is ∙ stmt_For counter at from to body)
+      ∙ for_whole counter at from to (stmts_of (map model_of_stmt body.items))
 
   pub if_measured : (s : Stmt) (test : SrcTest) (taken : Vec Stmt Global) (other : Option (Vec Stmt Global)) → s ≡ If test taken other
-      → act_measured word s ≡ together (together (test_measured word test) (list_measured word taken.items)) (measured word (roots_else (else_acts other)) (statements_else (else_acts other)))
-  if_measured s test taken other is = ap (λ a. measured word (roots a) (statements a)) (ap act_of is ∙ act_If test taken other)
-      ∙ measured_append word (tested_roots (test_of test) ++ roots_in (acts_of (map act_of taken.items))) (roots_else (else_acts other)) (1 + statements_in (acts_of (map act_of taken.items))) (statements_else (else_acts other))
-      ∙ ap (λ m. together m (measured word (roots_else (else_acts other)) (statements_else (else_acts other)))) (measured_append word (tested_roots (test_of test)) (roots_in (acts_of (map act_of taken.items))) 1 (statements_in (acts_of (map act_of taken.items))))
+      → stmt_measured word s ≡ together (together (test_measured word test) (list_measured word taken.items)) (measured word (roots_else (else_stmts other)) (statements_else (else_stmts other)))
+  if_measured s test taken other is = ap (λ a. measured word (roots a) (statements a)) (ap model_of_stmt is ∙ stmt_If test taken other)
+      ∙ measured_append word (tested_roots (model_of_src_test test) ++ roots_in (stmts_of (map model_of_stmt taken.items))) (roots_else (else_stmts other)) (1 + statements_in (stmts_of (map model_of_stmt taken.items))) (statements_else (else_stmts other))
+      ∙ ap (λ m. together m (measured word (roots_else (else_stmts other)) (statements_else (else_stmts other)))) (measured_append word (tested_roots (model_of_src_test test)) (roots_in (stmts_of (map model_of_stmt taken.items))) 1 (statements_in (stmts_of (map model_of_stmt taken.items))))
 
   -- nothing more adds nothing
   pub without_more : (xs ys : Sizes) → together xs ys ≡ together (together xs ys) (measured word [] 0)

@@ -9,13 +9,13 @@ use Rattle.std.proofs.Math.Nat.{mul-le-mul_right}
 use borrow.Author.Differences.{up, down}
 use Rattle.rec_bits.proofs.Booleans.{both}
 use Rattle.rec_bits.specs.declared.ranges.Range.{Range}
-use Rattle.rec_bits.specs.Faults.{broken}
+use Rattle.rec_bits.specs.Faults.{offsets_if}
 use Rattle.rec_bits.specs.Operators.{apply2_of, result_width}
 use Rattle.rec_bits.specs.declared.operator.Op2.{Op2}
 use Rattle.rec_bits.specs.declared.operator.Op2.TheVariants.{Add, Sub, Mul, And, Or, Xor, Shl, Shr, Sar, Eq, Ltu, Lts}
 use Rattle.rec_bits.specs.Ranges.{is_range_end, range_of}
 use Rattle.src_model.specs.declared.program.Var.{Var as Declared}
-use Rattle.src_model.specs.Written.{Shape, num, plain, element, un as un_of, bin as bin_of, zext as zext_of, sext as sext_of, low}
+use Rattle.src_model.specs.Written.{SrcNodeModel, num, plain, element, un as un_of, bin as bin_of, zext as zext_of, sext as sext_of, low}
 use Rattle.src_model.specs.Names.{declared}
 use Rattle.rec_bits.specs.Faults.{same_name}
 use Rattle.src_model.specs.Loops.{Round}
@@ -217,7 +217,7 @@ pub append_none : (xs ys : List ℕ) → xs ++ ys ≡ [] → (xs ≡ []) × (ys 
 append_none [] ys h = (refl, h)
 append_none (x ∷ xs) ys h = absurd (cc h)
 
-pub kept : (b : Bool) (at : ℕ) → broken (not b) at ≡ [] → b ≡ true
+pub kept : (b : Bool) (at : ℕ) → offsets_if (not b) at ≡ [] → b ≡ true
 kept true at h = refl
 kept false at h = absurd (cc h)
 
@@ -234,7 +234,7 @@ module _ (bits : ℕ) (vars : List Declared) (cells : List ℕ) (words : (cell :
           (subst (λ x. Ranged (between round.from (max round.from round.to)) P (counter_value vars x cells)) s (exactly round.from (max round.from round.to) P (counter_value vars round.counter cells) c.0.least (let l = c.0.most in omega (arith, l))))
       by more false is e = more e
 
-  ranged : (x : Shape) (range : Range) → Fitting bits bits x → shape_width bits bits x ≡ bits → index_range rounds x ≡ Some range → Ranged range (2 ^ bits) (shape_value bits vars cells bits x)
+  ranged : (x : SrcNodeModel) (range : Range) → Fitting bits bits x → shape_width bits bits x ≡ bits → index_range rounds x ≡ Some range → Ranged range (2 ^ bits) (shape_value bits vars cells bits x)
   ranged (num n) range f w e = at_range (between n n) range (2 ^ bits) n e (exactly n n (2 ^ bits) n (omega arith) (omega arith))
   ranged (plain name at) range f w e = counted (2 ^ bits) rounds counts name range e
   ranged (bin_of op at x to y) range f w e =
@@ -256,7 +256,7 @@ module _ (bits : ℕ) (vars : List Declared) (cells : List ℕ) (words : (cell :
 
   -- the indexes of an expression that keeps the rule lie in their arrays, where the loops' counters
   -- lie in their ranges
-  pub inside : (asked : ℕ) (e : Shape) → Fitting bits asked e → Known vars e → loose vars rounds e ≡ [] → is_inside bits vars cells e ≡ true
+  pub inside : (asked : ℕ) (e : SrcNodeModel) → Fitting bits asked e → Known vars e → loose vars rounds e ≡ [] → is_inside bits vars cells e ≡ true
   inside asked (num n) f k h = refl
   inside asked (plain name at) f k h = refl
   inside asked (element name at to x) f k h =

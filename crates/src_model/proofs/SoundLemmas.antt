@@ -1,22 +1,22 @@
 -- A program that keeps its rules: what is known of each of its statements.
 use Rattle.std.proofs.Common.{ℕ, ◌≡◌, ◌+◌, ◌^◌, Bool, true, false, not, ◌||◌, is_some, nat_lt, nat_le, List, [], ◌∷◌, ◌++◌, Option, Some, None, refl}
-use Rattle.rec_bits.specs.Faults.{broken, least}
+use Rattle.rec_bits.specs.Faults.{offsets_if, least}
 use Rattle.rec_bits.proofs.Faults.{least_none}
 use Rattle.src_model.specs.declared.program.Var.{Var as Declared}
-use Rattle.src_model.specs.Written.{Shape, num, plain, element, un as un_of, bin as bin_of, zext as zext_of, sext as sext_of, low, Act, assign, choice, while, count, Acts, no_acts, act, Otherwise, without, otherwise, Listing, acts_of}
+use Rattle.src_model.specs.Written.{SrcNodeModel, num, plain, element, un as un_of, bin as bin_of, zext as zext_of, sext as sext_of, low, StmtModel, assign, choice, while, count, StmtsModel, no_acts, act, ElseModel, without, otherwise, ProgramModel, stmts_of}
 use Rattle.src_model.specs.Names.{declared, is_plain, unknown}
 use Rattle.rec_bits.specs.Faults.{same_name}
 use Rattle.src_model.specs.Indexes.{loose}
 use Rattle.src_model.specs.Loops.{Round, place_shape, breaks, breaks_in, breaks_else, changes_rule, miscounted, counters}
 use Rattle.src_model.specs.Rules.{names, indexes, first_fault}
-use Rattle.src_model.specs.Inner.Fitting.{FitsAct, FitsActs, FitsElse}
+use Rattle.src_model.specs.Inner.Fitting.{FitsStmt, FitsStmts, FitsElse}
 use Rattle.src_model.proofs.Bounds.{rules_hold}
 use Rattle.src_model.proofs.FittingLemmas.{program_fits}
 use Rattle.src_model.specs.Inside.{Known}
 use Rattle.src_model.specs.Inner.Sound.{Frees, Sound, SoundIn, SoundElse}
 use Rattle.src_model.proofs.RangeLemmas.{append_none, kept}
 
-not_broken : (b : Bool) (at : ℕ) → broken b at ≡ [] → b ≡ false
+not_broken : (b : Bool) (at : ℕ) → offsets_if b at ≡ [] → b ≡ false
 not_broken false at h = refl
 not_broken true at h = absurd (cc h)
 
@@ -31,7 +31,7 @@ no_least xs h = by (least xs) refl h
     by None e h = least_none xs e
     by (Some n) e h = absurd (cc h)
 
-known_of : (vars : List Declared) (e : Shape) → unknown vars e ≡ [] → Known vars e
+known_of : (vars : List Declared) (e : SrcNodeModel) → unknown vars e ≡ [] → Known vars e
 known_of vars (num n) h = tt
 known_of vars (plain name at) h = kept _ at h
 known_of vars (element name at to x) h = let p = append_none _ _ h in (kept _ at p.0, known_of vars x p.1)
@@ -56,7 +56,7 @@ frees name g f [] u = tt
 frees name g f (round ∷ outer) u = (f round.counter u.0.0 u.0.1, frees name g f outer u.1)
 
 mutual
-  sound : (bits : ℕ) (vars : List Declared) (rounds : List Round) (a : Act) → FitsAct bits a → breaks (names vars) rounds a ≡ [] → breaks (indexes vars) rounds a ≡ [] → breaks (counters bits) rounds a ≡ []
+  sound : (bits : ℕ) (vars : List Declared) (rounds : List Round) (a : StmtModel) → FitsStmt bits a → breaks (names vars) rounds a ≡ [] → breaks (indexes vars) rounds a ≡ [] → breaks (counters bits) rounds a ≡ []
       → Untouched (λ name some. breaks (changes_rule name) some a) rounds → Sound bits vars rounds a
   sound bits vars rounds (assign place e) f n i c u =
       let p = append_none _ _ n in
@@ -92,22 +92,22 @@ mutual
       )
   sound bits vars rounds (count counter at from to body) f n i c u =
       let here : Round = record { counter = counter; from = from; to = to } in
-      let p = append_none (broken (not (is_plain (declared vars counter))) at) _ n in
-      let r = append_none (broken (miscounted bits here body) at) _ c in
+      let p = append_none (offsets_if (not (is_plain (declared vars counter))) at) _ n in
+      let r = append_none (offsets_if (miscounted bits here body) at) _ c in
       let m = former_false (is_some (least (breaks_in (changes_rule counter) [] body))) (nat_lt (to + 1) from) (former_false _ (nat_le (2 ^ bits) (to + 1)) (not_broken _ at r.0)) in (
         record {
           fits = f.0;
           plain = kept _ at p.0;
-          free = frees counter (λ name some. breaks (changes_rule name) some (count counter at from to body)) (λ name some h. not_broken _ at (append_none (broken (same_name counter name) at) _ h).0) rounds u;
+          free = frees counter (λ name some. breaks (changes_rule name) some (count counter at from to body)) (λ name some h. not_broken _ at (append_none (offsets_if (same_name counter name) at) _ h).0) rounds u;
         },
         sound_in bits vars (here ∷ rounds) body f.1 p.1 i r.1 (
           ([], no_least _ m),
           untouched_part (λ name some. breaks (changes_rule name) some (count counter at from to body)) (λ name some. breaks_in (changes_rule name) some body)
-              (λ name some h. (here ∷ some, (append_none (broken (same_name counter name) at) _ h).1)) rounds u,
+              (λ name some h. (here ∷ some, (append_none (offsets_if (same_name counter name) at) _ h).1)) rounds u,
         ),
       )
 
-  sound_in : (bits : ℕ) (vars : List Declared) (rounds : List Round) (list : Acts) → FitsActs bits list → breaks_in (names vars) rounds list ≡ [] → breaks_in (indexes vars) rounds list ≡ [] → breaks_in (counters bits) rounds list ≡ []
+  sound_in : (bits : ℕ) (vars : List Declared) (rounds : List Round) (list : StmtsModel) → FitsStmts bits list → breaks_in (names vars) rounds list ≡ [] → breaks_in (indexes vars) rounds list ≡ [] → breaks_in (counters bits) rounds list ≡ []
       → Untouched (λ name some. breaks_in (changes_rule name) some list) rounds → SoundIn bits vars rounds list
   sound_in bits vars rounds no_acts f n i c u = tt
   sound_in bits vars rounds (act a rest) f n i c u =
@@ -120,13 +120,13 @@ mutual
             (untouched_part (λ name some. breaks_in (changes_rule name) some (act a rest)) (λ name some. breaks_in (changes_rule name) some rest) (λ name some h. (some, (append_none (breaks (changes_rule name) some a) _ h).1)) rounds u),
       )
 
-  sound_else : (bits : ℕ) (vars : List Declared) (rounds : List Round) (o : Otherwise) → FitsElse bits o → breaks_else (names vars) rounds o ≡ [] → breaks_else (indexes vars) rounds o ≡ [] → breaks_else (counters bits) rounds o ≡ []
+  sound_else : (bits : ℕ) (vars : List Declared) (rounds : List Round) (o : ElseModel) → FitsElse bits o → breaks_else (names vars) rounds o ≡ [] → breaks_else (indexes vars) rounds o ≡ [] → breaks_else (counters bits) rounds o ≡ []
       → Untouched (λ name some. breaks_else (changes_rule name) some o) rounds → SoundElse bits vars rounds o
   sound_else bits vars rounds without f n i c u = tt
   sound_else bits vars rounds (otherwise body) f n i c u = sound_in bits vars rounds body f n i c u
 
 -- a program that keeps the rules
-pub program_sound : (bits : ℕ) (l : Listing) → first_fault bits l ≡ None → SoundIn bits l.vars [] (acts_of l.body)
+pub program_sound : (bits : ℕ) (l : ProgramModel) → first_fault bits l ≡ None → SoundIn bits l.vars [] (stmts_of l.body)
 program_sound bits l h =
     let r = rules_hold bits l h in
-    sound_in bits l.vars [] (acts_of l.body) (program_fits bits l h) r.names_known r.indexes_within r.counters_kept tt
+    sound_in bits l.vars [] (stmts_of l.body) (program_fits bits l h) r.names_known r.indexes_within r.counters_kept tt

@@ -3,24 +3,24 @@
 use Rattle.std.proofs.Common.{ℕ, ◌+◌, List}
 use Rattle.src_model.specs.declared.checkpoint.Checkpoint.TheVariants.{At}
 use Rattle.src_model.specs.declared.program.Var.{Var as Declared}
-use Rattle.src_model.specs.Written.{Act, assign, choice, while, count, Acts, no_acts, act, Otherwise, without, otherwise}
+use Rattle.src_model.specs.Written.{StmtModel, assign, choice, while, count, StmtsModel, no_acts, act, ElseModel, without, otherwise}
 use Rattle.src_model.specs.Sizes.{statements, statements_in}
 use Rattle.src_model.specs.Ways.{Onward, choose, loop}
 use Rattle.src_model.specs.Meaning.{assigned, holds}
-use Rattle.src_model.specs.Trace.{started, stepped, counting, after_change, run_act, run_in, run_else}
+use Rattle.src_model.specs.Trace.{started, stepped, counting, after_change, run_stmt, run_in, run_else}
 use Rattle.src_model.proofs.WayLemmas.{Agree, Keeps, pass_agree_here, choose_agree, loop_agree, Whole, pass_whole, choose_whole, whole_less, loop_whole, Steady, pass_steady, choose_steady, steady_less, loop_steady}
 
 pub after_agree : (m : ℕ) (change : List ℕ → List ℕ) (k k' : Onward) → Agree m k k' → Agree m (after_change change k) (after_change change k')
 after_agree m change k k' h j le cells = h j le (change cells)
 
 -- the body of a `for`: its statements, and then the step
-abbrev pub counted_body : ℕ → List Declared → List ℕ → Acts → ℕ → Onward → Onward
+abbrev pub counted_body : ℕ → List Declared → List ℕ → StmtsModel → ℕ → Onward → Onward
 counted_body word vars counter body tree again = run_in word vars body tree (after_change (stepped word vars counter) again)
 
 mutual
-  unfolding run_act run_in run_else
+  unfolding run_stmt run_in run_else
 
-  pub run_agree : (word : ℕ) (vars : List Declared) (a : Act) (tree m : ℕ) (k k' : Onward) → Agree m k k' → Agree m (run_act word vars a tree k) (run_act word vars a tree k')
+  pub run_agree : (word : ℕ) (vars : List Declared) (a : StmtModel) (tree m : ℕ) (k k' : Onward) → Agree m k k' → Agree m (run_stmt word vars a tree k) (run_stmt word vars a tree k')
   run_agree word vars (assign place e) tree m k k' h = after_agree m (assigned word vars place e) k k' h
   run_agree word vars (choice test taken other) tree m k k' h =
       pass_agree_here m (At tree)
@@ -38,19 +38,19 @@ mutual
       (loop_agree m (At (tree + 1)) (counting vars counter to) (counted_body word vars counter body (tree + 2)) k k'
       (λ i r r' a. in_agree word vars body (tree + 2) i (after_change (stepped word vars counter) r) (after_change (stepped word vars counter) r') (after_agree i (stepped word vars counter) r r' a)) h)
 
-  pub in_agree : (word : ℕ) (vars : List Declared) (list : Acts) (tree m : ℕ) (k k' : Onward) → Agree m k k' → Agree m (run_in word vars list tree k) (run_in word vars list tree k')
+  pub in_agree : (word : ℕ) (vars : List Declared) (list : StmtsModel) (tree m : ℕ) (k k' : Onward) → Agree m k k' → Agree m (run_in word vars list tree k) (run_in word vars list tree k')
   in_agree word vars no_acts tree m k k' h = h
   in_agree word vars (act a rest) tree m k k' h =
       run_agree word vars a tree m (run_in word vars rest (tree + statements a) k) (run_in word vars rest (tree + statements a) k') (in_agree word vars rest (tree + statements a) m k k' h)
 
-  pub else_agree : (word : ℕ) (vars : List Declared) (o : Otherwise) (tree m : ℕ) (k k' : Onward) → Agree m k k' → Agree m (run_else word vars o tree k) (run_else word vars o tree k')
+  pub else_agree : (word : ℕ) (vars : List Declared) (o : ElseModel) (tree m : ℕ) (k k' : Onward) → Agree m k k' → Agree m (run_else word vars o tree k) (run_else word vars o tree k')
   else_agree word vars without tree m k k' h = h
   else_agree word vars (otherwise body) tree m k k' h = in_agree word vars body tree m k k' h
 
-pub body_keeps : (word : ℕ) (vars : List Declared) (body : Acts) (tree : ℕ) → Keeps (run_in word vars body tree)
+pub body_keeps : (word : ℕ) (vars : List Declared) (body : StmtsModel) (tree : ℕ) → Keeps (run_in word vars body tree)
 body_keeps word vars body tree m k k' h = in_agree word vars body tree m k k' h
 
-pub counted_keeps : (word : ℕ) (vars : List Declared) (counter : List ℕ) (body : Acts) (tree : ℕ) → Keeps (counted_body word vars counter body tree)
+pub counted_keeps : (word : ℕ) (vars : List Declared) (counter : List ℕ) (body : StmtsModel) (tree : ℕ) → Keeps (counted_body word vars counter body tree)
 counted_keeps word vars counter body tree m k k' h =
     in_agree word vars body tree m (after_change (stepped word vars counter) k) (after_change (stepped word vars counter) k') (after_agree m (stepped word vars counter) k k' h)
 
@@ -60,9 +60,9 @@ after_whole : (m : ℕ) (change : List ℕ → List ℕ) (k : Onward) → Whole 
 after_whole m change k h j le cells = h j le (change cells)
 
 mutual
-  unfolding run_act run_in run_else
+  unfolding run_stmt run_in run_else
 
-  run_whole : (word : ℕ) (vars : List Declared) (a : Act) (tree m : ℕ) (k : Onward) → Whole m k → Whole m (run_act word vars a tree k)
+  run_whole : (word : ℕ) (vars : List Declared) (a : StmtModel) (tree m : ℕ) (k : Onward) → Whole m k → Whole m (run_stmt word vars a tree k)
   run_whole word vars (assign place e) tree m k h = after_whole m (assigned word vars place e) k h
   run_whole word vars (choice test taken other) tree m k h =
       let chosen : Onward = choose (holds word vars test) (run_in word vars taken (tree + 1) k) (run_else word vars other (tree + 1 + statements_in taken) k) in
@@ -77,11 +77,11 @@ mutual
       (loop_whole m (At (tree + 1)) (counting vars counter to) (counted_body word vars counter body (tree + 2)) k (counted_keeps word vars counter body (tree + 2))
       (λ i r a. in_whole word vars body (tree + 2) i (after_change (stepped word vars counter) r) (after_whole i (stepped word vars counter) r a)) h)
 
-  pub in_whole : (word : ℕ) (vars : List Declared) (list : Acts) (tree m : ℕ) (k : Onward) → Whole m k → Whole m (run_in word vars list tree k)
+  pub in_whole : (word : ℕ) (vars : List Declared) (list : StmtsModel) (tree m : ℕ) (k : Onward) → Whole m k → Whole m (run_in word vars list tree k)
   in_whole word vars no_acts tree m k h = h
   in_whole word vars (act a rest) tree m k h = run_whole word vars a tree m (run_in word vars rest (tree + statements a) k) (in_whole word vars rest (tree + statements a) m k h)
 
-  else_whole : (word : ℕ) (vars : List Declared) (o : Otherwise) (tree m : ℕ) (k : Onward) → Whole m k → Whole m (run_else word vars o tree k)
+  else_whole : (word : ℕ) (vars : List Declared) (o : ElseModel) (tree m : ℕ) (k : Onward) → Whole m k → Whole m (run_else word vars o tree k)
   else_whole word vars without tree m k h = h
   else_whole word vars (otherwise body) tree m k h = in_whole word vars body tree m k h
 
@@ -91,9 +91,9 @@ after_steady : (m : ℕ) (change : List ℕ → List ℕ) (k : Onward) → Stead
 after_steady m change k h j le cells = h j le (change cells)
 
 mutual
-  unfolding run_act run_in run_else
+  unfolding run_stmt run_in run_else
 
-  run_steady : (word : ℕ) (vars : List Declared) (a : Act) (tree m : ℕ) (k : Onward) → Steady m k → Steady m (run_act word vars a tree k)
+  run_steady : (word : ℕ) (vars : List Declared) (a : StmtModel) (tree m : ℕ) (k : Onward) → Steady m k → Steady m (run_stmt word vars a tree k)
   run_steady word vars (assign place e) tree m k h = after_steady m (assigned word vars place e) k h
   run_steady word vars (choice test taken other) tree m k h =
       let chosen : Onward = choose (holds word vars test) (run_in word vars taken (tree + 1) k) (run_else word vars other (tree + 1 + statements_in taken) k) in
@@ -108,10 +108,10 @@ mutual
       (loop_steady m (At (tree + 1)) (counting vars counter to) (counted_body word vars counter body (tree + 2)) k (counted_keeps word vars counter body (tree + 2))
       (λ i r a. in_steady word vars body (tree + 2) i (after_change (stepped word vars counter) r) (after_steady i (stepped word vars counter) r a)) h)
 
-  pub in_steady : (word : ℕ) (vars : List Declared) (list : Acts) (tree m : ℕ) (k : Onward) → Steady m k → Steady m (run_in word vars list tree k)
+  pub in_steady : (word : ℕ) (vars : List Declared) (list : StmtsModel) (tree m : ℕ) (k : Onward) → Steady m k → Steady m (run_in word vars list tree k)
   in_steady word vars no_acts tree m k h = h
   in_steady word vars (act a rest) tree m k h = run_steady word vars a tree m (run_in word vars rest (tree + statements a) k) (in_steady word vars rest (tree + statements a) m k h)
 
-  else_steady : (word : ℕ) (vars : List Declared) (o : Otherwise) (tree m : ℕ) (k : Onward) → Steady m k → Steady m (run_else word vars o tree k)
+  else_steady : (word : ℕ) (vars : List Declared) (o : ElseModel) (tree m : ℕ) (k : Onward) → Steady m k → Steady m (run_else word vars o tree k)
   else_steady word vars without tree m k h = h
   else_steady word vars (otherwise body) tree m k h = in_steady word vars body tree m k h

@@ -4,12 +4,12 @@ use Rattle.std.proofs.lemmas.Nat.{pow_pos, mod_below}
 use Rattle.std.proofs.Math.Nat.{pow-le-pow_right}
 use Rattle.rec_bits.proofs.Fits.{apply1_fits, apply2_fits, sext_below}
 use Rattle.src_model.specs.declared.program.Var.{Var as Declared}
-use Rattle.src_model.specs.Written.{Shape, num, plain, element, un as un_of, bin as bin_of, zext as zext_of, sext as sext_of, low}
+use Rattle.src_model.specs.Written.{SrcNodeModel, num, plain, element, un as un_of, bin as bin_of, zext as zext_of, sext as sext_of, low}
 use Rattle.src_model.specs.Indexes.{number_of}
 use Rattle.src_model.specs.Meaning.{shape_width, operand_width, shape_value, first_cell}
 use Rattle.src_model.specs.Fitting.{Fitting}
 
-pub value_fits : (bits : ℕ) (vars : List Declared) (cells : List ℕ) → ((cell : ℕ) → slice_index cells cell < 2 ^ bits) → (asked : ℕ) (e : Shape) → Fitting bits asked e → shape_value bits vars cells asked e < 2 ^ shape_width bits asked e
+pub value_fits : (bits : ℕ) (vars : List Declared) (cells : List ℕ) → ((cell : ℕ) → slice_index cells cell < 2 ^ bits) → (asked : ℕ) (e : SrcNodeModel) → Fitting bits asked e → shape_value bits vars cells asked e < 2 ^ shape_width bits asked e
 value_fits bits vars cells words asked (num n) f = f
 value_fits bits vars cells words asked (plain name at) f = words (first_cell vars name)
 value_fits bits vars cells words asked (element name at to x) f = words (first_cell vars name + shape_value bits vars cells bits x)
@@ -26,7 +26,7 @@ value_fits bits vars cells words asked (sext_of at x width) f =
     sext_below (shape_value bits vars cells bits x) (shape_width bits bits x) width (omega (arith, f.1)) (value_fits bits vars cells words bits x f.0)
 value_fits bits vars cells words asked (low at x width) f = mod_below _ _ (pow_pos width)
 
-pub number_value : (bits : ℕ) (vars : List Declared) (cells : List ℕ) (x : Shape) (n : ℕ) → number_of x ≡ Some n → shape_value bits vars cells bits x ≡ n
+pub number_value : (bits : ℕ) (vars : List Declared) (cells : List ℕ) (x : SrcNodeModel) (n : ℕ) → number_of x ≡ Some n → shape_value bits vars cells bits x ≡ n
 number_value bits vars cells (num k) n e = cc
 number_value bits vars cells (plain name at) n e = absurd (cc e)
 number_value bits vars cells (element name at to x) n e = absurd (cc e)

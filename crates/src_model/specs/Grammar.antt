@@ -18,7 +18,7 @@ use Rattle.src_model.specs.declared.words.Call.{Call}
 use Rattle.src_model.specs.declared.words.Call.TheVariants.{Zext, Sext, Low}
 use Rattle.src_model.specs.declared.words.Symbol.{Symbol}
 use Rattle.src_model.specs.declared.words.Symbol.TheVariants.{Equals, Semicolon, Comma, Tilde, LeftParen, RightParen, LeftBrace, RightBrace, LeftBracket, RightBracket, Var, If, Else, While, For, To}
-use Rattle.src_model.specs.Written.{Shape, num, un, bin, zext, sext, low, Phrase, Place, shape_at, Test, Act, assign, choice, while, count, acts_of, other_of, Listing}
+use Rattle.src_model.specs.Written.{SrcNodeModel, num, un, bin, zext, sext, low, SrcExprModel, SpotModel, node_at, SrcTestModel, StmtModel, assign, choice, while, count, stmts_of, else_of, ProgramModel}
 
 -- ---- tokens
 
@@ -55,52 +55,52 @@ abbrev pub op_at : ℕ → Lexed → Option Op2
 op_at k t = op_of k t.word
 
 -- an operator with its operands begins where the left one does
-abbrev pub join : Phrase → Op2 → Phrase → Phrase
+abbrev pub join : SrcExprModel → Op2 → SrcExprModel → SrcExprModel
 join a op b = record { at = a.at; shape = bin op a.at a.shape b.at b.shape }
 
 -- ---- expressions: U stands for what a sign takes, E for what stands in brackets, parentheses
 -- and calls
 
 -- [ '[' Expr ']' ]
-abbrev pub IsIndex : (List Lexed → Phrase → Type 0) → List Lexed → Option Phrase → Type 0
+abbrev pub IsIndex : (List Lexed → SrcExprModel → Type 0) → List Lexed → Option SrcExprModel → Type 0
 IsIndex E = Maybe (Behind LeftBracket (Before E RightBracket))
 
 -- the part of a place behind its name
-abbrev pub PlaceBehind : (List Lexed → Phrase → Type 0) → List ℕ → ℕ → List Lexed → Place → Type 0
+abbrev pub PlaceBehind : (List Lexed → SrcExprModel → Type 0) → List ℕ → ℕ → List Lexed → SpotModel → Type 0
 PlaceBehind E name at = do
   index ← IsIndex E
   Return (record { name = name; at = at; index = index })
 
-abbrev pub placed : Place → Phrase
-placed p = record { at = p.at; shape = shape_at p.name p.at p.index }
+abbrev pub placed : SpotModel → SrcExprModel
+placed p = record { at = p.at; shape = node_at p.name p.at p.index }
 
 -- the operand of a sign that stands at `at`
-abbrev pub Signed : (List Lexed → Phrase → Type 0) → Op1 → ℕ → List Lexed → Phrase → Type 0
+abbrev pub Signed : (List Lexed → SrcExprModel → Type 0) → Op1 → ℕ → List Lexed → SrcExprModel → Type 0
 Signed U op at = do
   a ← U
   Return (record { at = at; shape = un op a.at a.shape })
 
 -- an expression in parentheses begins where they do
-abbrev pub Enclosed : (List Lexed → Phrase → Type 0) → ℕ → List Lexed → Phrase → Type 0
+abbrev pub Enclosed : (List Lexed → SrcExprModel → Type 0) → ℕ → List Lexed → SrcExprModel → Type 0
 Enclosed E at = do
   a ← Before E RightParen
   Return (record { at = at; shape = a.shape })
 
-abbrev pub called : Call → Phrase → ℕ → Shape
+abbrev pub called : Call → SrcExprModel → ℕ → SrcNodeModel
 called Zext a n = zext a.at a.shape n
 called Sext a n = sext a.at a.shape n
 called Low a n = low a.at a.shape n
 
 -- '(' Expr ',' number ')'
-abbrev pub Called : (List Lexed → Phrase → Type 0) → Call → ℕ → List Lexed → Phrase → Type 0
+abbrev pub Called : (List Lexed → SrcExprModel → Type 0) → Call → ℕ → List Lexed → SrcExprModel → Type 0
 Called E call at = do
   a ← Behind LeftParen E
   n ← Before (Behind Comma IsNumber) RightParen
   Return (record { at = at; shape = called call a n })
 
 -- Unary and Primary, by the first word
-abbrev pub UnaryBehind : (List Lexed → Phrase → Type 0) → (List Lexed → Phrase → Type 0) → Word →
-    ℕ → List Lexed → Phrase → Type 0
+abbrev pub UnaryBehind : (List Lexed → SrcExprModel → Type 0) → (List Lexed → SrcExprModel → Type 0) → Word →
+    ℕ → List Lexed → SrcExprModel → Type 0
 UnaryBehind U E (Number n) at = Return (record { at = at; shape = num n })
 UnaryBehind U E (Name name) at = do
   place ← PlaceBehind E name at
@@ -112,24 +112,24 @@ UnaryBehind U E (Keyed (Calls call)) at = Called E call at
 UnaryBehind U E _ at = IsNothing
 
 -- chains of the operators up to a rank, over what an operand is; they group to the left
-abbrev pub Chains : ℕ → (List Lexed → Phrase → Type 0) → List Lexed → Phrase → Type 0
+abbrev pub Chains : ℕ → (List Lexed → SrcExprModel → Type 0) → List Lexed → SrcExprModel → Type 0
 Chains zero U = U
 Chains (suc k) U = Chain (Chains k U) (op_at (suc k)) join
 
-unfoldable pub IsUnary : ℕ → List Lexed → Phrase → Type 0
+unfoldable pub IsUnary : ℕ → List Lexed → SrcExprModel → Type 0
 IsUnary zero = ByWord (UnaryBehind IsNothing IsNothing)
 IsUnary (suc levels) = ByWord (UnaryBehind (IsUnary levels) (Chains 6 (IsUnary levels)))
 
-abbrev pub IsExpr : ℕ → List Lexed → Phrase → Type 0
+abbrev pub IsExpr : ℕ → List Lexed → SrcExprModel → Type 0
 IsExpr levels = Chains 6 (IsUnary levels)
 
 -- an expression that isn't inside another one
-abbrev pub IsOuter : ℕ → List Lexed → Phrase → Type 0
+abbrev pub IsOuter : ℕ → List Lexed → SrcExprModel → Type 0
 IsOuter levels = Within 1024 (IsExpr levels)
 
 -- ---- statements: B stands for a block
 
-abbrev pub IsTest : ℕ → List Lexed → Test → Type 0
+abbrev pub IsTest : ℕ → List Lexed → SrcTestModel → Type 0
 IsTest levels = do
   left ← IsOuter levels
   cmp ← IsCmp
@@ -137,47 +137,47 @@ IsTest levels = do
   Return (record { cmp = cmp; left = left; right = right })
 
 -- what stands in the bracket of an assigned place, which is a level itself
-abbrev pub IsInner : ℕ → List Lexed → Phrase → Type 0
+abbrev pub IsInner : ℕ → List Lexed → SrcExprModel → Type 0
 IsInner zero = IsNothing
 IsInner (suc levels) = IsOuter levels
 
 -- [ 'else' Block ]
-abbrev pub IsElse : (List Lexed → List Act → Type 0) → List Lexed → Option (List Act) → Type 0
+abbrev pub IsElse : (List Lexed → List StmtModel → Type 0) → List Lexed → Option (List StmtModel) → Type 0
 IsElse B = Maybe (Behind Else B)
 
 -- a statement, by its first word
-abbrev pub ActBehind : ℕ → (List Lexed → List Act → Type 0) → Word → ℕ → List Lexed → Act → Type 0
-ActBehind levels B (Name name) at = do
+abbrev pub StmtBehind : ℕ → (List Lexed → List StmtModel → Type 0) → Word → ℕ → List Lexed → StmtModel → Type 0
+StmtBehind levels B (Name name) at = do
   place ← PlaceBehind (IsInner levels) name at
   value ← Behind Equals (Before (IsOuter levels) Semicolon)
   Return (assign place value)
-ActBehind levels B (Shows If) at = do
+StmtBehind levels B (Shows If) at = do
   test ← IsTest levels
   taken ← B
   other ← IsElse B
-  Return (choice test (acts_of taken) (other_of other))
-ActBehind levels B (Shows While) at = do
+  Return (choice test (stmts_of taken) (else_of other))
+StmtBehind levels B (Shows While) at = do
   test ← IsTest levels
   body ← B
-  Return (while test (acts_of body))
-ActBehind levels B (Shows For) at = do
+  Return (while test (stmts_of body))
+StmtBehind levels B (Shows For) at = do
   counter ← IsName
   from ← Behind Equals IsNumber
   to ← Behind To IsNumber
   body ← B
-  Return (count counter.name counter.at from to (acts_of body))
-ActBehind levels B _ at = IsNothing
+  Return (count counter.name counter.at from to (stmts_of body))
+StmtBehind levels B _ at = IsNothing
 
 -- '{' { Stmt } '}'
-unfoldable pub IsBlock : ℕ → List Lexed → List Act → Type 0
+unfoldable pub IsBlock : ℕ → List Lexed → List StmtModel → Type 0
 IsBlock zero = IsNothing
-IsBlock (suc levels) = Behind LeftBrace (Before (ListOf (ByWord (ActBehind levels (IsBlock levels)))) RightBrace)
+IsBlock (suc levels) = Behind LeftBrace (Before (ListOf (ByWord (StmtBehind levels (IsBlock levels)))) RightBrace)
 
-abbrev pub IsAct : ℕ → List Lexed → Act → Type 0
-IsAct levels = ByWord (ActBehind levels (IsBlock levels))
+abbrev pub IsStmt : ℕ → List Lexed → StmtModel → Type 0
+IsStmt levels = ByWord (StmtBehind levels (IsBlock levels))
 
-abbrev pub IsBody : ℕ → List Lexed → List Act → Type 0
-IsBody levels = ListOf (IsAct levels)
+abbrev pub IsBody : ℕ → List Lexed → List StmtModel → Type 0
+IsBody levels = ListOf (IsStmt levels)
 
 -- ---- programs
 
@@ -204,8 +204,8 @@ IsDecls = do
 abbrev pub IsLines : List Lexed → List Declared → Type 0
 IsLines = Many IsDecls [] (λ line vars. line ++ vars)
 
-abbrev pub IsListing : List Lexed → Listing → Type 0
-IsListing = do
+abbrev pub IsProgram : List Lexed → ProgramModel → Type 0
+IsProgram = do
   vars ← IsLines
   body ← IsBody 64
   Return (record { vars = vars; body = body })

@@ -4,15 +4,15 @@ use Rattle.rec_bits.specs.declared.operator.Op2.{Op2}
 use Rattle.rec_bits.specs.declared.operator.Op2.TheVariants.{Add, Sub, Mul, And}
 use Rattle.rec_bits.specs.declared.ranges.Range.{Range}
 use Rattle.rec_bits.specs.Ranges.{sums_of, differences_of, products_of}
-use Rattle.rec_bits.specs.Faults.{broken}
+use Rattle.rec_bits.specs.Faults.{offsets_if}
 use Rattle.src_model.specs.declared.program.Var.{Var as Declared}
-use Rattle.src_model.specs.Written.{Shape, num, plain, element, un, bin, zext, sext, low}
+use Rattle.src_model.specs.Written.{SrcNodeModel, num, plain, element, un, bin, zext, sext, low}
 use Rattle.src_model.specs.Names.{declared}
 use Rattle.rec_bits.specs.Faults.{same_name}
 use Rattle.src_model.specs.Loops.{Round}
 
 -- the number that a number alone is
-abbrev pub number_of : Shape → Option ℕ
+abbrev pub number_of : SrcNodeModel → Option ℕ
 number_of (num n) = Some n
 number_of _ = None
 
@@ -58,7 +58,7 @@ range_by And n m left right = masked_range n m
 range_by op n m left right = None
 
 -- the range of an index
-abbrev pub index_range : List Round → Shape → Option Range
+abbrev pub index_range : List Round → SrcNodeModel → Option Range
 index_range rounds (num n) = Some (between n n)
 index_range rounds (plain name at) = counted_range rounds name
 index_range rounds (bin op at x to y) =
@@ -76,11 +76,11 @@ is_within len None = false
 is_within len (Some range) = int_le (pos 0) range.lo && int_lt range.hi (pos len)
 
 -- the indexes in an expression whose range doesn't lie within the array
-abbrev pub loose : List Declared → List Round → Shape → List ℕ
+abbrev pub loose : List Declared → List Round → SrcNodeModel → List ℕ
 loose vars rounds (num n) = []
 loose vars rounds (plain name at) = []
 loose vars rounds (element name at to x) =
-    broken (not (is_within (length_of (declared vars name)) (index_range rounds x))) to
+    offsets_if (not (is_within (length_of (declared vars name)) (index_range rounds x))) to
     ++ loose vars rounds x
 loose vars rounds (un op at x) = loose vars rounds x
 loose vars rounds (bin op at x to y) = loose vars rounds x ++ loose vars rounds y

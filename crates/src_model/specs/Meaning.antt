@@ -6,7 +6,7 @@ use Rattle.rec_bits.specs.Operators.{apply1_of, apply2_of, sext_of, signed_of, r
 use Rattle.src_model.specs.declared.program.Cmp.{Cmp}
 use Rattle.src_model.specs.declared.program.Cmp.TheVariants.{Eq, Ne, Lt, Le, Gt, Ge, Slt, Sle, Sgt, Sge}
 use Rattle.src_model.specs.declared.program.Var.{Var as Declared}
-use Rattle.src_model.specs.Written.{Shape, num, plain, element, un, bin, zext, sext, low, Phrase, Place, Test}
+use Rattle.src_model.specs.Written.{SrcNodeModel, num, plain, element, un, bin, zext, sext, low, SrcExprModel, SpotModel, SrcTestModel}
 use Rattle.rec_bits.specs.Faults.{same_name}
 use Rattle.src_model.specs.Widths.{is_literal}
 
@@ -34,7 +34,7 @@ pub record FitsStore (word : ℕ) (vars : List Declared) (cells : List ℕ) : Ty
 -- ---- widths
 
 -- the width of an expression, given that of a word and that asked of a literal
-abbrev pub shape_width : ℕ → ℕ → Shape → ℕ
+abbrev pub shape_width : ℕ → ℕ → SrcNodeModel → ℕ
 shape_width word asked (num n) = asked
 shape_width word asked (plain name at) = word
 shape_width word asked (element name at to x) = word
@@ -46,13 +46,13 @@ shape_width word asked (sext at x width) = width
 shape_width word asked (low at x width) = width
 
 -- the width of both operands: a literal has that of the other one, and two literals have the word's
-abbrev pub operand_width : ℕ → Shape → Shape → ℕ
+abbrev pub operand_width : ℕ → SrcNodeModel → SrcNodeModel → ℕ
 operand_width word x y = if is_literal x then shape_width word word y else shape_width word word x
 
 -- ---- expressions
 
 -- the value of an expression
-abbrev pub shape_value : ℕ → List Declared → List ℕ → ℕ → Shape → ℕ
+abbrev pub shape_value : ℕ → List Declared → List ℕ → ℕ → SrcNodeModel → ℕ
 shape_value word vars cells asked (num n) = n
 shape_value word vars cells asked (plain name at) = slice_index cells (first_cell vars name)
 shape_value word vars cells asked (element name at to x) =
@@ -69,17 +69,17 @@ shape_value word vars cells asked (low at x width) = shape_value word vars cells
 -- ---- statements
 
 -- how far an index is from the first cell
-abbrev pub index_value : ℕ → List Declared → List ℕ → Option Phrase → ℕ
+abbrev pub index_value : ℕ → List Declared → List ℕ → Option SrcExprModel → ℕ
 index_value word vars cells None = 0
 index_value word vars cells (Some x) = shape_value word vars cells word x.shape
 
 -- the cell of a place
-abbrev pub cell_of : ℕ → List Declared → List ℕ → Place → ℕ
+abbrev pub cell_of : ℕ → List Declared → List ℕ → SpotModel → ℕ
 cell_of word vars cells place = first_cell vars place.name + index_value word vars cells place.index
 
 -- the store after an assignment: the value goes into the place's cell, and both are found in the
 -- store before it
-abbrev pub assigned : ℕ → List Declared → Place → Phrase → List ℕ → List ℕ
+abbrev pub assigned : ℕ → List Declared → SpotModel → SrcExprModel → List ℕ → List ℕ
 assigned word vars place e cells =
     slice_set cells (cell_of word vars cells place) (shape_value word vars cells word e.shape)
 
@@ -97,7 +97,7 @@ compares Sgt width a b = int_lt (signed_of width b) (signed_of width a)
 compares Sge width a b = int_le (signed_of width b) (signed_of width a)
 
 -- whether a test holds
-abbrev pub holds : ℕ → List Declared → Test → List ℕ → Bool
+abbrev pub holds : ℕ → List Declared → SrcTestModel → List ℕ → Bool
 holds word vars test cells = compares test.cmp (operand_width word test.left.shape test.right.shape)
     (shape_value word vars cells (operand_width word test.left.shape test.right.shape) test.left.shape)
     (shape_value word vars cells (operand_width word test.left.shape test.right.shape) test.right.shape)

@@ -9,7 +9,7 @@ use Rattle.src_model.specs.declared.program.Cmp.TheVariants.{Eq, Ne}
 use Rattle.src_model.specs.declared.program.Var.{Var as Declared}
 use Rattle.src_model.specs.declared.sizes.Subtree.{Subtree}
 use Rattle.src_model.specs.declared.sizes.Sizes.{Sizes}
-use Rattle.src_model.specs.Written.{Shape, num, plain, element, un, bin, zext, sext, low, Phrase, Test, Act, assign, choice, while, count, Acts, no_acts, act, Otherwise, without, otherwise}
+use Rattle.src_model.specs.Written.{SrcNodeModel, num, plain, element, un, bin, zext, sext, low, SrcExprModel, SrcTestModel, StmtModel, assign, choice, while, count, StmtsModel, no_acts, act, ElseModel, without, otherwise}
 use Rattle.src_model.specs.Widths.{is_literal}
 use Rattle.src_model.specs.Indexes.{number_of}
 
@@ -18,30 +18,30 @@ use Rattle.src_model.specs.Indexes.{number_of}
 -- a tree, by the expressions that it is made from
 pub data Root : Type 0 where
   -- that of an expression
-  value : Shape → Root
+  value : SrcNodeModel → Root
   -- a store: the index, and the value
-  store : Shape → Shape → Root
+  store : SrcNodeModel → SrcNodeModel → Root
   -- a comparison of the two sides
-  compare : Shape → Shape → Root
+  compare : SrcNodeModel → SrcNodeModel → Root
   -- a comparison of their difference with 0
-  difference : Shape → Shape → Root
+  difference : SrcNodeModel → SrcNodeModel → Root
 
 -- a cell whose address is a number takes its value like a variable
-abbrev pub indexed_root : Option ℕ → Shape → Shape → Root
+abbrev pub indexed_root : Option ℕ → SrcNodeModel → SrcNodeModel → Root
 indexed_root (Some n) x e = value e
 indexed_root None x e = store x e
 
-abbrev pub assigned_root : Option Phrase → Shape → Root
+abbrev pub assigned_root : Option SrcExprModel → SrcNodeModel → Root
 assigned_root None e = value e
 assigned_root (Some x) e = indexed_root (number_of x.shape) x.shape e
 
 -- a test for equality has two trees
-abbrev pub compared : Cmp → Shape → Shape → List Root
+abbrev pub compared : Cmp → SrcNodeModel → SrcNodeModel → List Root
 compared Eq x y = compare x y ∷ difference x y ∷ []
 compared Ne x y = compare x y ∷ difference x y ∷ []
 compared cmp x y = compare x y ∷ []
 
-abbrev pub tested_roots : Test → List Root
+abbrev pub tested_roots : SrcTestModel → List Root
 tested_roots test = compared test.cmp test.left.shape test.right.shape
 
 -- before the body of a `for` its counter is set and compared with the number past the last one, and
@@ -54,17 +54,17 @@ step_roots counter at = value (bin Add at (plain counter at) at (num 1)) ∷ []
 
 abbrev mutual
   -- all trees of a statement, in the order of the text
-  pub roots : Act → List Root
+  pub roots : StmtModel → List Root
   roots (assign place e) = assigned_root place.index e.shape ∷ []
   roots (choice test taken other) = tested_roots test ++ roots_in taken ++ roots_else other
   roots (while test body) = tested_roots test ++ roots_in body
   roots (count counter at from to body) = start_roots counter at from to ++ roots_in body ++ step_roots counter at
 
-  pub roots_in : Acts → List Root
+  pub roots_in : StmtsModel → List Root
   roots_in no_acts = []
   roots_in (act a rest) = roots a ++ roots_in rest
 
-  pub roots_else : Otherwise → List Root
+  pub roots_else : ElseModel → List Root
   roots_else without = []
   roots_else (otherwise body) = roots_in body
 
@@ -80,7 +80,7 @@ abbrev pub read_nodes : Option ℕ → ℕ → ℕ
 read_nodes (Some n) index = 1
 read_nodes None index = 4 + index
 
-abbrev pub nodes : Shape → ℕ
+abbrev pub nodes : SrcNodeModel → ℕ
 nodes (num n) = 1
 nodes (plain name at) = 1
 nodes (element name at to x) = read_nodes (number_of x) (nodes x)
@@ -124,7 +124,7 @@ sided true left right left_at right_at = paired right.width (left_at right.width
 sided false left right left_at right_at = paired left.width left (right_at left.width)
 
 -- of an expression, given the width of a word and that asked of a literal
-abbrev pub part : ℕ → ℕ → Shape → Subtree
+abbrev pub part : ℕ → ℕ → SrcNodeModel → Subtree
 part word asked (num n) = node word asked 0
 part word asked (plain name at) = record { width = word; own = 0; below = 0 }
 part word asked (element name at to x) = read_part word (number_of x) (part word word x)
@@ -138,7 +138,7 @@ part word asked (zext at x width) = node word width (all_of (part word word x))
 part word asked (sext at x width) = node word width (all_of (part word word x))
 part word asked (low at x width) = node word width (all_of (part word word x))
 
-abbrev pub side_parts : ℕ → Shape → Shape → Subtree
+abbrev pub side_parts : ℕ → SrcNodeModel → SrcNodeModel → Subtree
 side_parts word x y =
     sided (is_literal x) (part word word x) (part word word y) (λ width. part word width x)
     (λ width. part word width y)
@@ -154,17 +154,17 @@ temps_of word (difference x y) = (side_parts word x y).below + 2 * is_word word 
 
 abbrev mutual
   -- assignments and tests, with three for each `for`
-  pub statements : Act → ℕ
+  pub statements : StmtModel → ℕ
   statements (assign place e) = 1
   statements (choice test taken other) = 1 + statements_in taken + statements_else other
   statements (while test body) = 1 + statements_in body
   statements (count counter at from to body) = 3 + statements_in body
 
-  pub statements_in : Acts → ℕ
+  pub statements_in : StmtsModel → ℕ
   statements_in no_acts = 0
   statements_in (act a rest) = statements a + statements_in rest
 
-  pub statements_else : Otherwise → ℕ
+  pub statements_else : ElseModel → ℕ
   statements_else without = 0
   statements_else (otherwise body) = statements_in body
 

@@ -6,7 +6,7 @@ use Rattle.rec_bits.specs.Operators.{apply2_of}
 use Rattle.rec_bits.specs.declared.operator.Op2.TheVariants.{Add}
 use Rattle.src_model.specs.declared.checkpoint.Checkpoint.TheVariants.{At}
 use Rattle.src_model.specs.declared.program.Var.{Var as Declared}
-use Rattle.src_model.specs.Written.{Act, assign, choice, while, count, Acts, no_acts, act, Otherwise, without, otherwise, Listing, acts_of}
+use Rattle.src_model.specs.Written.{StmtModel, assign, choice, while, count, StmtsModel, no_acts, act, ElseModel, without, otherwise, ProgramModel, stmts_of}
 use Rattle.src_model.specs.Sizes.{statements, statements_in}
 use Rattle.src_model.specs.Ways.{Passed, Onward, pass, choose, loop, finish}
 use Rattle.src_model.specs.Meaning.{first_cell, assigned, holds}
@@ -37,24 +37,24 @@ after_change change next more cells = next more (change cells)
 
 -- the way on through a statement, whose first tree has this number, and then a way on from its end
 unfoldable mutual
-  pub run_act : ℕ → List Declared → Act → ℕ → Onward → Onward
-  run_act word vars (assign place e) tree next = after_change (assigned word vars place e) next
-  run_act word vars (choice test taken other) tree next = pass (At tree) (choose (holds word vars test)
+  pub run_stmt : ℕ → List Declared → StmtModel → ℕ → Onward → Onward
+  run_stmt word vars (assign place e) tree next = after_change (assigned word vars place e) next
+  run_stmt word vars (choice test taken other) tree next = pass (At tree) (choose (holds word vars test)
       (run_in word vars taken (tree + 1) next) (run_else word vars other (tree + 1 + statements_in taken) next))
-  run_act word vars (while test body) tree next =
+  run_stmt word vars (while test body) tree next =
       loop (At tree) (holds word vars test) (run_in word vars body (tree + 1)) next
-  run_act word vars (count counter at from to body) tree next = after_change (started vars counter from)
+  run_stmt word vars (count counter at from to body) tree next = after_change (started vars counter from)
       (loop (At (tree + 1)) (counting vars counter to)
       (λ again. run_in word vars body (tree + 2) (after_change (stepped word vars counter) again)) next)
 
-  pub run_in : ℕ → List Declared → Acts → ℕ → Onward → Onward
+  pub run_in : ℕ → List Declared → StmtsModel → ℕ → Onward → Onward
   run_in word vars no_acts tree next = next
-  run_in word vars (act a rest) tree next = run_act word vars a tree (run_in word vars rest (tree + statements a) next)
+  run_in word vars (act a rest) tree next = run_stmt word vars a tree (run_in word vars rest (tree + statements a) next)
 
-  pub run_else : ℕ → List Declared → Otherwise → ℕ → Onward → Onward
+  pub run_else : ℕ → List Declared → ElseModel → ℕ → Onward → Onward
   run_else word vars without tree next = next
   run_else word vars (otherwise body) tree next = run_in word vars body tree next
 
 -- the first m checkpoints that a program passes from a store, or all of them where there are fewer
-abbrev pub strace : ℕ → Listing → List ℕ → ℕ → List Passed
-strace word listing cells m = run_in word listing.vars (acts_of listing.body) 0 finish m cells
+abbrev pub strace : ℕ → ProgramModel → List ℕ → ℕ → List Passed
+strace word listing cells m = run_in word listing.vars (stmts_of listing.body) 0 finish m cells

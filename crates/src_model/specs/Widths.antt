@@ -3,12 +3,12 @@
 -- no width, and breaks nothing itself.
 use Rattle.std.specs.Prelude.{ℕ, ◌^◌, min, Bool, true, false, ◌&&◌, ◌==◌, nat_lt, nat_le, if◌then◌else◌, List, [], ◌∷◌, Option, Some, None, Result, Ok, Err}
 use Rattle.rec_bits.specs.Operators.{result_width}
-use Rattle.rec_bits.specs.Faults.{broken}
+use Rattle.rec_bits.specs.Faults.{offsets_if}
 use Rattle.src_model.specs.declared.program.Var.{Var as Declared}
-use Rattle.src_model.specs.Written.{Shape, num, plain, element, un, bin, zext, sext, low, Phrase}
+use Rattle.src_model.specs.Written.{SrcNodeModel, num, plain, element, un, bin, zext, sext, low, SrcExprModel}
 
 -- a number, or a sign over a literal: its width is what its place asks for
-abbrev pub is_literal : Shape → Bool
+abbrev pub is_literal : SrcNodeModel → Bool
 is_literal (num n) = true
 is_literal (un op at x) = is_literal x
 is_literal _ = false
@@ -59,7 +59,7 @@ side_by_side false false to left right left_at right_at = alike to left right
 
 -- the width of an expression: that of a word, what is asked of a literal, where it stands, and what
 -- it is
-abbrev pub wide : ℕ → ℕ → ℕ → Shape → Result ℕ ℕ
+abbrev pub wide : ℕ → ℕ → ℕ → SrcNodeModel → Result ℕ ℕ
 wide word asked here (num n) = fitting asked here n
 wide word asked here (plain name at) = Ok word
 wide word asked here (element name at to x) = whole word to (wide word word to x)
@@ -71,7 +71,7 @@ wide word asked here (sext at x to) = extended to here (wide word word at x)
 wide word asked here (low at x to) = lowered to here (wide word word at x)
 
 -- the width of the two sides of a test
-abbrev pub sides : ℕ → Phrase → Phrase → Result ℕ ℕ
+abbrev pub sides : ℕ → SrcExprModel → SrcExprModel → Result ℕ ℕ
 sides word left right = side_by_side (is_literal left.shape) (is_literal right.shape) right.at
     (wide word word left.at left.shape) (wide word word right.at right.shape)
     (λ width. wide word width left.at left.shape) (λ width. wide word width right.at right.shape)
@@ -87,4 +87,4 @@ is_empty_array None = false
 is_empty_array (Some len) = len == 0
 
 abbrev pub empty_array : Declared → List ℕ
-empty_array v = broken (is_empty_array v.len) v.at
+empty_array v = offsets_if (is_empty_array v.len) v.at

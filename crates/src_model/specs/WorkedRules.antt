@@ -7,7 +7,7 @@ use Rattle.src_model.specs.declared.program.Var.{Var as Declared}
 use Rattle.src_model.specs.declared.fault.SrcFault.TheVariants.{Duplicate, Unknown, Width, Index, Counter, Limit}
 use Rattle.src_model.specs.declared.fault.SrcFault.{SrcFault}
 use Rattle.src_model.specs.declared.fault.SrcKind.TheVariants.{Length, Nodes}
-use Rattle.src_model.specs.Written.{Shape, num, plain, element, bin, sext, low, Phrase, Act, assign, while, count, acts_of, Listing, un, zext}
+use Rattle.src_model.specs.Written.{SrcNodeModel, num, plain, element, bin, sext, low, SrcExprModel, StmtModel, assign, while, count, stmts_of, ProgramModel, un, zext}
 use Rattle.src_model.specs.Rules.{first_fault, temp_count, node_count}
 
 abbrev variable : List ℕ → ℕ → Declared
@@ -16,17 +16,17 @@ variable name at = record { name = name; at = at; len = None }
 abbrev array : List ℕ → ℕ → ℕ → Declared
 array name at len = record { name = name; at = at; len = Some len }
 
-abbrev phrase : ℕ → Shape → Phrase
+abbrev phrase : ℕ → SrcNodeModel → SrcExprModel
 phrase at shape = record { at = at; shape = shape }
 
-abbrev into : List ℕ → ℕ → ℕ → Shape → Act
+abbrev into : List ℕ → ℕ → ℕ → SrcNodeModel → StmtModel
 into name at to e = assign (record { name = name; at = at; index = None }) (phrase to e)
 
-abbrev stored : List ℕ → ℕ → ℕ → Shape → ℕ → Shape → Act
+abbrev stored : List ℕ → ℕ → ℕ → SrcNodeModel → ℕ → SrcNodeModel → StmtModel
 stored name at inner index to e =
     assign (record { name = name; at = at; index = Some (phrase inner index) }) (phrase to e)
 
-abbrev listing : List Declared → List Act → Listing
+abbrev listing : List Declared → List StmtModel → ProgramModel
 listing vars body = record { vars = vars; body = body }
 
 abbrev a : List ℕ
@@ -64,7 +64,7 @@ with_index : first_fault 16 (listing (variable a 4 ∷ []) (stored a 7 9 (num 0)
 with_index = refl
 
 -- var x[4]; for x = 0 to 3 { }
-array_counter : first_fault 16 (listing (array x 4 4 ∷ []) (count x 14 0 3 (acts_of []) ∷ [])) ≡ Some (Unknown 14)
+array_counter : first_fault 16 (listing (array x 4 4 ∷ []) (count x 14 0 3 (stmts_of []) ∷ [])) ≡ Some (Unknown 14)
 array_counter = refl
 
 -- var a; a = 32;
@@ -128,7 +128,7 @@ no_cells : first_fault 16 (listing (array x 4 0 ∷ []) []) ≡ Some (Width 4)
 no_cells = refl
 
 -- var x[4], a; x[e] = 1;
-indexed : Shape → Option SrcFault
+indexed : SrcNodeModel → Option SrcFault
 indexed e = first_fault 16 (listing (array x 4 4 ∷ variable a 10 ∷ []) (stored x 13 15 e 20 (num 1) ∷ []))
 
 last_cell : indexed (num 3) ≡ None
@@ -168,9 +168,9 @@ unfolding indexed
 unknown_range = refl
 
 -- var s, i, x[4]; for i = 0 to 4 { s = s + x[i]; }
-abbrev summed : ℕ → Listing
+abbrev summed : ℕ → ProgramModel
 summed to = listing (variable s 4 ∷ variable i 7 ∷ array x 10 4 ∷ [])
-    (count i 20 0 to (acts_of (into s 33 37 (bin Add 37 (plain s 37) 41 (element x 41 43 (plain i 43))) ∷ [])) ∷ [])
+    (count i 20 0 to (stmts_of (into s 33 37 (bin Add 37 (plain s 37) 41 (element x 41 43 (plain i 43))) ∷ [])) ∷ [])
 
 one_past_the_array : first_fault 16 (summed 4) ≡ Some (Index 43)
 one_past_the_array = refl
@@ -180,21 +180,21 @@ within_the_array = refl
 
 -- var i; for i = 0 to 3 { i = 1; }
 counter_assigned : first_fault 16
-    (listing (variable i 4 ∷ []) (count i 11 0 3 (acts_of (into i 24 28 (num 1) ∷ [])) ∷ []))
+    (listing (variable i 4 ∷ []) (count i 11 0 3 (stmts_of (into i 24 28 (num 1) ∷ [])) ∷ []))
     ≡ Some (Counter 11)
 counter_assigned = refl
 
 -- the same in a block within the loop: var i; for i = 0 to 3 { while i != 2 { i = 1; } }
 counter_assigned_within : first_fault 16 (listing (variable i 4 ∷ [])
-    (count i 11 0 3 (acts_of (while
+    (count i 11 0 3 (stmts_of (while
     (record { cmp = Ne; left = phrase 30 (plain i 30); right = phrase 35 (num 2) })
-    (acts_of (into i 39 43 (num 1) ∷ [])) ∷ [])) ∷ []))
+    (stmts_of (into i 39 43 (num 1) ∷ [])) ∷ [])) ∷ []))
     ≡ Some (Counter 11)
 counter_assigned_within = refl
 
 -- var i; for i = .. to .. { }
 turned : ℕ → ℕ → Option SrcFault
-turned from to = first_fault 4 (listing (variable i 4 ∷ []) (count i 11 from to (acts_of []) ∷ []))
+turned from to = first_fault 4 (listing (variable i 4 ∷ []) (count i 11 from to (stmts_of []) ∷ []))
 
 -- a loop of no turns
 no_turn : turned 5 4 ≡ None
@@ -216,7 +216,7 @@ past_the_last_word = refl
 
 -- var i, x[4]; for i = 0 to 3 { } x[i] = 0;  behind the loop its counter has no range
 after_the_loop : first_fault 16 (listing (variable i 4 ∷ array x 7 4 ∷ [])
-    (count i 17 0 3 (acts_of []) ∷ stored x 32 34 (plain i 34) 39 (num 0) ∷ []))
+    (count i 17 0 3 (stmts_of []) ∷ stored x 32 34 (plain i 34) 39 (num 0) ∷ []))
     ≡ Some (Index 34)
 after_the_loop = refl
 
@@ -227,7 +227,7 @@ too_many_cells : first_fault 16 (listing (array x 4 65536 ∷ array h 14 65537 �
 too_many_cells = refl
 
 -- 1 + 1 + .., with so many signs: two nodes each, and one
-abbrev sums : ℕ → Shape
+abbrev sums : ℕ → SrcNodeModel
 sums zero = num 1
 sums (suc n) = bin Add 0 (sums n) 0 (num 1)
 
@@ -239,7 +239,7 @@ too_many_nodes : first_fault 16 (listing (variable a 4 ∷ []) (into a 7 11 (un 
 too_many_nodes = refl
 
 -- var x[250]; x[0] = x[1] + 1 + 2 + 3 + 4; and x[0] = 1 + 2 + 3 + 4;
-abbrev plus : Shape → ℕ → Shape
+abbrev plus : SrcNodeModel → ℕ → SrcNodeModel
 plus e n = bin Add 0 e 0 (num n)
 
 with_a_read : temp_count 16 (listing (array x 4 250 ∷ [])
@@ -261,17 +261,17 @@ stored_temps = refl
 -- var a; while a != 0 { a = a - 1; }
 counted_down : temp_count 16 (listing (variable a 4 ∷ []) (while
     (record { cmp = Ne; left = phrase 13 (plain a 13); right = phrase 18 (num 0) })
-    (acts_of (into a 22 26 (bin Sub 26 (plain a 26) 30 (num 1)) ∷ [])) ∷ []))
+    (stmts_of (into a 22 26 (bin Sub 26 (plain a 26) 30 (num 1)) ∷ [])) ∷ []))
     ≡ 3
 counted_down = refl
 
 -- a filter of eight taps: s = s + low(sext(x[i], 32) * sext(h[i], 32) >>> 15, 16), in a loop
-abbrev tap : List ℕ → Shape
+abbrev tap : List ℕ → SrcNodeModel
 tap name = sext 0 (element name 0 0 (plain i 0)) 32
 
-abbrev filter : Listing
+abbrev filter : ProgramModel
 filter = listing (variable s 4 ∷ variable i 7 ∷ array x 10 8 ∷ array h 16 8 ∷ []) (into s 22 26 (num 0) ∷ count i 33 0 7
-    (acts_of (into s 46 50
+    (stmts_of (into s 46 50
     (bin Add 50 (plain s 50) 54 (low 58 (bin Sar 58 (bin Mul 58 (tap x) 0 (tap h)) 0 (num 15)) 16)) ∷ [])) ∷ [])
 
 filter_kept : first_fault 16 filter ≡ None

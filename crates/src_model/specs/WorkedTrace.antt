@@ -6,15 +6,15 @@ use Rattle.src_model.specs.declared.checkpoint.Checkpoint.TheVariants.{At, End}
 use Rattle.src_model.specs.declared.program.Cmp.TheVariants.{Gt, Slt}
 use Rattle.src_model.specs.declared.program.Cmp.{Cmp}
 use Rattle.src_model.specs.declared.program.Var.{Var as Declared}
-use Rattle.src_model.specs.Written.{Shape, num, plain, element, bin, sext, low, Phrase, Act, assign, count, acts_of, Listing}
+use Rattle.src_model.specs.Written.{SrcNodeModel, num, plain, element, bin, sext, low, SrcExprModel, StmtModel, assign, count, stmts_of, ProgramModel}
 use Rattle.src_model.specs.Ways.{Passed}
 use Rattle.src_model.specs.Meaning.{shape_value, holds}
-use Rattle.src_model.specs.Trace.{strace, run_act, run_in, run_else}
+use Rattle.src_model.specs.Trace.{strace, run_stmt, run_in, run_else}
 
-abbrev phrase : Shape → Phrase
+abbrev phrase : SrcNodeModel → SrcExprModel
 phrase shape = record { at = 0; shape = shape }
 
-abbrev into : List ℕ → Shape → Act
+abbrev into : List ℕ → SrcNodeModel → StmtModel
 into name e = assign (record { name = name; at = 0; index = None }) (phrase e)
 
 abbrev at_label : Checkpoint → List ℕ → Passed
@@ -32,7 +32,7 @@ s = 115 ∷ []
 abbrev x : List ℕ
 x = 120 ∷ []
 
-abbrev read : List ℕ → Shape
+abbrev read : List ℕ → SrcNodeModel
 read name = plain name 0
 
 -- var s, i, x[4];
@@ -42,23 +42,23 @@ vars =
     ∷ record { name = x; at = 10; len = Some 4 } ∷ []
 
 -- for i = 1 to 2 { s = s + x[i]; }
-abbrev summed : Listing
+abbrev summed : ProgramModel
 summed = record {
   vars = vars;
-  body = count i 0 1 2 (acts_of (into s (bin Add 0 (read s) 0 (element x 0 0 (read i))) ∷ [])) ∷ [];
+  body = count i 0 1 2 (stmts_of (into s (bin Add 0 (read s) 0 (element x 0 0 (read i))) ∷ [])) ∷ [];
 }
 
 -- the start has tree 0, the test tree 1; the counter stands at 3 at the end
 summed_trace : strace 8 summed (9 ∷ 9 ∷ 0 ∷ 100 ∷ 200 ∷ 0 ∷ []) 10 ≡
     at_label (At 1) (9 ∷ 1 ∷ 0 ∷ 100 ∷ 200 ∷ 0 ∷ []) ∷ at_label (At 1) (109 ∷ 2 ∷ 0 ∷ 100 ∷ 200 ∷ 0 ∷ [])
     ∷ at_label (At 1) (53 ∷ 3 ∷ 0 ∷ 100 ∷ 200 ∷ 0 ∷ []) ∷ at_label End (53 ∷ 3 ∷ 0 ∷ 100 ∷ 200 ∷ 0 ∷ []) ∷ []
-unfolding run_act run_in run_else
+unfolding run_stmt run_in run_else
 summed_trace = refl
 
 -- as many as are asked for
 summed_front : strace 8 summed (9 ∷ 9 ∷ 0 ∷ 100 ∷ 200 ∷ 0 ∷ []) 1
     ≡ at_label (At 1) (9 ∷ 1 ∷ 0 ∷ 100 ∷ 200 ∷ 0 ∷ []) ∷ []
-unfolding run_act run_in run_else
+unfolding run_stmt run_in run_else
 summed_front = refl
 
 abbrev numbers_of : List Passed → List ℕ
@@ -71,13 +71,13 @@ numbers_of (p ∷ rest) = number p.label ∷ numbers_of rest
 
 -- a trace with one turn less is another one
 wrong_turns : numbers_of (strace 8 summed (9 ∷ 9 ∷ 0 ∷ 100 ∷ 200 ∷ 0 ∷ []) 10) ≡ 1 ∷ 1 ∷ 99 ∷ [] → ⊥
-unfolding run_act run_in run_else
+unfolding run_stmt run_in run_else
 wrong_turns e = cc e
 
 -- for i = 3 to 2 { }: no turn, and the counter is set all the same
-no_turns : strace 8 (record { vars = vars; body = count i 0 3 2 (acts_of []) ∷ [] }) (0 ∷ 0 ∷ 0 ∷ 0 ∷ 0 ∷ 0 ∷ []) 10 ≡
+no_turns : strace 8 (record { vars = vars; body = count i 0 3 2 (stmts_of []) ∷ [] }) (0 ∷ 0 ∷ 0 ∷ 0 ∷ 0 ∷ 0 ∷ []) 10 ≡
     at_label (At 1) (0 ∷ 3 ∷ 0 ∷ 0 ∷ 0 ∷ 0 ∷ []) ∷ at_label End (0 ∷ 3 ∷ 0 ∷ 0 ∷ 0 ∷ 0 ∷ []) ∷ []
-unfolding run_act run_in run_else
+unfolding run_stmt run_in run_else
 no_turns = refl
 
 -- of -128 and 127: which is less

@@ -15,118 +15,118 @@ use Rattle.src_model.specs.declared.program.Stmt.{Stmt, Assign, If', While', For
 -- ---- expressions
 
 -- what an expression is, with the offsets of the expressions in it
-pub data Shape : Type 0 where
-  num : ℕ → Shape
-  plain : List ℕ → ℕ → Shape
-  element : List ℕ → ℕ → ℕ → Shape → Shape
-  un : Op1 → ℕ → Shape → Shape
-  bin : Op2 → ℕ → Shape → ℕ → Shape → Shape
-  zext : ℕ → Shape → ℕ → Shape
-  sext : ℕ → Shape → ℕ → Shape
-  low : ℕ → Shape → ℕ → Shape
+pub data SrcNodeModel : Type 0 where
+  num : ℕ → SrcNodeModel
+  plain : List ℕ → ℕ → SrcNodeModel
+  element : List ℕ → ℕ → ℕ → SrcNodeModel → SrcNodeModel
+  un : Op1 → ℕ → SrcNodeModel → SrcNodeModel
+  bin : Op2 → ℕ → SrcNodeModel → ℕ → SrcNodeModel → SrcNodeModel
+  zext : ℕ → SrcNodeModel → ℕ → SrcNodeModel
+  sext : ℕ → SrcNodeModel → ℕ → SrcNodeModel
+  low : ℕ → SrcNodeModel → ℕ → SrcNodeModel
 
 -- an expression: the offset of its first token, and what it is
-pub record Phrase : Type 0 where
+pub record SrcExprModel : Type 0 where
   pub at : ℕ
-  pub shape : Shape
+  pub shape : SrcNodeModel
 
 -- a place: its name, the offset of that, and the index
-pub record Place : Type 0 where
+pub record SpotModel : Type 0 where
   pub name : List ℕ
   pub at : ℕ
-  pub index : Option Phrase
+  pub index : Option SrcExprModel
 
 -- a place as an expression
-abbrev pub shape_at : List ℕ → ℕ → Option Phrase → Shape
-shape_at name at None = plain name at
-shape_at name at (Some e) = element name at e.at e.shape
+abbrev pub node_at : List ℕ → ℕ → Option SrcExprModel → SrcNodeModel
+node_at name at None = plain name at
+node_at name at (Some e) = element name at e.at e.shape
 
 abbrev mutual
-  pub shape_of : SrcNode → Shape
-  shape_of (Num n) = num n
-  shape_of (Var spot) = spot_shape spot
-  shape_of (Un' op p at x) = un op at (shape_of x)
-  shape_of (Bin' op p at x q to y) = bin op at (shape_of x) to (shape_of y)
-  shape_of (Zext' p at x width) = zext at (shape_of x) width
-  shape_of (Sext' p at x width) = sext at (shape_of x) width
-  shape_of (Low' p at x width) = low at (shape_of x) width
+  pub model_of_src_node : SrcNode → SrcNodeModel
+  model_of_src_node (Num n) = num n
+  model_of_src_node (Var spot) = spot_node spot
+  model_of_src_node (Un' op p at x) = un op at (model_of_src_node x)
+  model_of_src_node (Bin' op p at x q to y) = bin op at (model_of_src_node x) to (model_of_src_node y)
+  model_of_src_node (Zext' p at x width) = zext at (model_of_src_node x) width
+  model_of_src_node (Sext' p at x width) = sext at (model_of_src_node x) width
+  model_of_src_node (Low' p at x width) = low at (model_of_src_node x) width
 
-  pub spot_shape : Spot → Shape
-  spot_shape (Spot' name at index) = indexed_shape name at index
+  pub spot_node : Spot → SrcNodeModel
+  spot_node (Spot' name at index) = indexed_node name at index
 
-  pub indexed_shape : List ℕ → ℕ → Held-Spot-index → Shape
-  indexed_shape name at NoIndex' = plain name at
-  indexed_shape name at (Index' p to x) = element name at to (shape_of x)
+  pub indexed_node : List ℕ → ℕ → Held-Spot-index → SrcNodeModel
+  indexed_node name at NoIndex' = plain name at
+  indexed_node name at (Index' p to x) = element name at to (model_of_src_node x)
 
-abbrev pub phrase_of : SrcExpr → Phrase
-phrase_of e = record { at = e.at; shape = shape_of e.node }
+abbrev pub model_of_src_expr : SrcExpr → SrcExprModel
+model_of_src_expr e = record { at = e.at; shape = model_of_src_node e.node }
 
-abbrev pub index_of : Option (Box SrcExpr) → Option Phrase
+abbrev pub index_of : Option (Box SrcExpr) → Option SrcExprModel
 index_of None = None
-index_of (Some b) = Some (phrase_of b.value)
+index_of (Some b) = Some (model_of_src_expr b.value)
 
-abbrev pub boxed_index : Held-Spot-index → Option Phrase
+abbrev pub boxed_index : Held-Spot-index → Option SrcExprModel
 boxed_index NoIndex' = None
-boxed_index (Index' p to x) = Some (record { at = to; shape = shape_of x })
+boxed_index (Index' p to x) = Some (record { at = to; shape = model_of_src_node x })
 
-abbrev pub place_of : Spot → Place
-place_of (Spot' name at index) = record { name = name; at = at; index = boxed_index index }
+abbrev pub model_of_spot : Spot → SpotModel
+model_of_spot (Spot' name at index) = record { name = name; at = at; index = boxed_index index }
 
 -- ---- statements
 
-pub record Test : Type 0 where
+pub record SrcTestModel : Type 0 where
   pub cmp : Cmp
-  pub left : Phrase
-  pub right : Phrase
+  pub left : SrcExprModel
+  pub right : SrcExprModel
 
-abbrev pub test_of : SrcTest → Test
-test_of t = record { cmp = t.cmp; left = phrase_of t.left; right = phrase_of t.right }
+abbrev pub model_of_src_test : SrcTest → SrcTestModel
+model_of_src_test t = record { cmp = t.cmp; left = model_of_src_expr t.left; right = model_of_src_expr t.right }
 
 mutual
-  pub data Act : Type 0 where
-    assign : Place → Phrase → Act
-    choice : Test → Acts → Otherwise → Act
-    while : Test → Acts → Act
-    count : List ℕ → ℕ → ℕ → ℕ → Acts → Act
+  pub data StmtModel : Type 0 where
+    assign : SpotModel → SrcExprModel → StmtModel
+    choice : SrcTestModel → StmtsModel → ElseModel → StmtModel
+    while : SrcTestModel → StmtsModel → StmtModel
+    count : List ℕ → ℕ → ℕ → ℕ → StmtsModel → StmtModel
 
-  pub data Acts : Type 0 where
-    no_acts : Acts
-    act : Act → Acts → Acts
+  pub data StmtsModel : Type 0 where
+    no_acts : StmtsModel
+    act : StmtModel → StmtsModel → StmtsModel
 
-  pub data Otherwise : Type 0 where
-    without : Otherwise
-    otherwise : Acts → Otherwise
+  pub data ElseModel : Type 0 where
+    without : ElseModel
+    otherwise : StmtsModel → ElseModel
 
 abbrev mutual
-  pub act_of : Stmt → Act
-  act_of (Assign place value) = assign (place_of place) (phrase_of value)
-  act_of (If' test n taken other) = choice (test_of test) (acts_in taken) (other_in other)
-  act_of (While' test n body) = while (test_of test) (acts_in body)
-  act_of (For' counter at from to n body) = count counter at from to (acts_in body)
+  pub model_of_stmt : Stmt → StmtModel
+  model_of_stmt (Assign place value) = assign (model_of_spot place) (model_of_src_expr value)
+  model_of_stmt (If' test n taken other) = choice (model_of_src_test test) (model_of_stmts taken) (model_of_else other)
+  model_of_stmt (While' test n body) = while (model_of_src_test test) (model_of_stmts body)
+  model_of_stmt (For' counter at from to n body) = count counter at from to (model_of_stmts body)
 
-  pub acts_in : {n : _} → Row_of-Stmt n → Acts
-  acts_in end_of-Stmt = no_acts
-  acts_in (more_of-Stmt s others) = act (act_of s) (acts_in others)
+  pub model_of_stmts : {n : _} → Row_of-Stmt n → StmtsModel
+  model_of_stmts end_of-Stmt = no_acts
+  model_of_stmts (more_of-Stmt s others) = act (model_of_stmt s) (model_of_stmts others)
 
-  pub other_in : Held-Stmt-If-2 → Otherwise
-  other_in None' = without
-  other_in (Some' n row) = otherwise (acts_in row)
+  pub model_of_else : Held-Stmt-If-2 → ElseModel
+  model_of_else None' = without
+  model_of_else (Some' n row) = otherwise (model_of_stmts row)
 
 -- statements, and an else part, from a list and an option
-abbrev pub acts_of : List Act → Acts
-acts_of [] = no_acts
-acts_of (a ∷ rest) = act a (acts_of rest)
+abbrev pub stmts_of : List StmtModel → StmtsModel
+stmts_of [] = no_acts
+stmts_of (a ∷ rest) = act a (stmts_of rest)
 
-abbrev pub other_of : Option (List Act) → Otherwise
-other_of None = without
-other_of (Some rest) = otherwise (acts_of rest)
+abbrev pub else_of : Option (List StmtModel) → ElseModel
+else_of None = without
+else_of (Some rest) = otherwise (stmts_of rest)
 
 -- ---- programs
 
 -- the declarations and the statements of a text
-pub record Listing : Type 0 where
+pub record ProgramModel : Type 0 where
   pub vars : List Declared
-  pub body : List Act
+  pub body : List StmtModel
 
-abbrev pub listing_of : Program → Listing
-listing_of p = record { vars = p.vars; body = map act_of p.body.items }
+abbrev pub model_of_program : Program → ProgramModel
+model_of_program p = record { vars = p.vars; body = map model_of_stmt p.body.items }

@@ -1,7 +1,7 @@
 //! The sizes of programs: their statements, the nodes of their trees, and the temporary cells.
 
 ghost use Rattle.std.specs.Prelude.{◌≡◌, [], ◌∷◌, map};
-ghost use Rattle.src_model.specs.Written.{shape_of, spot_shape, place_of, test_of, act_of, acts_of};
+ghost use Rattle.src_model.specs.Written.{model_of_src_node, spot_node, model_of_spot, model_of_src_test, model_of_stmt, stmts_of};
 ghost use Rattle.src_model.specs.Widths.{is_literal};
 ghost use Rattle.src_model.specs.Indexes.{number_of};
 ghost use Rattle.src_model.specs.Sizes.{nodes, is_word, all_of, paired, part, side_parts, assigned_root, tested_roots, roots, roots_in, statements, statements_in, capped_part, measured, together};
@@ -21,7 +21,7 @@ struct Subtree {
 
 /// Whether an expression counts as a literal: a number, or a sign over a literal.
 pub fn is_literal(e: &SrcExpr) -> bool
-    ensures { result ≡ is_literal (shape_of e.now.node) }
+    ensures { result ≡ is_literal (model_of_src_node e.now.node) }
 {
     match &e.node {
         SrcNode::Num(_) => true,
@@ -32,7 +32,7 @@ pub fn is_literal(e: &SrcExpr) -> bool
 
 /// The number that an expression is, where it is a number alone.
 pub fn number_of(e: &SrcExpr) -> Option<u64>
-    ensures { result ≡ number_of (shape_of e.now.node) }
+    ensures { result ≡ number_of (model_of_src_node e.now.node) }
 {
     match &e.node {
         SrcNode::Num(n) => Some(*n),
@@ -42,7 +42,7 @@ pub fn number_of(e: &SrcExpr) -> Option<u64>
 
 #[cycle(nodes)]
 fn nodes(e: &SrcExpr) -> u64
-    ensures { result ≡ capped (nodes (shape_of e.now.node)) }
+    ensures { result ≡ capped (nodes (model_of_src_node e.now.node)) }
 {
     match &e.node {
         SrcNode::Num(_) => 1,
@@ -56,7 +56,7 @@ fn nodes(e: &SrcExpr) -> u64
 
 #[cycle(nodes)]
 fn spot_nodes(spot: &Spot) -> u64
-    ensures { result ≡ capped (nodes (spot_shape spot.now)) }
+    ensures { result ≡ capped (nodes (spot_node spot.now)) }
 {
     match &spot.index {
         None => 1,
@@ -105,7 +105,7 @@ fn paired(width: u64, left: Subtree, right: Subtree) -> Subtree
 
 #[cycle(part)]
 fn part(word: u64, asked: u64, e: &SrcExpr) -> Subtree
-    ensures { result ≡ capped_part (part word asked (shape_of e.now.node)) }
+    ensures { result ≡ capped_part (part word asked (model_of_src_node e.now.node)) }
 {
     match &e.node {
         SrcNode::Num(_) => node(word, asked, 0),
@@ -130,7 +130,7 @@ fn part(word: u64, asked: u64, e: &SrcExpr) -> Subtree
 
 #[cycle(part)]
 fn spot_part(word: u64, spot: &Spot) -> Subtree
-    ensures { result ≡ capped_part (part word word (spot_shape spot.now)) }
+    ensures { result ≡ capped_part (part word word (spot_node spot.now)) }
 {
     let at_literal = Subtree {
         width: word,
@@ -149,7 +149,7 @@ fn spot_part(word: u64, spot: &Spot) -> Subtree
 // The operands of an operator, or the sides of a test. A literal has the width of the other one.
 #[cycle(part)]
 fn sides(word: u64, x: &SrcExpr, y: &SrcExpr) -> Subtree
-    ensures { result ≡ capped_part (side_parts word (shape_of x.now.node) (shape_of y.now.node)) }
+    ensures { result ≡ capped_part (side_parts word (model_of_src_node x.now.node) (model_of_src_node y.now.node)) }
 {
     if is_literal(x) {
         let right = part(word, word, y);
@@ -198,7 +198,7 @@ fn together(a: Sizes, b: Sizes) -> Sizes
 }
 
 fn assigned(word: u64, place: &Spot, value: &SrcExpr) -> Sizes
-    ensures { result ≡ measured word (assigned_root (place_of place.now).index (shape_of value.now.node) ∷ []) 1 }
+    ensures { result ≡ measured word (assigned_root (model_of_spot place.now).index (model_of_src_node value.now.node) ∷ []) 1 }
 {
     let read = nodes(value);
     let of_value = part(word, word, value);
@@ -224,7 +224,7 @@ fn assigned(word: u64, place: &Spot, value: &SrcExpr) -> Sizes
 }
 
 fn tested(word: u64, test: &SrcTest) -> Sizes
-    ensures { result ≡ measured word (tested_roots (test_of test.now)) 1 }
+    ensures { result ≡ measured word (tested_roots (model_of_src_test test.now)) 1 }
 {
     let operands = sides(word, &test.left, &test.right);
     let read = nodes(&test.left).saturating_add(nodes(&test.right));
@@ -246,7 +246,7 @@ fn tested(word: u64, test: &SrcTest) -> Sizes
 
 #[cycle(sizes)]
 fn statement_sizes(word: u64, statement: &Stmt) -> Sizes
-    ensures { result ≡ measured word (roots (act_of statement.now)) (statements (act_of statement.now)) }
+    ensures { result ≡ measured word (roots (model_of_stmt statement.now)) (statements (model_of_stmt statement.now)) }
 {
     match statement {
         Stmt::Assign { place, value } => assigned(word, place, value),
@@ -266,7 +266,7 @@ fn statement_sizes(word: u64, statement: &Stmt) -> Sizes
 #[cycle(sizes)]
 pub fn block_sizes(word: u64, block: &[Stmt]) -> Sizes
     ensures { result
-        ≡ measured word (roots_in (acts_of (map act_of block.now))) (statements_in (acts_of (map act_of block.now))) }
+        ≡ measured word (roots_in (stmts_of (map model_of_stmt block.now))) (statements_in (stmts_of (map model_of_stmt block.now))) }
 {
     let mut sizes = NOTHING;
     for statement in block {

@@ -1,7 +1,7 @@
 //! Programs that were checked.
 
 ghost use Rattle.std.specs.Prelude.{◌≡◌, ◌≤◌, None};
-ghost use Rattle.src_model.specs.Written.{listing_of};
+ghost use Rattle.src_model.specs.Written.{model_of_program};
 ghost use Rattle.src_model.specs.Rules.{KeepsSrcRules, first_fault, temp_count};
 ghost use Rattle.src_model.specs.declared.typed.SrcFault2.{SrcFault2};
 
@@ -16,7 +16,7 @@ pub struct Typed {
     width: u8,
     ghost some: { 1 ≤ width },
     ghost most: { width ≤ 64 },
-    ghost kept: { first_fault width (listing_of program) ≡ None },
+    ghost kept: { first_fault width (model_of_program program) ≡ None },
 }
 
 impl Typed {
@@ -48,7 +48,7 @@ impl Typed {
     /// The number of temporary cells: the greatest number of nodes of a word's width below the root
     /// of a tree, where a read at a literal address isn't counted.
     pub fn temps(&self) -> u32
-        ensures { result ≡ temp_count self.now.width (listing_of self.now.program) }
+        ensures { result ≡ temp_count self.now.width (model_of_program self.now.program) }
     {
         block_sizes(u64::from(self.width), &self.program.body).temps as u32
     }

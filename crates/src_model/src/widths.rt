@@ -5,7 +5,7 @@ ghost use Rattle.rec_bits.specs.Operators.{IsWidth};
 ghost use Rattle.src_model.specs.Fitting.{Fitting};
 ghost use Rattle.src_model.specs.Inner.Narrow.{IsNarrow};
 ghost use Rattle.src_model.specs.Meaning.{shape_width, operand_width};
-ghost use Rattle.src_model.specs.Written.{shape_of};
+ghost use Rattle.src_model.specs.Written.{model_of_src_node};
 
 use crate::program::{SrcExpr, SrcNode};
 use crate::sizes::is_literal;
@@ -13,8 +13,8 @@ use rec_bits::result_width;
 
 // The width of an expression; a literal has the width `asked`.
 fn written_width(word: u8, asked: u8, e: &SrcExpr) -> u8
-    requires { IsNarrow (shape_of e.now.node) }
-    ensures { result ≡ shape_width word asked (shape_of e.now.node) }
+    requires { IsNarrow (model_of_src_node e.now.node) }
+    ensures { result ≡ shape_width word asked (model_of_src_node e.now.node) }
 {
     match &e.node {
         SrcNode::Num(_) => asked,
@@ -32,8 +32,8 @@ fn written_width(word: u8, asked: u8, e: &SrcExpr) -> u8
 pub fn width_of(word: u8, asked: u8, e: &SrcExpr) -> u8
     requires word { IsWidth word }
     requires asked { IsWidth asked }
-    requires fitting { Fitting word asked (shape_of e.now.node) }
-    ensures value { result ≡ shape_width word asked (shape_of e.now.node) }
+    requires fitting { Fitting word asked (model_of_src_node e.now.node) }
+    ensures value { result ≡ shape_width word asked (model_of_src_node e.now.node) }
     ensures wide { IsWidth result }
 {
     written_width(word, asked, e)
@@ -43,14 +43,14 @@ pub fn width_of(word: u8, asked: u8, e: &SrcExpr) -> u8
 /// literals have the word's.
 pub fn operand_width(word: u8, x: &SrcExpr, y: &SrcExpr) -> u8
     requires word { IsWidth word }
-    requires left { Fitting word (operand_width word (shape_of x.now.node) (shape_of y.now.node))
-        (shape_of x.now.node) }
-    requires right { Fitting word (operand_width word (shape_of x.now.node) (shape_of y.now.node))
-        (shape_of y.now.node) }
-    ensures value { result ≡ operand_width word (shape_of x.now.node) (shape_of y.now.node) }
+    requires left { Fitting word (operand_width word (model_of_src_node x.now.node) (model_of_src_node y.now.node))
+        (model_of_src_node x.now.node) }
+    requires right { Fitting word (operand_width word (model_of_src_node x.now.node) (model_of_src_node y.now.node))
+        (model_of_src_node y.now.node) }
+    ensures value { result ≡ operand_width word (model_of_src_node x.now.node) (model_of_src_node y.now.node) }
     ensures wide { IsWidth result }
-    ensures left { Fitting word result (shape_of x.now.node) }
-    ensures right { Fitting word result (shape_of y.now.node) }
+    ensures left { Fitting word result (model_of_src_node x.now.node) }
+    ensures right { Fitting word result (model_of_src_node y.now.node) }
 {
     if is_literal(x) {
         written_width(word, word, y)

@@ -10,7 +10,7 @@ use Rattle.src_model.specs.Grammar.{Lexed, Word, DeclsBehind, IsDecl, IsDecls, I
 use Rattle.grammar.specs.declared.words.Lexed.{Lexed as LexedOf}
 use Rattle.grammar.specs.declared.words.Word.TheVariants.{Name, Symbol as Shows}
 use Rattle.src_model.specs.declared.words.Symbol.TheVariants.{Comma, Semicolon, LeftBracket, Var, If, Else, While, For}
-use Rattle.src_model.specs.Written.{Act, Listing}
+use Rattle.src_model.specs.Written.{StmtModel, ProgramModel}
 use Rattle.grammar.specs.Tokens.{Behind, Before}
 use Rattle.src_parser.specs.Inner.Steps.{bracket_word, decls_word, var_word, act_word, acts_word, text_word, after_decl, after_decls, after_lines, after_acts, after_text}
 use Rattle.grammar.proofs.Tokens.{Shown, begun, there_name}
@@ -116,7 +116,7 @@ narrow wider (t ∷ c) st = wider t st
 pub body_leads : (levels : ℕ) {ts : List Lexed} → Leads (λ v. v) (IsBody levels) after_acts ts (IsBody levels) after_text ts
 body_leads levels = leads_as (λ x w r. r) (λ x w c e st r. r) (narrow (λ t e. acts_wider t.word e))
 
-pub text_apart : {make : List Declared → List Act → Listing} → Apart after_lines (λ vars. Bind (IsBody 64) (λ _ body. Return (make vars body))) after_text
+pub text_apart : {make : List Declared → List StmtModel → ProgramModel} → Apart after_lines (λ vars. Bind (IsBody 64) (λ _ body. Return (make vars body))) after_text
 text_apart = record {
   stops = λ a y w c b st. elim (opens_or_empty (acted 64).starts b.front b.value b.first) [
     | inl e ↦

@@ -3,8 +3,8 @@ use Rattle.std.proofs.Common.{◌≡◌, ℕ, zero, suc, ◌-◌, ◌+◌, ◌�
 use Rattle.std.proofs.lemmas.Bool.{eqb-true}
 use Rattle.std.proofs.lemmas.List.{append-nil}
 use Rattle.std.specs.declared.alloc.Global.{Global}
-use Rattle.grammar.specs.declared.stop.Stop.{Stop}
-use Rattle.grammar.specs.declared.stop.Stop.TheVariants.{At}
+use Rattle.grammar.specs.declared.stop.ParseStop.{ParseStop}
+use Rattle.grammar.specs.declared.stop.ParseStop.TheVariants.{At}
 use Rattle.grammar.specs.Reading.{Return, Bind, Within, Tail, done, head, never, Reads, FailsAs, Leads}
 use Rattle.grammar.proofs.Steps.{leads_as, return_reads, never_stops}
 use Rattle.grammar.proofs.Passing.{then_leads, reads_too}
@@ -20,7 +20,7 @@ use Rattle.src_model.specs.declared.words.Symbol.TheVariants.{Comma, Tilde, Left
 use Rattle.src_model.specs.declared.program.SrcExpr.{SrcExpr}
 use Rattle.src_model.specs.declared.program.SrcNode.{Var}
 use Rattle.src_model.specs.declared.program.Spot.{roll-Spot}
-use Rattle.src_model.specs.Written.{Phrase, num, shape_of, shape_at, index_of}
+use Rattle.src_model.specs.Written.{SrcExprModel, num, model_of_src_node, node_at, index_of}
 use Rattle.grammar.specs.Tokens.{Behind, Before, ByWord, Sign, IsNothing, IsNumber, BeginsWith}
 use Rattle.src_parser.specs.declared.expression.Opening.{Opening}
 use Rattle.src_parser.specs.declared.expression.Opening.TheVariants.{Sign as Signs, Paren, Call as Asks}
@@ -48,7 +48,7 @@ rank_wider k n e = grind arith
 
 -- ---- how many tokens an expression has
 
-by_word_some : (B : Word → ℕ → List Lexed → Phrase → Type 0) → AtLeast 1 (ByWord B)
+by_word_some : (B : Word → ℕ → List Lexed → SrcExprModel → Type 0) → AtLeast 1 (ByWord B)
 by_word_some B = bind_least 1 0 token_least (λ a. any_least)
 
 pub unary_some : (d : ℕ) → AtLeast 1 (IsUnary d)
@@ -70,10 +70,10 @@ chained k d = record {
 
 -- ---- a text of one token
 
-abbrev number : ℕ → Phrase
+abbrev number : ℕ → SrcExprModel
 number at = record { at = at; shape = num 0 }
 
-short_number : {U E : List Lexed → Phrase → Type 0} → Short 1 (ByWord (UnaryBehind U E))
+short_number : {U E : List Lexed → SrcExprModel → Type 0} → Short 1 (ByWord (UnaryBehind U E))
 short_number = record {
   text = record { word = Number 0; at = 0 } ∷ [];
   value = number 0;
@@ -95,21 +95,21 @@ short_chain (suc k) d =
 
 -- ---- chains
 
-pub chain_stuck : (j k d : ℕ) → suc j ≡ k → {room : ℕ} {ts : List Lexed} {stop : Stop} → FailsAs (Within room (Chains j (IsUnary d))) (after j) ts stop → FailsAs (Within room (Chains k (IsUnary d))) (after k) ts stop
+pub chain_stuck : (j k d : ℕ) → suc j ≡ k → {room : ℕ} {ts : List Lexed} {stop : ParseStop} → FailsAs (Within room (Chains j (IsUnary d))) (after j) ts stop → FailsAs (Within room (Chains k (IsUnary d))) (after k) ts stop
 chain_stuck j k d s {room = room} {ts = ts} {stop = stop} f = subst (λ n. FailsAs (Within room (Chains n (IsUnary d))) (after n) ts stop) s (chain_fails (chained j d) join f)
 
-pub chain_on : (j k d : ℕ) → suc j ≡ k → {room : ℕ} {ts m : List Lexed} {a : Phrase} → Reads (Within room (Chains j (IsUnary d))) (after j) ts a m
+pub chain_on : (j k d : ℕ) → suc j ≡ k → {room : ℕ} {ts m : List Lexed} {a : SrcExprModel} → Reads (Within room (Chains j (IsUnary d))) (after j) ts a m
     → Leads (λ v. v) (Within (room - (length ts - length m)) (Tail (Chains j (IsUnary d)) (op_at k) join a)) (after k) m (Within room (Chains k (IsUnary d))) (after k) ts
 chain_on j k d s {room = room} {ts = ts} {m = m} {a = a} p = subst (λ n. Leads (λ v. v) (Within (room - (length ts - length m)) (Tail (Chains j (IsUnary d)) (op_at n) join a)) (after n) m (Within room (Chains n (IsUnary d))) (after n) ts) s (chain_leads (chained j d) join p)
 
-pub tail_stop : (j k d : ℕ) → suc j ≡ k → {room : ℕ} {ts : List Lexed} {a : Phrase} → ((t : Lexed) (o : Op2) → head ts ≡ Some t → op_at k t ≡ Some o → room ≤ 1) → Reads (Within room (Tail (Chains j (IsUnary d)) (op_at k) join a)) (after k) ts a ts
+pub tail_stop : (j k d : ℕ) → suc j ≡ k → {room : ℕ} {ts : List Lexed} {a : SrcExprModel} → ((t : Lexed) (o : Op2) → head ts ≡ Some t → op_at k t ≡ Some o → room ≤ 1) → Reads (Within room (Tail (Chains j (IsUnary d)) (op_at k) join a)) (after k) ts a ts
 tail_stop j k d s {room = room} {ts = ts} {a = a} ends = subst (λ n. Reads (Within room (Tail (Chains j (IsUnary d)) (op_at n) join a)) (after n) ts a ts) s (tail_ends (chained j d) join (λ t o h is. ends t o h (subst (λ n. op_at n t ≡ Some o) s is)))
 
-pub tail_stuck : (j k d : ℕ) → suc j ≡ k → {room : ℕ} {all ts : List Lexed} {a : Phrase} {t : Lexed} {o : Op2} {stop : Stop} → all ≡ t ∷ ts → op_at k t ≡ Some o → 1 ≤ room → FailsAs (Within (room - 1) (Chains j (IsUnary d))) (after j) ts stop
+pub tail_stuck : (j k d : ℕ) → suc j ≡ k → {room : ℕ} {all ts : List Lexed} {a : SrcExprModel} {t : Lexed} {o : Op2} {stop : ParseStop} → all ≡ t ∷ ts → op_at k t ≡ Some o → 1 ≤ room → FailsAs (Within (room - 1) (Chains j (IsUnary d))) (after j) ts stop
     → FailsAs (Within room (Tail (Chains j (IsUnary d)) (op_at k) join a)) (after k) all stop
 tail_stuck j k d s {room = room} {all = all} {a = a} {t = t} {o = o} {stop = stop} parts is long f = subst (λ n. FailsAs (Within room (Tail (Chains j (IsUnary d)) (op_at n) join a)) (after n) all stop) s (tail_fails (chained j d) join parts (subst (λ n. op_at n t ≡ Some o) (sym s) is) long f)
 
-pub tail_on : (j k d : ℕ) → suc j ≡ k → {room : ℕ} {all ts m : List Lexed} {a b v : Phrase} {t : Lexed} {o : Op2} → all ≡ t ∷ ts → op_at k t ≡ Some o → 1 ≤ room → v ≡ join a o b → Reads (Within (room - 1) (Chains j (IsUnary d))) (after j) ts b m
+pub tail_on : (j k d : ℕ) → suc j ≡ k → {room : ℕ} {all ts m : List Lexed} {a b v : SrcExprModel} {t : Lexed} {o : Op2} → all ≡ t ∷ ts → op_at k t ≡ Some o → 1 ≤ room → v ≡ join a o b → Reads (Within (room - 1) (Chains j (IsUnary d))) (after j) ts b m
     → Leads (λ v. v) (Within (room - 1 - (length ts - length m)) (Tail (Chains j (IsUnary d)) (op_at k) join v)) (after k) m (Within room (Tail (Chains j (IsUnary d)) (op_at k) join a)) (after k) all
 tail_on j k d s {room = room} {all = all} {ts = ts} {m = m} {a = a} {b = b} {t = t} {o = o} parts is long made p =
     subst (λ w. Leads (λ v. v) (Within (room - 1 - (length ts - length m)) (Tail (Chains j (IsUnary d)) (op_at k) join w)) (after k) m (Within room (Tail (Chains j (IsUnary d)) (op_at k) join a)) (after k) all) (sym made)
@@ -124,14 +124,14 @@ some_is e = cc
 widely : {T V : Type 0} {R : List T → V → Type 0} {room : ℕ} → 1 ≤ room → Short 1 R → Short room R
 widely long s = (let f : length s.text ≤ 1 = s.fits in record { text = s.text; value = s.value; is = s.is; fits = omega arith })
 
-open_to : (U E : List Lexed → Phrase → Type 0) (w : Word) (o : Opening) (at : ℕ) (x : List Lexed) (v : Phrase) → opening_of w ≡ Some o → OpenBehind U E o at x v → UnaryBehind U E w at x v
+open_to : (U E : List Lexed → SrcExprModel → Type 0) (w : Word) (o : Opening) (at : ℕ) (x : List Lexed) (v : SrcExprModel) → opening_of w ≡ Some o → OpenBehind U E o at x v → UnaryBehind U E w at x v
 open_to U E (Keyed (Operates Sub)) o at x v e h = subst (λ o. OpenBehind U E o at x v) (some_is (sym e)) h
 open_to U E (Shows Tilde) o at x v e h = subst (λ o. OpenBehind U E o at x v) (some_is (sym e)) h
 open_to U E (Shows LeftParen) o at x v e h = subst (λ o. OpenBehind U E o at x v) (some_is (sym e)) h
 open_to U E (Keyed (Calls call)) o at x v e h = subst (λ o. OpenBehind U E o at x v) (some_is (sym e)) h
 open_to U E _ o at x v e h = absurd cc
 
-pub open_from : (U E : List Lexed → Phrase → Type 0) (w : Word) (o : Opening) (at : ℕ) (x : List Lexed) (v : Phrase) → opening_of w ≡ Some o → UnaryBehind U E w at x v → OpenBehind U E o at x v
+pub open_from : (U E : List Lexed → SrcExprModel → Type 0) (w : Word) (o : Opening) (at : ℕ) (x : List Lexed) (v : SrcExprModel) → opening_of w ≡ Some o → UnaryBehind U E w at x v → OpenBehind U E o at x v
 open_from U E (Keyed (Operates Sub)) o at x v e h = subst (λ o. OpenBehind U E o at x v) (some_is e) h
 open_from U E (Shows Tilde) o at x v e h = subst (λ o. OpenBehind U E o at x v) (some_is e) h
 open_from U E (Shows LeftParen) o at x v e h = subst (λ o. OpenBehind U E o at x v) (some_is e) h
@@ -146,15 +146,15 @@ open_within levels d s {t = t} {o = o} long parts is = rw s (then_leads (leads_a
     (λ x w c e st r. record { text = open_from (IsUnary d) (IsExpr d) t.word o t.at x w is r.text; fits = r.fits })
     (λ c st. st)) (word_within (UnaryBehind (IsUnary d) (IsExpr d)) long parts))
 
-nothing_opens : (o : Opening) (at : ℕ) (x : List Lexed) (v : Phrase) → OpenBehind IsNothing IsNothing o at x v → ⊥
+nothing_opens : (o : Opening) (at : ℕ) (x : List Lexed) (v : SrcExprModel) → OpenBehind IsNothing IsNothing o at x v → ⊥
 nothing_opens (Signs op) at x v h = h.first
 nothing_opens Paren at x v h = h.first.first
 nothing_opens (Asks call) at x v h = h.first.second
 
-pub width_behind : {make : ℕ → Phrase} → AtLeast {T = Lexed} {V = Phrase} 3 (Bind (Before (Behind Comma IsNumber) RightParen) (λ _ n. Return (make n)))
+pub width_behind : {make : ℕ → SrcExprModel} → AtLeast {T = Lexed} {V = SrcExprModel} 3 (Bind (Before (Behind Comma IsNumber) RightParen) (λ _ n. Return (make n)))
 width_behind = bind_least 3 0 (bind_least 2 1 (bind_least 1 1 token_least (λ u. token_least)) (λ n. bind_least 1 0 token_least (λ u. any_least))) (λ n. any_least)
 
-pub width_most : {make : ℕ → Phrase} → AtMost {T = Lexed} {V = Phrase} 3 (Bind (Before (Behind Comma IsNumber) RightParen) (λ _ n. Return (make n)))
+pub width_most : {make : ℕ → SrcExprModel} → AtMost {T = Lexed} {V = SrcExprModel} 3 (Bind (Before (Behind Comma IsNumber) RightParen) (λ _ n. Return (make n)))
 width_most = bind_most 3 0 (bind_most 2 1 (bind_most 1 1 (token_most one) (λ u. token_most one)) (λ n. bind_most 1 0 (token_most one) (λ u. return_most))) (λ n. return_most)
   where
     one : 1 ≤ 1
@@ -163,10 +163,10 @@ width_most = bind_most 3 0 (bind_most 2 1 (bind_most 1 1 (token_most one) (λ u.
 pub short_sign : {s : Symbol} → Short {T = Lexed} 1 (Sign s)
 short_sign {s = s} = short_token (record { word = Shows s; at = 0 }) tt refl
 
-pub short_width : {make : ℕ → Phrase} → Short {T = Lexed} {V = Phrase} 3 (Bind (Before (Behind Comma IsNumber) RightParen) (λ _ n. Return (make n)))
+pub short_width : {make : ℕ → SrcExprModel} → Short {T = Lexed} {V = SrcExprModel} 3 (Bind (Before (Behind Comma IsNumber) RightParen) (λ _ n. Return (make n)))
 short_width = short_bind 3 0 (short_bind 2 1 (short_bind 1 1 short_sign (λ u. short_token (record { word = Number 0; at = 0 }) 0 refl)) (λ n. short_bind 1 0 short_sign (λ u. short_return))) (λ n. short_return)
 
-open_least : (d : ℕ) (o : Opening) (at : ℕ) (x : List Lexed) (v : Phrase) → OpenBehind (IsUnary d) (IsExpr d) o at x v → least_of o ≤ 1 + length x
+open_least : (d : ℕ) (o : Opening) (at : ℕ) (x : List Lexed) (v : SrcExprModel) → OpenBehind (IsUnary d) (IsExpr d) o at x v → least_of o ≤ 1 + length x
 open_least d (Signs op) at x v h = (let f = (bind_least 1 0 (unary_some d) (λ a. any_least)).at x v h in omega arith)
 open_least d Paren at x v h = (let f = (bind_least 2 0 (bind_least 1 1 (chain_some 6 d) (λ a. bind_least 1 0 token_least (λ u. any_least))) (λ a. any_least)).at x v h in omega arith)
 open_least d (Asks call) at x v h = (let f = (bind_least 2 3 (bind_least 1 1 token_least (λ u. chain_some 6 d)) (λ a. width_behind)).at x v h in omega arith)
@@ -181,7 +181,7 @@ not_opened (suc d) {t = t} {o = o} long parts is bar = word_misses (UnaryBehind 
 
 -- ---- what opens none
 
-no_leaf : (U E : List Lexed → Phrase → Type 0) (w : Word) → opening_of w ≡ None → ((n : List ℕ) → w ≡ Name n → ⊥) → ((n : ℕ) → w ≡ Number n → ⊥) → (at : ℕ) (x : List Lexed) (v : Phrase) → UnaryBehind U E w at x v → ⊥
+no_leaf : (U E : List Lexed → SrcExprModel → Type 0) (w : Word) → opening_of w ≡ None → ((n : List ℕ) → w ≡ Name n → ⊥) → ((n : ℕ) → w ≡ Number n → ⊥) → (at : ℕ) (x : List Lexed) (v : SrcExprModel) → UnaryBehind U E w at x v → ⊥
 no_leaf U E (Name n) e a b at x v h = a n refl
 no_leaf U E (Number n) e a b at x v h = b n refl
 no_leaf U E (Keyed (Operates Sub)) e a b at x v h = absurd cc
@@ -235,7 +235,7 @@ index_within levels d s b = rw s (maybe_within b.parts (ap (may_follow 0) b.is) 
 
 -- ---- what a place is seen as
 
-pub shape_Var : (name : List ℕ) (at : ℕ) (index : Option (Box SrcExpr Global)) → shape_of (Var (roll-Spot (record { name = name; at = at; index = index }))) ≡ shape_at name at (index_of index)
+pub shape_Var : (name : List ℕ) (at : ℕ) (index : Option (Box SrcExpr Global)) → model_of_src_node (Var (roll-Spot (record { name = name; at = at; index = index }))) ≡ node_at name at (index_of index)
 unfolding roll-Spot denote.Hole.Carrier.roll
 shape_Var name at None = refl
 shape_Var name at (Some b) = refl

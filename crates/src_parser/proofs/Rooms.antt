@@ -1,8 +1,8 @@
 -- Texts with a limit on their tokens, step by step.
 use Rattle.std.proofs.Common.{◌≡◌, ℕ, ◌-◌, ◌+◌, ◌≤◌, Bool, true, List, [], ◌∷◌, ◌++◌, length, Option, Some, None, refl, sym, ap, subst, ◌∙◌, arith}
 use Rattle.std.proofs.lemmas.List.{append-nil, length-append}
-use Rattle.grammar.specs.declared.stop.Stop.{Stop}
-use Rattle.grammar.specs.declared.stop.Stop.TheVariants.{At}
+use Rattle.grammar.specs.declared.stop.ParseStop.{ParseStop}
+use Rattle.grammar.specs.declared.stop.ParseStop.TheVariants.{At}
 use Rattle.grammar.specs.Reading.{Return, Token, Bind, Within, Maybe, without, with_one, head, never, Stops, Reads, FailsAs, Leads}
 use Rattle.grammar.proofs.Steps.{leads_as, token_reads, fails_here, never_stops}
 use Rattle.grammar.proofs.Passing.{Apart, never_apart, then_leads, stops_at, maybe_leads}
@@ -137,7 +137,7 @@ short_bind m n a b =
 -- ---- a second text of so many tokens
 
 module _ {T V W : Type 0} {A : List T → V → Type 0} {B : V → List T → W → Type 0} {more_a more_b : T → Bool} (apart : Apart more_a B more_b) (room least : ℕ) (long : least ≤ room) (short : (a : V) → AtLeast least (B a)) where
-  pub first_fails : {ts : List T} {stop : Stop} → ((a : V) → Short least (B a)) → FailsAs (Within (room - least) A) more_a ts stop → FailsAs (Within room (Bind A (λ _ a. B a))) more_b ts stop
+  pub first_fails : {ts : List T} {stop : ParseStop} → ((a : V) → Short least (B a)) → FailsAs (Within (room - least) A) more_a ts stop → FailsAs (Within room (Bind A (λ _ a. B a))) more_b ts stop
   first_fails there f = limited_fails apart room least (λ a y w b. (short a).at y w b) long (λ a. (let s = there a in (s.text, s.value, s.is, s.fits))) f
 
   pub second_leads : {ts m : List T} {a : V} → AtMost least (B a) → Reads (Within (room - least) A) more_a ts a m → Leads (λ v. v) (B a) more_b m (Within room (Bind A (λ _ a. B a))) more_b ts

@@ -7,19 +7,19 @@ ghost use Rattle.grammar.specs.Tokens.{Before, Behind, IsNumber};
 ghost use Rattle.src_model.specs.Grammar.{DeclsBehind, IsDecl, IsDecls, IsLines};
 ghost use Rattle.src_parser.specs.Inner.Steps.{after_decl, after_decls, after_lines};
 
-use grammar::{Stop, begins_with, expect, keeping, name, number_between};
+use grammar::{ParseStop, begins_with, expect, keeping, name, number_between};
 use src_model::{Lexed, Symbol, Var};
 use std::alloc::Global;
 
 /// The length of an array, in its bracket.
-fn bracketed(ts: &[Lexed]) -> Result<(u64, &[Lexed]), Stop>
+fn bracketed(ts: &[Lexed]) -> Result<(u64, &[Lexed]), ParseStop>
     ensures { Gives (λ x. (x.0, x.1.now)) (Behind LeftBracket (Before IsNumber RightBracket)) never ts.now result }
 {
     number_between(Symbol::LeftBracket, Symbol::RightBracket, ts)
 }
 
 /// The length of an array, if there is one.
-fn length(ts: &[Lexed]) -> Result<(Option<u64>, &[Lexed]), Stop>
+fn length(ts: &[Lexed]) -> Result<(Option<u64>, &[Lexed]), ParseStop>
     ensures { Gives (λ x. (x.0, x.1.now))
         (Maybe (Behind LeftBracket (Before IsNumber RightBracket))) after_decl ts.now result }
 {
@@ -32,7 +32,7 @@ fn length(ts: &[Lexed]) -> Result<(Option<u64>, &[Lexed]), Stop>
 }
 
 /// A name with its length.
-fn declared(alloc: Global, ts: &[Lexed]) -> Result<(Var, &[Lexed]), Stop>
+fn declared(alloc: Global, ts: &[Lexed]) -> Result<(Var, &[Lexed]), ParseStop>
     ensures { Gives (λ x. (x.0, x.1.now)) IsDecl after_decl ts.now result }
 {
     let (ident, rest) = name(alloc, ts)?;
@@ -46,7 +46,11 @@ fn declared(alloc: Global, ts: &[Lexed]) -> Result<(Var, &[Lexed]), Stop>
 }
 
 /// A symbol, and a name with its length.
-fn declared_behind(alloc: Global, symbol: Symbol, ts: &[Lexed]) -> Result<(Var, &[Lexed]), Stop>
+fn declared_behind(
+    alloc: Global,
+    symbol: Symbol,
+    ts: &[Lexed],
+) -> Result<(Var, &[Lexed]), ParseStop>
     ensures { Gives (λ x. (x.0, x.1.now)) (Behind symbol IsDecl) after_decl ts.now result }
 {
     let rest = expect(symbol, ts)?;
@@ -54,7 +58,7 @@ fn declared_behind(alloc: Global, symbol: Symbol, ts: &[Lexed]) -> Result<(Var, 
 }
 
 /// The variables of a line behind its first one.
-fn others(alloc: Global, first: Var, ts: &[Lexed]) -> Result<(Vec<Var>, &[Lexed]), Stop>
+fn others(alloc: Global, first: Var, ts: &[Lexed]) -> Result<(Vec<Var>, &[Lexed]), ParseStop>
     ensures { Gives (λ x. (x.0.items, x.1.now)) (DeclsBehind first) after_decls ts.now result }
 {
     let mut vars = Vec::new(alloc);
@@ -69,7 +73,7 @@ fn others(alloc: Global, first: Var, ts: &[Lexed]) -> Result<(Vec<Var>, &[Lexed]
 }
 
 /// The variables of a line.
-fn line(alloc: Global, ts: &[Lexed]) -> Result<(Vec<Var>, &[Lexed]), Stop>
+fn line(alloc: Global, ts: &[Lexed]) -> Result<(Vec<Var>, &[Lexed]), ParseStop>
     ensures { Gives (λ x. (x.0.items, x.1.now)) IsDecls never ts.now result }
 {
     let (first, rest) = declared_behind(alloc, Symbol::Var, ts)?;
@@ -78,7 +82,7 @@ fn line(alloc: Global, ts: &[Lexed]) -> Result<(Vec<Var>, &[Lexed]), Stop>
 }
 
 /// The variables of all lines.
-pub fn lines(alloc: Global, ts: &[Lexed]) -> Result<(Vec<Var>, &[Lexed]), Stop>
+pub fn lines(alloc: Global, ts: &[Lexed]) -> Result<(Vec<Var>, &[Lexed]), ParseStop>
     ensures { Gives (λ x. (x.0.items, x.1.now)) IsLines after_lines ts.now result }
 {
     let mut vars = Vec::new(alloc);

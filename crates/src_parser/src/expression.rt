@@ -3,15 +3,15 @@
 
 ghost use Rattle.std.specs.Prelude.{◌≡◌, ◌≤◌, ◌-◌, ◌↔◌, IsTrue, IfOk, IfErr, false};
 ghost use Rattle.grammar.specs.Reading.{Gives, Tail, Within, never};
-ghost use Rattle.grammar.specs.declared.stop.Stop.TheVariants.{Memory as Exhausted};
+ghost use Rattle.grammar.specs.declared.stop.ParseStop.TheVariants.{Memory as Exhausted};
 ghost use Rattle.grammar.specs.declared.words.Word.TheVariants.{Name as Named, Symbol as Shows};
 ghost use Rattle.src_model.specs.declared.words.Symbol.TheVariants.{Comma, LeftBracket, LeftParen, RightBracket, RightParen};
 ghost use Rattle.grammar.specs.Tokens.{Before, Behind, IsNothing};
 ghost use Rattle.src_model.specs.Grammar.{Called, Chains, Enclosed, IsExpr, IsIndex, IsOuter, IsUnary, PlaceBehind, Signed, UnaryBehind, join, op_at, op_of, rank};
-ghost use Rattle.src_model.specs.Written.{index_of, phrase_of, place_of};
+ghost use Rattle.src_model.specs.Written.{index_of, model_of_src_expr, model_of_spot};
 ghost use Rattle.src_parser.specs.Inner.Steps.{HasRoom, InExpr, OpensIndex, OpenBehind, after, least_of, may_follow, opening_of};
 
-use grammar::{Stop, begins_with, expect, front, keeping, number_between};
+use grammar::{ParseStop, begins_with, expect, front, keeping, number_between};
 use rec_bits::{Items, Name, Op1, Op2};
 use src_model::{Call, Key, Lexed, Spot, SrcExpr, SrcNode, Symbol, Word};
 use std::alloc::Global;
@@ -80,8 +80,8 @@ fn op_of(k: u8, word: &Word) -> Option<Op2>
 }
 
 /// An operator with its operands.
-fn joined(alloc: Global, a: SrcExpr, op: Op2, b: SrcExpr) -> Result<SrcExpr, Stop>
-    ensures made { IfOk result (λ e. phrase_of e ≡ join (phrase_of a) op (phrase_of b)) }
+fn joined(alloc: Global, a: SrcExpr, op: Op2, b: SrcExpr) -> Result<SrcExpr, ParseStop>
+    ensures made { IfOk result (λ e. model_of_src_expr e ≡ join (model_of_src_expr a) op (model_of_src_expr b)) }
     ensures refused { IfErr result (λ stop. stop ≡ Exhausted) }
 {
     let at = a.at;
@@ -94,9 +94,9 @@ fn joined(alloc: Global, a: SrcExpr, op: Op2, b: SrcExpr) -> Result<SrcExpr, Sto
 }
 
 /// A call of an expression and a number of bits.
-fn called(alloc: Global, call: Call, at: u64, a: SrcExpr, width: u64) -> Result<SrcExpr, Stop>
+fn called(alloc: Global, call: Call, at: u64, a: SrcExpr, width: u64) -> Result<SrcExpr, ParseStop>
     ensures made { IfOk result (λ e.
-        phrase_of e ≡ record { at = at; shape = Rattle.src_model.specs.Grammar.called call (phrase_of a) width }) }
+        model_of_src_expr e ≡ record { at = at; shape = Rattle.src_model.specs.Grammar.called call (model_of_src_expr a) width }) }
     ensures refused { IfErr result (λ stop. stop ≡ Exhausted) }
 {
     let a = Box::new(alloc, a)?;
@@ -123,8 +123,8 @@ fn opens_index(levels: u8, room: usize, ts: &[Lexed]) -> bool
 }
 
 /// An expression that isn't inside another one.
-pub fn expr(alloc: Global, levels: u8, ts: &[Lexed]) -> Result<(SrcExpr, &[Lexed]), Stop>
-    ensures { Gives (λ x. (phrase_of x.0, x.1.now)) (IsOuter levels) (after 6) ts.now result }
+pub fn expr(alloc: Global, levels: u8, ts: &[Lexed]) -> Result<(SrcExpr, &[Lexed]), ParseStop>
+    ensures { Gives (λ x. (model_of_src_expr x.0, x.1.now)) (IsOuter levels) (after 6) ts.now result }
 {
     chain(alloc, LOOSEST, levels, MOST_TOKENS, ts)
 }
@@ -137,10 +137,10 @@ fn chain(
     levels: u8,
     room: usize,
     ts: &[Lexed],
-) -> Result<(SrcExpr, &[Lexed]), Stop>
+) -> Result<(SrcExpr, &[Lexed]), ParseStop>
     requires some { 1 ≤ room }
     requires ranked { k ≤ 6 }
-    ensures { Gives (λ x. (phrase_of x.0, x.1.now)) (Within room (Chains k (IsUnary levels))) (after k) ts.now result }
+    ensures { Gives (λ x. (model_of_src_expr x.0, x.1.now)) (Within room (Chains k (IsUnary levels))) (after k) ts.now result }
 {
     if k == 0 {
         return unary(alloc, levels, room, ts);
@@ -165,11 +165,11 @@ fn tail(
     room: usize,
     first: SrcExpr,
     ts: &[Lexed],
-) -> Result<(SrcExpr, &[Lexed]), Stop>
+) -> Result<(SrcExpr, &[Lexed]), ParseStop>
     requires some { 1 ≤ k }
     requires ranked { k ≤ 6 }
-    ensures { Gives (λ x. (phrase_of x.0, x.1.now))
-        (Within room (Tail (Chains (k - 1) (IsUnary levels)) (op_at k) join (phrase_of first)))
+    ensures { Gives (λ x. (model_of_src_expr x.0, x.1.now))
+        (Within room (Tail (Chains (k - 1) (IsUnary levels)) (op_at k) join (model_of_src_expr first)))
         (after k) ts.now result }
 {
     let mut left = first;
@@ -198,10 +198,10 @@ fn closed(
     levels: u8,
     room: usize,
     ts: &[Lexed],
-) -> Result<(SrcExpr, &[Lexed]), Stop>
+) -> Result<(SrcExpr, &[Lexed]), ParseStop>
     requires long { 2 ≤ room }
     requires ends { may_follow 6 (Shows last) ≡ false }
-    ensures { Gives (λ x. (phrase_of x.0, x.1.now)) (Within room (Before (IsExpr levels) last)) never ts.now result }
+    ensures { Gives (λ x. (model_of_src_expr x.0, x.1.now)) (Within room (Before (IsExpr levels) last)) never ts.now result }
 {
     let (a, rest) = chain(alloc, LOOSEST, levels, room - 1, ts)?;
     keeping(a, expect(last, rest))
@@ -214,9 +214,9 @@ fn bracket(
     levels: u8,
     room: usize,
     ts: &[Lexed],
-) -> Result<(SrcExpr, &[Lexed]), Stop>
+) -> Result<(SrcExpr, &[Lexed]), ParseStop>
     requires { 3 ≤ room }
-    ensures { Gives (λ x. (phrase_of x.0, x.1.now))
+    ensures { Gives (λ x. (model_of_src_expr x.0, x.1.now))
         (Within room (Behind LeftBracket (Before (IsExpr levels) RightBracket))) never ts.now result }
 {
     let rest = expect(Symbol::LeftBracket, ts)?;
@@ -230,7 +230,7 @@ fn index(
     levels: u8,
     room: usize,
     ts: &[Lexed],
-) -> Result<(Option<Box<SrcExpr>>, &[Lexed]), Stop>
+) -> Result<(Option<Box<SrcExpr>>, &[Lexed]), ParseStop>
     ensures { Gives (λ x. (index_of x.0, x.1.now)) (Within room (IsIndex (InExpr levels))) (after 0) ts.now result }
 {
     if opens_index(levels, room, ts) {
@@ -251,8 +251,8 @@ fn named<'a>(
     levels: u8,
     room: usize,
     ts: &'a [Lexed],
-) -> Result<(SrcExpr, &'a [Lexed]), Stop>
-    ensures { Gives (λ x. (phrase_of x.0, x.1.now))
+) -> Result<(SrcExpr, &'a [Lexed]), ParseStop>
+    ensures { Gives (λ x. (model_of_src_expr x.0, x.1.now))
         (Within room (UnaryBehind IsNothing (InExpr levels) (Named name.now) at)) (after 0) ts.now result }
 {
     let (index, rest) = index(alloc, levels, room, ts)?;
@@ -270,9 +270,9 @@ fn signed(
     levels: u8,
     room: usize,
     ts: &[Lexed],
-) -> Result<(SrcExpr, &[Lexed]), Stop>
+) -> Result<(SrcExpr, &[Lexed]), ParseStop>
     requires { 1 ≤ room }
-    ensures { Gives (λ x. (phrase_of x.0, x.1.now)) (Within room (Signed (IsUnary levels) op at))
+    ensures { Gives (λ x. (model_of_src_expr x.0, x.1.now)) (Within room (Signed (IsUnary levels) op at))
         (after 0) ts.now result }
 {
     let (a, rest) = unary(alloc, levels, room, ts)?;
@@ -288,9 +288,9 @@ fn enclosed(
     levels: u8,
     room: usize,
     ts: &[Lexed],
-) -> Result<(SrcExpr, &[Lexed]), Stop>
+) -> Result<(SrcExpr, &[Lexed]), ParseStop>
     requires { 2 ≤ room }
-    ensures { Gives (λ x. (phrase_of x.0, x.1.now)) (Within room (Enclosed (IsExpr levels) at))
+    ensures { Gives (λ x. (model_of_src_expr x.0, x.1.now)) (Within room (Enclosed (IsExpr levels) at))
         (after 0) ts.now result }
 {
     let (a, rest) = closed(alloc, Symbol::RightParen, levels, room, ts)?;
@@ -304,9 +304,9 @@ fn argument(
     levels: u8,
     room: usize,
     ts: &[Lexed],
-) -> Result<(SrcExpr, &[Lexed]), Stop>
+) -> Result<(SrcExpr, &[Lexed]), ParseStop>
     requires { 2 ≤ room }
-    ensures { Gives (λ x. (phrase_of x.0, x.1.now)) (Within room (Behind LeftParen (IsExpr levels)))
+    ensures { Gives (λ x. (model_of_src_expr x.0, x.1.now)) (Within room (Behind LeftParen (IsExpr levels)))
         (after 6) ts.now result }
 {
     let rest = expect(Symbol::LeftParen, ts)?;
@@ -322,9 +322,9 @@ fn call(
     levels: u8,
     room: usize,
     ts: &[Lexed],
-) -> Result<(SrcExpr, &[Lexed]), Stop>
+) -> Result<(SrcExpr, &[Lexed]), ParseStop>
     requires { 5 ≤ room }
-    ensures { Gives (λ x. (phrase_of x.0, x.1.now)) (Within room (Called (IsExpr levels) call at))
+    ensures { Gives (λ x. (model_of_src_expr x.0, x.1.now)) (Within room (Called (IsExpr levels) call at))
         (after 0) ts.now result }
 {
     let (a, rest) = argument(alloc, levels, room - 3, ts)?;
@@ -342,9 +342,9 @@ fn opened(
     levels: u8,
     room: usize,
     ts: &[Lexed],
-) -> Result<(SrcExpr, &[Lexed]), Stop>
+) -> Result<(SrcExpr, &[Lexed]), ParseStop>
     requires { least_of opening - 1 ≤ room }
-    ensures { Gives (λ x. (phrase_of x.0, x.1.now))
+    ensures { Gives (λ x. (model_of_src_expr x.0, x.1.now))
         (Within room (OpenBehind (IsUnary levels) (IsExpr levels) opening at)) (after 0) ts.now result }
 {
     match opening {
@@ -356,16 +356,21 @@ fn opened(
 
 /// An operand.
 #[cycle(expr)]
-fn unary(alloc: Global, levels: u8, room: usize, ts: &[Lexed]) -> Result<(SrcExpr, &[Lexed]), Stop>
+fn unary(
+    alloc: Global,
+    levels: u8,
+    room: usize,
+    ts: &[Lexed],
+) -> Result<(SrcExpr, &[Lexed]), ParseStop>
     requires { 1 ≤ room }
-    ensures { Gives (λ x. (phrase_of x.0, x.1.now)) (Within room (IsUnary levels)) (after 0) ts.now result }
+    ensures { Gives (λ x. (model_of_src_expr x.0, x.1.now)) (Within room (IsUnary levels)) (after 0) ts.now result }
 {
     let Some((t, rest)) = front(ts) else {
-        return Err(Stop::At(0));
+        return Err(ParseStop::At(0));
     };
     if let Some(opening) = opening_of(&t.word) {
         if !has_room(levels, room, least_of(opening)) {
-            return Err(Stop::At(ts.len()));
+            return Err(ParseStop::At(ts.len()));
         }
         return opened(alloc, opening, t.at, levels - 1, room - 1, rest);
     }
@@ -375,6 +380,6 @@ fn unary(alloc: Global, levels: u8, room: usize, ts: &[Lexed]) -> Result<(SrcExp
             Ok((SrcExpr { at: t.at, node }, rest))
         }
         Word::Name(name) => named(alloc, name, t.at, levels, room - 1, rest),
-        _ => Err(Stop::At(ts.len())),
+        _ => Err(ParseStop::At(ts.len())),
     }
 }

@@ -4,13 +4,13 @@ ghost use Rattle.std.specs.Prelude.{◌≡◌, ◌≤◌, ◌↔◌, IsTrue, fal
 ghost use Rattle.grammar.specs.Reading.{Gives, never};
 ghost use Rattle.grammar.specs.declared.words.Word.TheVariants.{Name as Named, Symbol as Shows};
 ghost use Rattle.src_parser.specs.declared.statement.Compound.TheVariants.{For as Counts, If as Chooses, While as Repeats};
-ghost use Rattle.src_model.specs.Grammar.{ActBehind, IsAct, IsBlock, IsBody, IsCmp, IsElse, IsIndex, IsInner, IsOuter, IsTest};
+ghost use Rattle.src_model.specs.Grammar.{StmtBehind, IsStmt, IsBlock, IsBody, IsCmp, IsElse, IsIndex, IsInner, IsOuter, IsTest};
 ghost use Rattle.grammar.specs.Tokens.{Before, Behind, IsNothing, BeginsSo};
-ghost use Rattle.src_model.specs.Written.{act_of, index_of, phrase_of, test_of};
+ghost use Rattle.src_model.specs.Written.{model_of_stmt, index_of, model_of_src_expr, model_of_src_test};
 ghost use Rattle.src_parser.specs.Inner.Steps.{CompoundBehind, OpensBracket, act_word, after, after_acts, after_else, cmp_of, compound_of, may_follow, others_of};
 
 use crate::expression::expr;
-use grammar::{Stop, begins_with, expect, front, keeping, name, number_behind};
+use grammar::{ParseStop, begins_with, expect, front, keeping, name, number_behind};
 use rec_bits::{Items, Name};
 use src_model::{Cmp, Key, Lexed, Spot, SrcExpr, SrcTest, Stmt, Symbol, Word};
 use std::alloc::Global;
@@ -26,21 +26,21 @@ fn cmp_of(word: &Word) -> Option<Cmp>
 }
 
 /// A word that compares.
-fn cmp(ts: &[Lexed]) -> Result<(Cmp, &[Lexed]), Stop>
+fn cmp(ts: &[Lexed]) -> Result<(Cmp, &[Lexed]), ParseStop>
     ensures { Gives (λ x. (x.0, x.1.now)) IsCmp never ts.now result }
 {
     let Some((t, rest)) = front(ts) else {
-        return Err(Stop::At(0));
+        return Err(ParseStop::At(0));
     };
     let Some(cmp) = cmp_of(&t.word) else {
-        return Err(Stop::At(ts.len()));
+        return Err(ParseStop::At(ts.len()));
     };
     Ok((cmp, rest))
 }
 
 /// A test.
-fn test(alloc: Global, levels: u8, ts: &[Lexed]) -> Result<(SrcTest, &[Lexed]), Stop>
-    ensures { Gives (λ x. (test_of x.0, x.1.now)) (IsTest levels) (after 6) ts.now result }
+fn test(alloc: Global, levels: u8, ts: &[Lexed]) -> Result<(SrcTest, &[Lexed]), ParseStop>
+    ensures { Gives (λ x. (model_of_src_test x.0, x.1.now)) (IsTest levels) (after 6) ts.now result }
 {
     let (left, rest) = expr(alloc, levels, ts)?;
     let (left, (cmp, rest)) = keeping(left, cmp(rest))?;
@@ -55,9 +55,9 @@ fn between(
     last: Symbol,
     levels: u8,
     ts: &[Lexed],
-) -> Result<(SrcExpr, &[Lexed]), Stop>
+) -> Result<(SrcExpr, &[Lexed]), ParseStop>
     requires { may_follow 6 (Shows last) ≡ false }
-    ensures { Gives (λ x. (phrase_of x.0, x.1.now)) (Behind first (Before (IsOuter levels) last)) never ts.now result }
+    ensures { Gives (λ x. (model_of_src_expr x.0, x.1.now)) (Behind first (Before (IsOuter levels) last)) never ts.now result }
 {
     let rest = expect(first, ts)?;
     let (a, rest) = expr(alloc, levels, rest)?;
@@ -76,7 +76,7 @@ fn outer_index(
     alloc: Global,
     levels: u8,
     ts: &[Lexed],
-) -> Result<(Option<Box<SrcExpr>>, &[Lexed]), Stop>
+) -> Result<(Option<Box<SrcExpr>>, &[Lexed]), ParseStop>
     ensures { Gives (λ x. (index_of x.0, x.1.now)) (IsIndex (IsInner levels)) (after 0) ts.now result }
 {
     if opens_bracket(levels, ts) {
@@ -101,8 +101,8 @@ fn assignment<'a>(
     at: u64,
     levels: u8,
     ts: &'a [Lexed],
-) -> Result<(Stmt, &'a [Lexed]), Stop>
-    ensures { Gives (λ x. (act_of x.0, x.1.now)) (ActBehind levels IsNothing (Named name.now) at)
+) -> Result<(Stmt, &'a [Lexed]), ParseStop>
+    ensures { Gives (λ x. (model_of_stmt x.0, x.1.now)) (StmtBehind levels IsNothing (Named name.now) at)
         after_else ts.now result }
 {
     let (index, rest) = outer_index(alloc, levels, ts)?;
@@ -127,8 +127,8 @@ fn begins_act(ts: &[Lexed]) -> bool
 
 /// Statements, as many as there are.
 #[cycle(acts)]
-pub fn body(alloc: Global, levels: u8, ts: &[Lexed]) -> Result<(Vec<Stmt>, &[Lexed]), Stop>
-    ensures { Gives (λ x. (map act_of x.0.items, x.1.now)) (IsBody levels) after_acts ts.now result }
+pub fn body(alloc: Global, levels: u8, ts: &[Lexed]) -> Result<(Vec<Stmt>, &[Lexed]), ParseStop>
+    ensures { Gives (λ x. (map model_of_stmt x.0.items, x.1.now)) (IsBody levels) after_acts ts.now result }
 {
     let mut acts = Vec::new(alloc);
     let mut rest = ts;
@@ -142,9 +142,9 @@ pub fn body(alloc: Global, levels: u8, ts: &[Lexed]) -> Result<(Vec<Stmt>, &[Lex
 
 /// A block.
 #[cycle(acts)]
-fn block(alloc: Global, levels: u8, ts: &[Lexed]) -> Result<(Vec<Stmt>, &[Lexed]), Stop>
+fn block(alloc: Global, levels: u8, ts: &[Lexed]) -> Result<(Vec<Stmt>, &[Lexed]), ParseStop>
     requires { 1 ≤ levels }
-    ensures { Gives (λ x. (map act_of x.0.items, x.1.now)) (IsBlock levels) never ts.now result }
+    ensures { Gives (λ x. (map model_of_stmt x.0.items, x.1.now)) (IsBlock levels) never ts.now result }
 {
     let rest = expect(Symbol::LeftBrace, ts)?;
     let (body, rest) = body(alloc, levels - 1, rest)?;
@@ -153,7 +153,11 @@ fn block(alloc: Global, levels: u8, ts: &[Lexed]) -> Result<(Vec<Stmt>, &[Lexed]
 
 /// An `else` part, if there is one.
 #[cycle(acts)]
-fn otherwise(alloc: Global, levels: u8, ts: &[Lexed]) -> Result<(Option<Vec<Stmt>>, &[Lexed]), Stop>
+fn otherwise(
+    alloc: Global,
+    levels: u8,
+    ts: &[Lexed],
+) -> Result<(Option<Vec<Stmt>>, &[Lexed]), ParseStop>
     requires { 1 ≤ levels }
     ensures { Gives (λ x. (others_of x.0, x.1.now)) (IsElse (IsBlock levels)) after_else ts.now result }
 {
@@ -188,9 +192,9 @@ fn compound_of(word: &Word) -> Option<Compound>
 
 /// An `if`, behind its word.
 #[cycle(acts)]
-fn choice(alloc: Global, levels: u8, ts: &[Lexed]) -> Result<(Stmt, &[Lexed]), Stop>
+fn choice(alloc: Global, levels: u8, ts: &[Lexed]) -> Result<(Stmt, &[Lexed]), ParseStop>
     requires { 1 ≤ levels }
-    ensures { Gives (λ x. (act_of x.0, x.1.now)) (CompoundBehind levels (IsBlock levels) Chooses)
+    ensures { Gives (λ x. (model_of_stmt x.0, x.1.now)) (CompoundBehind levels (IsBlock levels) Chooses)
         after_else ts.now result }
 {
     let (test, rest) = test(alloc, levels, ts)?;
@@ -201,9 +205,9 @@ fn choice(alloc: Global, levels: u8, ts: &[Lexed]) -> Result<(Stmt, &[Lexed]), S
 
 /// A `while`, behind its word.
 #[cycle(acts)]
-fn repetition(alloc: Global, levels: u8, ts: &[Lexed]) -> Result<(Stmt, &[Lexed]), Stop>
+fn repetition(alloc: Global, levels: u8, ts: &[Lexed]) -> Result<(Stmt, &[Lexed]), ParseStop>
     requires { 1 ≤ levels }
-    ensures { Gives (λ x. (act_of x.0, x.1.now)) (CompoundBehind levels (IsBlock levels) Repeats)
+    ensures { Gives (λ x. (model_of_stmt x.0, x.1.now)) (CompoundBehind levels (IsBlock levels) Repeats)
         after_else ts.now result }
 {
     let (test, rest) = test(alloc, levels, ts)?;
@@ -213,9 +217,9 @@ fn repetition(alloc: Global, levels: u8, ts: &[Lexed]) -> Result<(Stmt, &[Lexed]
 
 /// A `for`, behind its word.
 #[cycle(acts)]
-fn counting(alloc: Global, levels: u8, ts: &[Lexed]) -> Result<(Stmt, &[Lexed]), Stop>
+fn counting(alloc: Global, levels: u8, ts: &[Lexed]) -> Result<(Stmt, &[Lexed]), ParseStop>
     requires { 1 ≤ levels }
-    ensures { Gives (λ x. (act_of x.0, x.1.now)) (CompoundBehind levels (IsBlock levels) Counts)
+    ensures { Gives (λ x. (model_of_stmt x.0, x.1.now)) (CompoundBehind levels (IsBlock levels) Counts)
         after_else ts.now result }
 {
     let (counter, rest) = name(alloc, ts)?;
@@ -239,9 +243,9 @@ fn composed(
     word: Compound,
     levels: u8,
     ts: &[Lexed],
-) -> Result<(Stmt, &[Lexed]), Stop>
+) -> Result<(Stmt, &[Lexed]), ParseStop>
     requires { 1 ≤ levels }
-    ensures { Gives (λ x. (act_of x.0, x.1.now)) (CompoundBehind levels (IsBlock levels) word)
+    ensures { Gives (λ x. (model_of_stmt x.0, x.1.now)) (CompoundBehind levels (IsBlock levels) word)
         after_else ts.now result }
 {
     match word {
@@ -253,20 +257,20 @@ fn composed(
 
 /// A statement.
 #[cycle(acts)]
-fn act(alloc: Global, levels: u8, ts: &[Lexed]) -> Result<(Stmt, &[Lexed]), Stop>
-    ensures { Gives (λ x. (act_of x.0, x.1.now)) (IsAct levels) after_else ts.now result }
+fn act(alloc: Global, levels: u8, ts: &[Lexed]) -> Result<(Stmt, &[Lexed]), ParseStop>
+    ensures { Gives (λ x. (model_of_stmt x.0, x.1.now)) (IsStmt levels) after_else ts.now result }
 {
     let Some((t, rest)) = front(ts) else {
-        return Err(Stop::At(0));
+        return Err(ParseStop::At(0));
     };
     if let Some(word) = compound_of(&t.word) {
         if levels == 0 {
-            return Err(Stop::At(ts.len()));
+            return Err(ParseStop::At(ts.len()));
         }
         return composed(alloc, word, levels, rest);
     }
     match &t.word {
         Word::Name(name) => assignment(alloc, name, t.at, levels, rest),
-        _ => Err(Stop::At(ts.len())),
+        _ => Err(ParseStop::At(ts.len())),
     }
 }

@@ -2,7 +2,7 @@
 
 ghost use Rattle.std.specs.Prelude.{◌≡◌, ◌^◌, ◌<◌, length, IfOk, IfErr, MatchResult};
 ghost use Rattle.rec_bits.specs.declared.fault.ParseFault.{ParseFault};
-ghost use Rattle.src_model.specs.Written.{Listing, listing_of};
+ghost use Rattle.src_model.specs.Written.{ProgramModel, model_of_program};
 ghost use Rattle.src_parser.specs.Texts.{IsSrcText, IsSrcTextFault};
 
 use crate::whole::parse;
@@ -17,11 +17,11 @@ use std::alloc::Global;
 pub fn read(alloc: Global, bytes: &[u8]) -> Result<Program, ParseFault>
     requires { length bytes.now < 2 ^ 32 }
     // What is answered is what the bytes say.
-    ensures found { IfOk result (λ program. IsSrcText bytes.now (listing_of program)) }
+    ensures found { IfOk result (λ program. IsSrcText bytes.now (model_of_program program)) }
 
     // Whatever they say is answered, and nothing else, unless memory runs out.
-    ensures only { (listing : Listing) → IsSrcText bytes.now listing →
-        MatchResult result (λ program. listing_of program ≡ listing) (λ fault. fault ≡ ParseFault.Memory) }
+    ensures only { (listing : ProgramModel) → IsSrcText bytes.now listing →
+        MatchResult result (λ program. model_of_program program ≡ listing) (λ fault. fault ≡ ParseFault.Memory) }
 
     // Where they are no text, the fault is at the first token that shows it.
     ensures fault { IfErr result (IsSrcTextFault bytes.now) }

@@ -3,9 +3,9 @@ use Rattle.std.proofs.Common.{ℕ, zero, suc, ◌≡◌, ◌≤◌, ◌+◌, ◌
 use Rattle.std.proofs.lemmas.List.{get_or-drop, length-set}
 use Rattle.rec_bits.specs.Operators.{apply1_of, apply2_of, slice_of, cat_of, sext_of as extended_of}
 use Rattle.net_model.specs.declared.hardware.Space.TheVariants.{Memory as InMemory, File as InFile}
-use Rattle.net_model.specs.Terms.{Term, word, reg, const, read, un, bin, slice, cat, zext, sext, select, term_width}
-use Rattle.form_model.specs.Rules.{Destination, into, cell, filed, stored, temporary, tested}
-use Rattle.src_trees.specs.Lowered.{Work}
+use Rattle.net_model.specs.Exprs.{ExprModel, word, reg, const, read, un, bin, slice, cat, zext, sext, select, expr_width}
+use Rattle.form_model.specs.Forms.{DestinationModel, into, cell, filed, stored, temporary, tested}
+use Rattle.src_trees.specs.Lowered.{JobModel}
 use Rattle.src_trees.specs.Seen.{tree_value, ReadsCells}
 use Rattle.src_trees.specs.Doing.{job_value, put_at, done, all_done, AllRead, DestinationLies, Lies, AllLie}
 
@@ -20,25 +20,25 @@ cell_behind at a cells others e le =
     ap (slice_index cells) (sym z) ∙ sym (get_or-drop at cells (a - at) 0) ∙ ap (λ xs. slice_index xs (a - at)) e ∙ get_or-drop at others (a - at) 0 ∙ ap (slice_index others) z
 
 module _ (at : ℕ) (cells others : List ℕ) (alike : Alike at cells others) where
-  pub value_behind : (t : Term) → ReadsCells at cells t → tree_value cells t ≡ tree_value others t
+  pub value_behind : (t : ExprModel) → ReadsCells at cells t → tree_value cells t ≡ tree_value others t
   value_behind (word w) r = refl
   value_behind (reg n w) r = refl
   value_behind (const w v) r = refl
   value_behind (read InFile a w) r = absurd r
   value_behind (read InMemory a w) r = cell_behind at (tree_value cells a) cells others alike.same r.1 ∙ ap (slice_index others) (value_behind a r.0)
-  value_behind (un o a) r = ap (apply1_of o (term_width a)) (value_behind a r)
-  value_behind (bin o a b) r = let p = value_behind a r.0 in let q = value_behind b r.1 in (λ j. apply2_of o (term_width a) (p j) (q j))
+  value_behind (un o a) r = ap (apply1_of o (expr_width a)) (value_behind a r)
+  value_behind (bin o a b) r = let p = value_behind a r.0 in let q = value_behind b r.1 in (λ j. apply2_of o (expr_width a) (p j) (q j))
   value_behind (slice a hi lo) r = ap (λ n. slice_of n hi lo) (value_behind a r)
-  value_behind (cat a b) r = let p = value_behind a r.0 in let q = value_behind b r.1 in (λ j. cat_of (p j) (q j) (term_width b))
+  value_behind (cat a b) r = let p = value_behind a r.0 in let q = value_behind b r.1 in (λ j. cat_of (p j) (q j) (expr_width b))
   value_behind (zext a w) r = value_behind a r
-  value_behind (sext a w) r = ap (λ n. extended_of n (term_width a) w) (value_behind a r)
+  value_behind (sext a w) r = ap (λ n. extended_of n (expr_width a) w) (value_behind a r)
   value_behind (select c a b) r =
       let p = value_behind c r.0 in
       let q = value_behind a r.1 in
       let s = value_behind b r.2 in
       (λ j. if p j == 1 then q j else s j)
 
-  pub reads_behind : (t : Term) → ReadsCells at cells t → ReadsCells at others t
+  pub reads_behind : (t : ExprModel) → ReadsCells at cells t → ReadsCells at others t
   reads_behind (word w) r = tt
   reads_behind (reg n w) r = tt
   reads_behind (const w v) r = tt
@@ -52,11 +52,11 @@ module _ (at : ℕ) (cells others : List ℕ) (alike : Alike at cells others) wh
   reads_behind (sext a w) r = reads_behind a r
   reads_behind (select c a b) r = (reads_behind c r.0, reads_behind a r.1, reads_behind b r.2)
 
-  all_read : (trees : List Term) → AllRead at cells trees → AllRead at others trees
+  all_read : (trees : List ExprModel) → AllRead at cells trees → AllRead at others trees
   all_read [] r = tt
   all_read (t ∷ trees) r = (reads_behind t r.0, all_read trees r.1)
 
-  aim_lies : (destination : Destination) → DestinationLies at cells destination → DestinationLies at others destination
+  aim_lies : (destination : DestinationModel) → DestinationLies at cells destination → DestinationLies at others destination
   aim_lies (cell a) l = let e = alike.long in (l.0, omega (arith, l.1, e))
   aim_lies (stored t) l = let e = alike.long in let v = value_behind t l.0 in (reads_behind t l.0, omega (arith, l.1, v), omega (arith, l.2, v, e))
   aim_lies (into id) l = tt
@@ -64,10 +64,10 @@ module _ (at : ℕ) (cells others : List ℕ) (alike : Alike at cells others) wh
   aim_lies filed l = tt
   aim_lies tested l = tt
 
-  pub lies_behind : (work : Work) → Lies at cells work → Lies at others work
+  pub lies_behind : (work : JobModel) → Lies at cells work → Lies at others work
   lies_behind work l = let e = alike.long in let b = l.below in record { reads = all_read work.trees l.reads; destination = aim_lies work.destination l.destination; below = omega (arith, b, e) }
 
-  job_behind : (trees : List Term) → AllRead at cells trees → job_value cells trees ≡ job_value others trees
+  job_behind : (trees : List ExprModel) → AllRead at cells trees → job_value cells trees ≡ job_value others trees
   job_behind [] r = refl
   job_behind (t ∷ trees) r = value_behind t r.0
 
@@ -86,10 +86,10 @@ set_alike at a b v w cells others k le e f =
     }
 
 -- a job keeps that
-pub done_behind : (at : ℕ) (cells others : List ℕ) (work : Work) → Alike at cells others → Lies at cells work → Alike at (done work cells) (done work others)
+pub done_behind : (at : ℕ) (cells others : List ℕ) (work : JobModel) → Alike at cells others → Lies at cells work → Alike at (done work cells) (done work others)
 done_behind at cells others work k l = by work.destination l.destination (job_behind at cells others k work.trees l.reads)
   where
-    by : (destination : Destination) → DestinationLies at cells destination → job_value cells work.trees ≡ job_value others work.trees → Alike at (put_at destination (job_value cells work.trees) cells) (put_at destination (job_value others work.trees) others)
+    by : (destination : DestinationModel) → DestinationLies at cells destination → job_value cells work.trees ≡ job_value others work.trees → Alike at (put_at destination (job_value cells work.trees) cells) (put_at destination (job_value others work.trees) others)
     by (cell a) h v = set_alike at a a _ _ cells others k h.0 refl v
     by (stored t) h v = set_alike at (tree_value cells t) (tree_value others t) _ _ cells others k h.1 (value_behind at cells others k t h.0) v
     by (into id) h v = k
@@ -98,10 +98,10 @@ done_behind at cells others work k l = by work.destination l.destination (job_be
     by tested h v = k
 
 -- and so do jobs one after the other
-pub all_done_behind : (at : ℕ) (cells others : List ℕ) (works : List Work) → Alike at cells others → AllLie at cells works → Alike at (all_done works cells) (all_done works others)
+pub all_done_behind : (at : ℕ) (cells others : List ℕ) (works : List JobModel) → Alike at cells others → AllLie at cells works → Alike at (all_done works cells) (all_done works others)
 all_done_behind at cells others [] k l = k
 all_done_behind at cells others (work ∷ later) k l = all_done_behind at (done work cells) (done work others) later (done_behind at cells others work k l.0) l.1
 
-pub all_lie_behind : (at : ℕ) (cells others : List ℕ) (works : List Work) → Alike at cells others → AllLie at cells works → AllLie at others works
+pub all_lie_behind : (at : ℕ) (cells others : List ℕ) (works : List JobModel) → Alike at cells others → AllLie at cells works → AllLie at others works
 all_lie_behind at cells others [] k l = tt
 all_lie_behind at cells others (work ∷ later) k l = (lies_behind at cells others k work l.0, all_lie_behind at (done work cells) (done work others) later (done_behind at cells others work k l.0) l.1)

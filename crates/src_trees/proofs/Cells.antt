@@ -12,7 +12,7 @@ use Rattle.code_model.specs.declared.image.Place.{Place as VariablePlace}
 use Rattle.code_model.specs.Places.{cells_at, places_from}
 use Rattle.code_model.specs.Layout.{variables_of}
 use Rattle.code_model.proofs.Stores.{drop-plus, drop-set, take-set}
-use Rattle.src_trees.specs.Lowered.{Work, base_of}
+use Rattle.src_trees.specs.Lowered.{JobModel, base_of}
 use Rattle.src_trees.specs.Doing.{destination_cell, done, job_value, put_in}
 use Rattle.src_trees.specs.Seen.{memory_map, InReach}
 use Rattle.src_trees.specs.Held.{StandFor, LieWithin, IsAlone, AreAlone, HoldsVars, HasCellRoom}
@@ -251,7 +251,7 @@ put_below P None v cells less h = h
 put_below P (Some address) v cells less h = set_below P cells address v less h
 
 -- a job whose value fits leaves cells that fit
-pub done_words : (P : ℕ) (work : Work) (cells : List ℕ) → ((k : ℕ) → slice_index cells k < P) → job_value cells work.trees < P → (k : ℕ) → slice_index (done work cells) k < P
+pub done_words : (P : ℕ) (work : JobModel) (cells : List ℕ) → ((k : ℕ) → slice_index cells k < P) → job_value cells work.trees < P → (k : ℕ) → slice_index (done work cells) k < P
 done_words P work cells h less = put_below P (destination_cell cells work.destination) (job_value cells work.trees) cells less h
 
 -- ---- variables behind each other

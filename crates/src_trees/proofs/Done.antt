@@ -6,18 +6,18 @@ use Rattle.std.proofs.lemmas.Nat.{pow_pos}
 use Rattle.rec_bits.proofs.Booleans.{both}
 use Rattle.rec_bits.specs.Operators.{apply2_of, bit_of, signed_of}
 use Rattle.rec_bits.specs.declared.operator.Op2.TheVariants.{Add, Sub}
-use Rattle.net_model.specs.Terms.{Term, term_width}
+use Rattle.net_model.specs.Exprs.{ExprModel, expr_width}
 use Rattle.src_model.specs.declared.program.Cmp.{Cmp}
 use Rattle.src_model.specs.declared.program.Cmp.TheVariants.{Eq, Ne, Lt, Le, Gt, Ge, Slt, Sle, Sgt, Sge}
 use Rattle.src_model.specs.declared.program.Var.{Var as Declared}
-use Rattle.src_model.specs.Written.{Phrase, Place, Test, shape_at as shape_as}
+use Rattle.src_model.specs.Written.{SrcExprModel, SpotModel, SrcTestModel, node_at as shape_as}
 use Rattle.src_model.specs.Names.{declared, is_plain}
 use Rattle.src_model.specs.Indexes.{number_of}
 use Rattle.src_model.specs.Loops.{place_shape}
 use Rattle.src_model.specs.Meaning.{operand_width, shape_value, shape_width, index_value, cell_of, assigned, compares, holds, cells_in, first_cell}
 use Rattle.src_model.specs.Trace.{counter_value, started, stepped}
 use Rattle.src_model.specs.Fitting.{Fitting, FitsSides}
-use Rattle.src_trees.specs.Lowered.{MemoryMap, base_of, tree_of, element_address, element_destination, assigned_destination, assign_work, compared_trees, answer, test_work, start_work, step_work}
+use Rattle.src_trees.specs.Lowered.{MemoryMap, base_of, tree_of, element_address, element_destination, assigned_destination, job_of_assign, compared_trees, answer, job_of_test, job_of_start, job_of_step}
 use Rattle.src_model.specs.Inside.{Known, is_inside}
 use Rattle.src_trees.specs.Seen.{seen_store, tree_value, ReadsCells}
 use Rattle.src_trees.specs.Held.{HoldsVars, HasCellRoom}
@@ -29,7 +29,7 @@ use Rattle.src_model.proofs.ValueLemmas.{value_fits}
 use Rattle.src_trees.proofs.Values.{lt_not_le, int_lt_not_le, not_not, difference_zero}
 
 -- the trees of a comparison have its answer
-pub compared_are : (cells : List ℕ) (cmp : Cmp) (w : ℕ) (x y : Term) (a b : ℕ) → tree_value cells x ≡ a → tree_value cells y ≡ b → term_width x ≡ w → term_width y ≡ w → a < 2 ^ w → b < 2 ^ w
+pub compared_are : (cells : List ℕ) (cmp : Cmp) (w : ℕ) (x y : ExprModel) (a b : ℕ) → tree_value cells x ≡ a → tree_value cells y ≡ b → expr_width x ≡ w → expr_width y ≡ w → a < 2 ^ w → b < 2 ^ w
     → AllAre (bit_of (answer cmp (compares cmp w a b))) cells (compared_trees cmp w x y)
 compared_are cells Eq w x y a b ea eb wx wy la lb =
     ((λ j. bit_of (ea j == eb j)), ((λ j. bit_of (apply2_of Sub (wx j) (ea j) (eb j) == 0)) ∙ ap bit_of (difference_zero w a b la lb), tt))
@@ -46,7 +46,7 @@ compared_are cells Sle w x y a b ea eb wx wy la lb = ((λ j. bit_of (int_lt (sig
 compared_are cells Sgt w x y a b ea eb wx wy la lb = ((λ j. bit_of (int_lt (signed_of (wy j) (eb j)) (signed_of (wy j) (ea j)))), tt)
 compared_are cells Sge w x y a b ea eb wx wy la lb = ((λ j. bit_of (int_lt (signed_of (wx j) (ea j)) (signed_of (wx j) (eb j)))) ∙ int_lt_not_le (signed_of w b) (signed_of w a), tt)
 
-pub compared_read : (at : ℕ) (cells : List ℕ) (cmp : Cmp) (w : ℕ) (x y : Term) → ReadsCells at cells x → ReadsCells at cells y → AllRead at cells (compared_trees cmp w x y)
+pub compared_read : (at : ℕ) (cells : List ℕ) (cmp : Cmp) (w : ℕ) (x y : ExprModel) → ReadsCells at cells x → ReadsCells at cells y → AllRead at cells (compared_trees cmp w x y)
 compared_read at cells Eq w x y r q = ((r, q), (((r, q), tt), tt))
 compared_read at cells Ne w x y r q = ((r, q), (((r, q), tt), tt))
 compared_read at cells Lt w x y r q = ((r, q), tt)
@@ -67,12 +67,12 @@ module _ (m : MemoryMap) (temps : ℕ) (vars : List Declared) (held : HoldsVars 
 
   -- ---- assignments
 
-  pub record Aimed (name : List ℕ) (index : Option Phrase) : Type 0 where
+  pub record Aimed (name : List ℕ) (index : Option SrcExprModel) : Type 0 where
     pub puts : (v : ℕ) → seen_store m (put_at (assigned_destination m name index) v cells) ≡ slice_set (seen_store m cells) (first_cell vars name + index_value m.word vars (seen_store m cells) index) v
     pub at : destination_cell cells (assigned_destination m name index) ≡ Some (base_of m.places name + index_value m.word vars (seen_store m cells) index)
     pub lies : DestinationLies temps cells (assigned_destination m name index)
 
-  aimed : (name : List ℕ) (at : ℕ) (index : Option Phrase) → Fitting m.word m.word (shape_as name at index) → Known vars (shape_as name at index) → is_inside m.word vars (seen_store m cells) (shape_as name at index) ≡ true → Aimed name index
+  aimed : (name : List ℕ) (at : ℕ) (index : Option SrcExprModel) → Fitting m.word m.word (shape_as name at index) → Known vars (shape_as name at index) → is_inside m.word vars (seen_store m cells) (shape_as name at index) ≡ true → Aimed name index
   aimed name at None f k i =
       let v = plain_var (declared vars name) k in
       let h = plain_placed m temps vars held cells room name v.0 v.1 v.2 in
@@ -102,12 +102,12 @@ module _ (m : MemoryMap) (temps : ℕ) (vars : List Declared) (held : HoldsVars 
           let w = c.within in
           (λ v. put_cell name var _ _ v is lt e, ap Some e, (r, omega (arith, e, b), omega (arith, e, w)))
 
-  pub record Assigned (place : Place) (e : Phrase) : Type 0 where
-    pub is : seen_store m (done (assign_work m place e) cells) ≡ assigned m.word vars place e (seen_store m cells)
-    pub at : destination_cell cells (assign_work m place e).destination ≡ Some (base_of m.places place.name + index_value m.word vars (seen_store m cells) place.index)
-    pub lies : Lies temps cells (assign_work m place e)
+  pub record Assigned (place : SpotModel) (e : SrcExprModel) : Type 0 where
+    pub is : seen_store m (done (job_of_assign m place e) cells) ≡ assigned m.word vars place e (seen_store m cells)
+    pub at : destination_cell cells (job_of_assign m place e).destination ≡ Some (base_of m.places place.name + index_value m.word vars (seen_store m cells) place.index)
+    pub lies : Lies temps cells (job_of_assign m place e)
 
-  pub assign_done : (place : Place) (e : Phrase) → Fitting m.word m.word (place_shape place) → Fitting m.word m.word e.shape → Known vars (place_shape place) → Known vars e.shape
+  pub assign_done : (place : SpotModel) (e : SrcExprModel) → Fitting m.word m.word (place_shape place) → Fitting m.word m.word e.shape → Known vars (place_shape place) → Known vars e.shape
       → is_inside m.word vars (seen_store m cells) (place_shape place) ≡ true → is_inside m.word vars (seen_store m cells) e.shape ≡ true → Assigned place e
   assign_done place e fp fe kp ke ip ie =
       let a = aimed place.name place.at place.index fp kp ip in
@@ -119,7 +119,7 @@ module _ (m : MemoryMap) (temps : ℕ) (vars : List Declared) (held : HoldsVars 
       }
 
   -- its value fits a word
-  pub assign_fits : ((k : ℕ) → slice_index cells k < 2 ^ m.word) → (e : Phrase) → Fitting m.word m.word e.shape → Known vars e.shape → is_inside m.word vars (seen_store m cells) e.shape ≡ true
+  pub assign_fits : ((k : ℕ) → slice_index cells k < 2 ^ m.word) → (e : SrcExprModel) → Fitting m.word m.word e.shape → Known vars e.shape → is_inside m.word vars (seen_store m cells) e.shape ≡ true
       → shape_width m.word m.word e.shape ≡ m.word → tree_value cells (tree_of m m.word e.shape) < 2 ^ m.word
   assign_fits words e f k i w =
       let seen : (c : ℕ) → slice_index (seen_store m cells) c < 2 ^ m.word = seen_below (2 ^ m.word) m.places cells (pow_pos m.word) words in
@@ -135,7 +135,7 @@ module _ (m : MemoryMap) (temps : ℕ) (vars : List Declared) (held : HoldsVars 
       put_cell name var 0 (base_of m.places name) v e some (omega arith) ∙ ap (λ n. slice_set (seen_store m cells) n v) q
 
   pub start_done : (counter : List ℕ) (from : ℕ) → is_plain (declared vars counter) ≡ true
-      → (seen_store m (done (start_work m counter from) cells) ≡ started vars counter from (seen_store m cells)) × Lies temps cells (start_work m counter from)
+      → (seen_store m (done (job_of_start m counter from) cells) ≡ started vars counter from (seen_store m cells)) × Lies temps cells (job_of_start m counter from)
   start_done counter from k =
       let v = plain_var (declared vars counter) k in
       let h = plain_placed m temps vars held cells room counter v.0 v.1 v.2 in
@@ -144,7 +144,7 @@ module _ (m : MemoryMap) (temps : ℕ) (vars : List Declared) (held : HoldsVars 
       (put_plain counter v.0 from v.1 v.2, record { reads = (tt, tt); destination = (omega (arith, b), omega (arith, w)); below = room.below })
 
   pub step_done : (counter : List ℕ) → is_plain (declared vars counter) ≡ true
-      → (seen_store m (done (step_work m counter) cells) ≡ stepped m.word vars counter (seen_store m cells)) × Lies temps cells (step_work m counter)
+      → (seen_store m (done (job_of_step m counter) cells) ≡ stepped m.word vars counter (seen_store m cells)) × Lies temps cells (job_of_step m counter)
   step_done counter k =
       let v = plain_var (declared vars counter) k in
       let h = plain_placed m temps vars held cells room counter v.0 v.1 v.2 in
@@ -157,11 +157,11 @@ module _ (m : MemoryMap) (temps : ℕ) (vars : List Declared) (held : HoldsVars 
 
   -- ---- tests
 
-  pub record Asked (test : Test) : Type 0 where
-    pub are : AllAre (bit_of (answer test.cmp (holds m.word vars test (seen_store m cells)))) cells (test_work m test).trees
-    pub lies : Lies temps cells (test_work m test)
+  pub record Asked (test : SrcTestModel) : Type 0 where
+    pub are : AllAre (bit_of (answer test.cmp (holds m.word vars test (seen_store m cells)))) cells (job_of_test m test).trees
+    pub lies : Lies temps cells (job_of_test m test)
 
-  pub test_asked : (test : Test) → ((cell : ℕ) → slice_index (seen_store m cells) cell < 2 ^ m.word) → FitsSides m.word test.left.shape test.right.shape → Known vars test.left.shape → Known vars test.right.shape
+  pub test_asked : (test : SrcTestModel) → ((cell : ℕ) → slice_index (seen_store m cells) cell < 2 ^ m.word) → FitsSides m.word test.left.shape test.right.shape → Known vars test.left.shape → Known vars test.right.shape
       → is_inside m.word vars (seen_store m cells) test.left.shape ≡ true → is_inside m.word vars (seen_store m cells) test.right.shape ≡ true → Asked test
   test_asked test words f kl kr il ir =
       let w : ℕ = operand_width m.word test.left.shape test.right.shape in

@@ -6,12 +6,12 @@ use Rattle.std.proofs.lemmas.Nat.{mod_below, pow_pos}
 use Rattle.std.proofs.lemmas.Option.{slice_get-map}
 use Rattle.rec_bits.proofs.Booleans.{and_left, and_right}
 use Rattle.src_model.specs.declared.program.Var.{Var as Declared}
-use Rattle.src_model.specs.Written.{Act, assign, choice, while, count, Acts, no_acts, act, Otherwise, without, otherwise, Listing, acts_of}
+use Rattle.src_model.specs.Written.{StmtModel, assign, choice, while, count, StmtsModel, no_acts, act, ElseModel, without, otherwise, ProgramModel, stmts_of}
 use Rattle.src_model.specs.Sizes.{statements, statements_in}
-use Rattle.src_trees.specs.Lowered.{MemoryMap, Work, start_work, counting_work, step_work, works, works_in, works_else}
-use Rattle.src_trees.specs.Flows.{program_works}
+use Rattle.src_trees.specs.Lowered.{MemoryMap, JobModel, job_of_start, job_of_counting, job_of_step, works, jobs_in, jobs_else}
+use Rattle.src_trees.specs.Flows.{program_jobs}
 use Rattle.src_trees.specs.Held.{HoldsVars}
-use Rattle.src_trees.specs.Meant.{HasJob, count_test, DoAct, DoActs, DoElse, DoProgram, KeepsMeaning}
+use Rattle.src_trees.specs.Meant.{HasJob, count_test, DoStmt, DoStmts, DoElse, DoProgram, KeepsMeaning}
 use Rattle.src_trees.proofs.Parts.{Stand, stand_all, stand_left, stand_right, works_in_length, works_length}
 use Rattle.src_trees.proofs.Done.{assign_done, assign_fits, start_done, step_done, test_asked}
 
@@ -39,49 +39,49 @@ own_meaning m temps vars held = record {
   };
 }
 
-module _ (m : MemoryMap) (temps : ℕ) (vars : List Declared) (change : Work → Work) (keeps : KeepsMeaning m temps vars change) (own : List Work) where
-  has_job : (Is : Work → Type 0) (number : ℕ) (work : Work) → slice_get own number ≡ Some work → Is (change work) → HasJob (map change own) number Is
+module _ (m : MemoryMap) (temps : ℕ) (vars : List Declared) (change : JobModel → JobModel) (keeps : KeepsMeaning m temps vars change) (own : List JobModel) where
+  has_job : (Is : JobModel → Type 0) (number : ℕ) (work : JobModel) → slice_get own number ≡ Some work → Is (change work) → HasJob (map change own) number Is
   has_job Is number work at is = record { work = change work; at = slice_get-map change own number ∙ ap (option_map change) at; is = is }
 
   mutual
-    act_does : (a : Act) (tree : ℕ) → Stand own tree (works m a) → DoAct m temps vars (map change own) tree a
-    act_does (assign place e) tree s = has_job _ tree _ s.0 (keeps.assigns place e)
-    act_does (choice test taken other) tree s = (
+    stmt_does : (a : StmtModel) (tree : ℕ) → Stand own tree (works m a) → DoStmt m temps vars (map change own) tree a
+    stmt_does (assign place e) tree s = has_job _ tree _ s.0 (keeps.assigns place e)
+    stmt_does (choice test taken other) tree s = (
       has_job _ tree _ s.0 (keeps.tests test),
-      acts_do taken (tree + 1) (stand_left own (tree + 1) (works_in m taken) (works_else m other) s.1),
+      acts_do taken (tree + 1) (stand_left own (tree + 1) (jobs_in m taken) (jobs_else m other) s.1),
       else_does other (tree + 1 + statements_in taken)
-          (stand_right own (tree + 1) (tree + 1 + statements_in taken) (works_in m taken) (works_else m other) (let n = works_in_length m taken in omega (arith, n)) s.1),
+          (stand_right own (tree + 1) (tree + 1 + statements_in taken) (jobs_in m taken) (jobs_else m other) (let n = works_in_length m taken in omega (arith, n)) s.1),
     )
-    act_does (while test body) tree s = (has_job _ tree _ s.0 (keeps.tests test), acts_do body (tree + 1) s.1)
-    act_does (count counter at from to body) tree s =
-        let rest : Stand own (tree + 2) (works_in m body ++ step_work m counter ∷ []) =
-        stand_right own tree (tree + 2) (start_work m counter from ∷ (counting_work m counter at to ∷ [])) (works_in m body ++ step_work m counter ∷ []) refl s in
-        let last : Stand own (tree + 2 + statements_in body) (step_work m counter ∷ []) =
-        stand_right own (tree + 2) (tree + 2 + statements_in body) (works_in m body) (step_work m counter ∷ []) (let n = works_in_length m body in omega (arith, n)) rest in (
+    stmt_does (while test body) tree s = (has_job _ tree _ s.0 (keeps.tests test), acts_do body (tree + 1) s.1)
+    stmt_does (count counter at from to body) tree s =
+        let rest : Stand own (tree + 2) (jobs_in m body ++ job_of_step m counter ∷ []) =
+        stand_right own tree (tree + 2) (job_of_start m counter from ∷ (job_of_counting m counter at to ∷ [])) (jobs_in m body ++ job_of_step m counter ∷ []) refl s in
+        let last : Stand own (tree + 2 + statements_in body) (job_of_step m counter ∷ []) =
+        stand_right own (tree + 2) (tree + 2 + statements_in body) (jobs_in m body) (job_of_step m counter ∷ []) (let n = works_in_length m body in omega (arith, n)) rest in (
           has_job _ tree _ s.0 (keeps.starts counter from),
           has_job _ (tree + 1) _ s.1.0 (keeps.tests (count_test counter at to)),
-          acts_do body (tree + 2) (stand_left own (tree + 2) (works_in m body) (step_work m counter ∷ []) rest),
+          acts_do body (tree + 2) (stand_left own (tree + 2) (jobs_in m body) (job_of_step m counter ∷ []) rest),
           has_job _ (tree + 2 + statements_in body) _ last.0 (keeps.steps counter),
         )
 
-    acts_do : (list : Acts) (tree : ℕ) → Stand own tree (works_in m list) → DoActs m temps vars (map change own) tree list
+    acts_do : (list : StmtsModel) (tree : ℕ) → Stand own tree (jobs_in m list) → DoStmts m temps vars (map change own) tree list
     acts_do no_acts tree s = tt
     acts_do (act a rest) tree s = (
-      act_does a tree (stand_left own tree (works m a) (works_in m rest) s),
-      acts_do rest (tree + statements a) (stand_right own tree (tree + statements a) (works m a) (works_in m rest) (let n = works_length m a in omega (arith, n)) s),
+      stmt_does a tree (stand_left own tree (works m a) (jobs_in m rest) s),
+      acts_do rest (tree + statements a) (stand_right own tree (tree + statements a) (works m a) (jobs_in m rest) (let n = works_length m a in omega (arith, n)) s),
     )
 
-    else_does : (o : Otherwise) (tree : ℕ) → Stand own tree (works_else m o) → DoElse m temps vars (map change own) tree o
+    else_does : (o : ElseModel) (tree : ℕ) → Stand own tree (jobs_else m o) → DoElse m temps vars (map change own) tree o
     else_does without tree s = tt
     else_does (otherwise body) tree s = acts_do body tree s
 
-pub program_does : (m : MemoryMap) (temps : ℕ) (l : Listing) (change : Work → Work) → KeepsMeaning m temps l.vars change → DoProgram m temps l (map change (program_works m l))
-program_does m temps l change keeps = acts_do m temps l.vars change keeps (program_works m l) (acts_of l.body) 0 (stand_all (program_works m l))
+pub program_does : (m : MemoryMap) (temps : ℕ) (l : ProgramModel) (change : JobModel → JobModel) → KeepsMeaning m temps l.vars change → DoProgram m temps l (map change (program_jobs m l))
+program_does m temps l change keeps = acts_do m temps l.vars change keeps (program_jobs m l) (stmts_of l.body) 0 (stand_all (program_jobs m l))
 
-same_works : (works : List Work) → map (λ (work : Work). work) works ≡ works
-same_works [] = refl
-same_works (work ∷ later) = ap (λ (xs : List Work). work ∷ xs) (same_works later)
+same_jobs : (works : List JobModel) → map (λ (work : JobModel). work) works ≡ works
+same_jobs [] = refl
+same_jobs (work ∷ later) = ap (λ (xs : List JobModel). work ∷ xs) (same_jobs later)
 
-pub own_does : (m : MemoryMap) (temps : ℕ) (l : Listing) → HoldsVars temps l.vars m → DoProgram m temps l (program_works m l)
+pub own_does : (m : MemoryMap) (temps : ℕ) (l : ProgramModel) → HoldsVars temps l.vars m → DoProgram m temps l (program_jobs m l)
 own_does m temps l held =
-    subst (λ (jobs : List Work). DoProgram m temps l jobs) (same_works (program_works m l)) (program_does m temps l (λ work. work) (own_meaning m temps l.vars held))
+    subst (λ (jobs : List JobModel). DoProgram m temps l jobs) (same_jobs (program_jobs m l)) (program_does m temps l (λ work. work) (own_meaning m temps l.vars held))

@@ -5,62 +5,62 @@ use Rattle.std.specs.declared.alloc.Global.{Global}
 use Rattle.std.specs.declared.vec.Vec.{Vec}
 use Rattle.src_model.specs.declared.program.SrcTest.{SrcTest}
 use Rattle.src_model.specs.declared.program.Stmt.{Stmt, If, While, For}
-use Rattle.src_model.specs.Written.{Act, choice, while, count, Acts, without, otherwise, act_of, acts_of, test_of, Test}
+use Rattle.src_model.specs.Written.{StmtModel, choice, while, count, StmtsModel, without, otherwise, model_of_stmt, stmts_of, model_of_src_test, SrcTestModel}
 use Rattle.src_model.specs.Sizes.{statements, statements_in}
-use Rattle.src_model.proofs.Views.{act_If, act_While, act_For, else_acts}
+use Rattle.src_model.proofs.Views.{stmt_If, stmt_While, stmt_For, else_stmts}
 use Rattle.code_model.specs.declared.image.Place.{Place as VariablePlace}
 use Rattle.form_model.specs.declared.trees.Job.{Job}
 use Rattle.form_model.specs.declared.flow.Flow.{Flow}
-use Rattle.src_trees.specs.Lowered.{MemoryMap, Work, works, works_in}
+use Rattle.src_trees.specs.Lowered.{MemoryMap, JobModel, works, jobs_in}
 use Rattle.src_trees.specs.Flows.{places_for, flow_in}
-use Rattle.src_trees.specs.Jobs.{works_of}
+use Rattle.src_trees.specs.Jobs.{models_of_jobs}
 use Rattle.src_trees.specs.Inner.Lowering.{IsPlain, ArePlain, IsReady, IsLowered, AreLowered}
 use Rattle.src_trees.proofs.Parts.{flow_length, in_length, works_length, works_in_length}
 use Rattle.src_trees.proofs.LowerLemmas.{places_few, in_few, jobs_length}
 
 -- ---- what statements are
 
-abbrev pub block_acts : List Stmt → Acts
-block_acts l = acts_of (map act_of l)
+abbrev pub block_stmts : List Stmt → StmtsModel
+block_stmts l = stmts_of (map model_of_stmt l)
 
-pub if_is : (s : Stmt) (test : SrcTest) (v : Vec Stmt Global) (o : Option (Vec Stmt Global)) (l : List Stmt) → s ≡ If test v o → l ≡ v.items → act_of s ≡ choice (test_of test) (block_acts l) (else_acts o)
-if_is s test v o l is e = ap act_of is ∙ act_If test v o ∙ ap (λ x. choice (test_of test) (block_acts x) (else_acts o)) (sym e)
+pub if_is : (s : Stmt) (test : SrcTest) (v : Vec Stmt Global) (o : Option (Vec Stmt Global)) (l : List Stmt) → s ≡ If test v o → l ≡ v.items → model_of_stmt s ≡ choice (model_of_src_test test) (block_stmts l) (else_stmts o)
+if_is s test v o l is e = ap model_of_stmt is ∙ stmt_If test v o ∙ ap (λ x. choice (model_of_src_test test) (block_stmts x) (else_stmts o)) (sym e)
 
-pub if_none : (s : Stmt) (test : SrcTest) (v : Vec Stmt Global) (o : Option (Vec Stmt Global)) (l : List Stmt) → s ≡ If test v o → l ≡ v.items → o ≡ None → act_of s ≡ choice (test_of test) (block_acts l) without
-if_none s test v o l is e n = if_is s test v o l is e ∙ ap (λ x. choice (test_of test) (block_acts l) (else_acts x)) n
+pub if_none : (s : Stmt) (test : SrcTest) (v : Vec Stmt Global) (o : Option (Vec Stmt Global)) (l : List Stmt) → s ≡ If test v o → l ≡ v.items → o ≡ None → model_of_stmt s ≡ choice (model_of_src_test test) (block_stmts l) without
+if_none s test v o l is e n = if_is s test v o l is e ∙ ap (λ x. choice (model_of_src_test test) (block_stmts l) (else_stmts x)) n
 
-pub if_some : (s : Stmt) (test : SrcTest) (v w : Vec Stmt Global) (o : Option (Vec Stmt Global)) (l k : List Stmt) → s ≡ If test v o → l ≡ v.items → o ≡ Some w → k ≡ w.items → act_of s ≡ choice (test_of test) (block_acts l) (otherwise (block_acts k))
-if_some s test v w o l k is e n f = if_is s test v o l is e ∙ ap (λ x. choice (test_of test) (block_acts l) (else_acts x)) n ∙ ap (λ x. choice (test_of test) (block_acts l) (otherwise (block_acts x))) (sym f)
+pub if_some : (s : Stmt) (test : SrcTest) (v w : Vec Stmt Global) (o : Option (Vec Stmt Global)) (l k : List Stmt) → s ≡ If test v o → l ≡ v.items → o ≡ Some w → k ≡ w.items → model_of_stmt s ≡ choice (model_of_src_test test) (block_stmts l) (otherwise (block_stmts k))
+if_some s test v w o l k is e n f = if_is s test v o l is e ∙ ap (λ x. choice (model_of_src_test test) (block_stmts l) (else_stmts x)) n ∙ ap (λ x. choice (model_of_src_test test) (block_stmts l) (otherwise (block_stmts x))) (sym f)
 
-pub while_is : (s : Stmt) (test : SrcTest) (v : Vec Stmt Global) (l : List Stmt) → s ≡ While test v → l ≡ v.items → act_of s ≡ while (test_of test) (block_acts l)
-while_is s test v l is e = ap act_of is ∙ act_While test v ∙ ap (λ x. while (test_of test) (block_acts x)) (sym e)
+pub while_is : (s : Stmt) (test : SrcTest) (v : Vec Stmt Global) (l : List Stmt) → s ≡ While test v → l ≡ v.items → model_of_stmt s ≡ while (model_of_src_test test) (block_stmts l)
+while_is s test v l is e = ap model_of_stmt is ∙ stmt_While test v ∙ ap (λ x. while (model_of_src_test test) (block_stmts x)) (sym e)
 
-pub for_is : (s : Stmt) (counter : List ℕ) (at from to : ℕ) (v : Vec Stmt Global) (l : List Stmt) → s ≡ For counter at from to v → l ≡ v.items → act_of s ≡ count counter at from to (block_acts l)
-for_is s counter at from to v l is e = ap act_of is ∙ act_For counter at from to v ∙ ap (λ x. count counter at from to (block_acts x)) (sym e)
+pub for_is : (s : Stmt) (counter : List ℕ) (at from to : ℕ) (v : Vec Stmt Global) (l : List Stmt) → s ≡ For counter at from to v → l ≡ v.items → model_of_stmt s ≡ count counter at from to (block_stmts l)
+for_is s counter at from to v l is e = ap model_of_stmt is ∙ stmt_For counter at from to v ∙ ap (λ x. count counter at from to (block_stmts x)) (sym e)
 
 -- ---- what is known before a part
 
-pub record May (word : ℕ) (places : List VariablePlace) (at : ℕ) (jobs : List Job) (list : Acts) (a : Act) : Type 0 where
+pub record May (word : ℕ) (places : List VariablePlace) (at : ℕ) (jobs : List Job) (list : StmtsModel) (a : StmtModel) : Type 0 where
   pub less : statements_in list + 1 ≤ statements a
   pub ready : IsReady at jobs (statements_in list)
   pub plain : ArePlain word places list
 
 -- how many jobs and places the lowering of statements gives
-pub record Counted (list : Acts) (old new : List Job) (made : List Flow) : Type 0 where
+pub record Counted (list : StmtsModel) (old new : List Job) (made : List Flow) : Type 0 where
   pub jobs : length new ≡ length old + statements_in list
   pub flow : length made ≤ 2 * statements_in list
 
-pub counted : (m : MemoryMap) (list : Acts) (at : ℕ) (old new : List Job) (flow : List Flow) → AreLowered m list at old new flow → Counted list old new flow
+pub counted : (m : MemoryMap) (list : StmtsModel) (at : ℕ) (old new : List Job) (flow : List Flow) → AreLowered m list at old new flow → Counted list old new flow
 counted m list at old new flow h = record {
-  jobs = let x = jobs_length new in let y = jobs_length old in let z = ap length h.jobs_are in let w = length-append (works_of old) (works_in m list) in let v = works_in_length m list in omega (arith, x, y, z, w, v);
+  jobs = let x = jobs_length new in let y = jobs_length old in let z = ap length h.jobs_are in let w = length-append (models_of_jobs old) (jobs_in m list) in let v = works_in_length m list in omega (arith, x, y, z, w, v);
   flow = let e = ap length h.flow_is in let l = in_length list (length old) at in let f = in_few list in omega (arith, e, l, f);
 }
 
-module _ (word : ℕ) (places : List VariablePlace) (a : Act) (at : ℕ) (old : List Job) (ready : IsReady at old (statements a)) (plain : IsPlain word places a) where
+module _ (word : ℕ) (places : List VariablePlace) (a : StmtModel) (at : ℕ) (old : List Job) (ready : IsReady at old (statements a)) (plain : IsPlain word places a) where
   one_long : (one : List Job) (job : Job) → one ≡ old ++ job ∷ [] → length one ≡ length old + 1
   one_long one job e = ap length e ∙ length-append old (job ∷ [])
 
-  pub other_may : (test : Test) (taken other : Acts) (one two : List Job) (job : Job) (inner : List Flow) (n : ℕ) → a ≡ choice test taken (otherwise other) → one ≡ old ++ job ∷ [] → Counted taken one two inner → n ≡ length inner
+  pub other_may : (test : SrcTestModel) (taken other : StmtsModel) (one two : List Job) (job : Job) (inner : List Flow) (n : ℕ) → a ≡ choice test taken (otherwise other) → one ≡ old ++ job ∷ [] → Counted taken one two inner → n ≡ length inner
       → May word places (at + 1 + n + 1) two other a
   other_may test taken other one two job inner n is e b k =
       let l = one_long one job e in
@@ -73,7 +73,7 @@ module _ (word : ℕ) (places : List VariablePlace) (a : Act) (at : ℕ) (old : 
       record { less = omega (arith, s); ready = record { place = omega (arith, l, x, u, v, k); few = omega (arith, l, y, s, u) }; plain = p.2 }
 
   -- there is room for the step of a `for`
-  pub step_may : (counter : List ℕ) (from_at from to : ℕ) (body : Acts) (one two : List Job) (start test : Job) → a ≡ count counter from_at from to body → one ≡ old ++ start ∷ [] → two ≡ one ++ test ∷ [] → length two + statements_in body < 65536
+  pub step_may : (counter : List ℕ) (from_at from to : ℕ) (body : StmtsModel) (one two : List Job) (start test : Job) → a ≡ count counter from_at from to body → one ≡ old ++ start ∷ [] → two ≡ one ++ test ∷ [] → length two + statements_in body < 65536
   step_may counter from_at from to body one two start test is e f =
       let l = one_long one start e in
       let k = ap length f ∙ length-append one (test ∷ []) in
@@ -82,7 +82,7 @@ module _ (word : ℕ) (places : List VariablePlace) (a : Act) (at : ℕ) (old : 
       omega (arith, l, k, y, s)
 
   -- there is room for the flow
-  pub room : (list : Acts) (one two : List Job) (inner slice : List Flow) → statements_in list + 1 ≤ statements a → Counted list one two inner → slice ≡ inner → at + length slice + 8 < 2 ^ 32
+  pub room : (list : StmtsModel) (one two : List Job) (inner slice : List Flow) → statements_in list + 1 ≤ statements a → Counted list one two inner → slice ≡ inner → at + length slice + 8 < 2 ^ 32
   room list one two inner slice less b e =
       let x = ready.place in
       let y = ready.few in
@@ -90,7 +90,7 @@ module _ (word : ℕ) (places : List VariablePlace) (a : Act) (at : ℕ) (old : 
       let l = ap length e in
       omega (arith, x, y, v, l, less)
 
-  pub room_both : (taken other : Acts) (one two three : List Job) (inner after slice more : List Flow) → statements_in taken + 1 + statements_in other ≤ statements a → Counted taken one two inner → Counted other two three after → slice ≡ inner → more ≡ after
+  pub room_both : (taken other : StmtsModel) (one two three : List Job) (inner after slice more : List Flow) → statements_in taken + 1 + statements_in other ≤ statements a → Counted taken one two inner → Counted other two three after → slice ≡ inner → more ≡ after
       → at + length slice + length more + 8 < 2 ^ 32
   room_both taken other one two three inner after slice more less b c e f =
       let x = ready.place in
@@ -103,38 +103,38 @@ module _ (word : ℕ) (places : List VariablePlace) (a : Act) (at : ℕ) (old : 
 
 -- ---- statements one after the other
 
-module _ (m : MemoryMap) (left rest : List Stmt) (s : Stmt) (is : left ≡ s ∷ rest) (place n : ℕ) (jobs next : List Job) (more : List Flow) (h : IsLowered m (act_of s) place jobs next more) (e : n ≡ length more) where
-  next_long : length next ≡ length jobs + statements (act_of s)
-  next_long = let x = jobs_length next in let y = jobs_length jobs in let z = ap length h.jobs_are in let w = length-append (works_of jobs) (works m (act_of s)) in let v = works_length m (act_of s) in omega (arith, x, y, z, w, v)
+module _ (m : MemoryMap) (left rest : List Stmt) (s : Stmt) (is : left ≡ s ∷ rest) (place n : ℕ) (jobs next : List Job) (more : List Flow) (h : IsLowered m (model_of_stmt s) place jobs next more) (e : n ≡ length more) where
+  next_long : length next ≡ length jobs + statements (model_of_stmt s)
+  next_long = let x = jobs_length next in let y = jobs_length jobs in let z = ap length h.jobs_are in let w = length-append (models_of_jobs jobs) (works m (model_of_stmt s)) in let v = works_length m (model_of_stmt s) in omega (arith, x, y, z, w, v)
 
-  more_long : n ≡ places_for (act_of s)
-  more_long = e ∙ ap length h.flow_is ∙ flow_length (act_of s) (length jobs) place
+  more_long : n ≡ places_for (model_of_stmt s)
+  more_long = e ∙ ap length h.flow_is ∙ flow_length (model_of_stmt s) (length jobs) place
 
-  pub flow_on : (flow new slice whole : List Flow) → new ≡ flow ++ slice → slice ≡ more → flow ++ flow_in (block_acts left) (length jobs) place ≡ whole → new ++ flow_in (block_acts rest) (length next) (place + n) ≡ whole
+  pub flow_on : (flow new slice whole : List Flow) → new ≡ flow ++ slice → slice ≡ more → flow ++ flow_in (block_stmts left) (length jobs) place ≡ whole → new ++ flow_in (block_stmts rest) (length next) (place + n) ≡ whole
   flow_on flow new slice whole p q w =
-      (λ j. p j ++ flow_in (block_acts rest) (next_long j) (place + more_long j))
+      (λ j. p j ++ flow_in (block_stmts rest) (next_long j) (place + more_long j))
       ∙ append_assoc flow slice _
-      ∙ ap (λ xs. flow ++ (xs ++ flow_in (block_acts rest) (length jobs + statements (act_of s)) (place + places_for (act_of s)))) (q ∙ h.flow_is)
-      ∙ ap (λ l. flow ++ flow_in (block_acts l) (length jobs) place) (sym is) ∙ w
+      ∙ ap (λ xs. flow ++ (xs ++ flow_in (block_stmts rest) (length jobs + statements (model_of_stmt s)) (place + places_for (model_of_stmt s)))) (q ∙ h.flow_is)
+      ∙ ap (λ l. flow ++ flow_in (block_stmts l) (length jobs) place) (sym is) ∙ w
 
-  pub jobs_on : (whole : List Work) → works_of jobs ++ works_in m (block_acts left) ≡ whole → works_of next ++ works_in m (block_acts rest) ≡ whole
-  jobs_on whole w = ap (λ xs. xs ++ works_in m (block_acts rest)) h.jobs_are ∙ append_assoc (works_of jobs) (works m (act_of s)) (works_in m (block_acts rest)) ∙ ap (λ l. works_of jobs ++ works_in m (block_acts l)) (sym is) ∙ w
+  pub jobs_on : (whole : List JobModel) → models_of_jobs jobs ++ jobs_in m (block_stmts left) ≡ whole → models_of_jobs next ++ jobs_in m (block_stmts rest) ≡ whole
+  jobs_on whole w = ap (λ xs. xs ++ jobs_in m (block_stmts rest)) h.jobs_are ∙ append_assoc (models_of_jobs jobs) (works m (model_of_stmt s)) (jobs_in m (block_stmts rest)) ∙ ap (λ l. models_of_jobs jobs ++ jobs_in m (block_stmts l)) (sym is) ∙ w
 
-  pub ready_on : IsReady place jobs (statements_in (block_acts left)) → IsReady (place + n) next (statements_in (block_acts rest))
+  pub ready_on : IsReady place jobs (statements_in (block_stmts left)) → IsReady (place + n) next (statements_in (block_stmts rest))
   ready_on r =
       let x = r.place in
       let y = r.few in
-      let k = ap (λ l. statements_in (block_acts l)) is in
-      let f = places_few (act_of s) in
+      let k = ap (λ l. statements_in (block_stmts l)) is in
+      let f = places_few (model_of_stmt s) in
       let u = next_long in
       let v = more_long in
       record { place = omega (arith, x, f, u, v); few = omega (arith, y, k, u) }
 
-  pub few_on : IsReady place jobs (statements_in (block_acts left)) → place + n < 2 ^ 32
+  pub few_on : IsReady place jobs (statements_in (block_stmts left)) → place + n < 2 ^ 32
   few_on r =
       let x = r.place in
       let y = r.few in
-      let k = ap (λ l. statements_in (block_acts l)) is in
-      let f = places_few (act_of s) in
+      let k = ap (λ l. statements_in (block_stmts l)) is in
+      let f = places_few (model_of_stmt s) in
       let v = more_long in
       omega (arith, x, y, f, v, k)

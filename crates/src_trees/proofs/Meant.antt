@@ -5,9 +5,9 @@ use Rattle.std.proofs.lemmas.Bool.{ltb-true}
 use Rattle.rec_bits.proofs.Booleans.{both}
 use Rattle.rec_bits.specs.Operators.{apply1_of, apply2_of, slice_of, sext_of as extended_of, result_width}
 use Rattle.rec_bits.specs.declared.operator.Op2.TheVariants.{Add}
-use Rattle.net_model.specs.Terms.{Term, const, bin, slice, term_width}
+use Rattle.net_model.specs.Exprs.{ExprModel, const, bin, slice, expr_width}
 use Rattle.src_model.specs.declared.program.Var.{Var as Declared}
-use Rattle.src_model.specs.Written.{Shape, num, plain, element, un as un_of, bin as bin_of, zext as zext_of, sext as sext_of, low}
+use Rattle.src_model.specs.Written.{SrcNodeModel, num, plain, element, un as un_of, bin as bin_of, zext as zext_of, sext as sext_of, low}
 use Rattle.src_model.specs.Names.{declared, is_array}
 use Rattle.src_model.specs.Indexes.{number_of, length_of}
 use Rattle.src_model.specs.Meaning.{shape_width, operand_width, shape_value, cells_in, first_cell}
@@ -27,7 +27,7 @@ low_bits v a le = let e : v / 1 ≡ v = omega arith in let f : a - 1 + 1 - 0 ≡
 module _ (m : MemoryMap) where
   -- ---- widths
 
-  pub tree_width : (asked : ℕ) (e : Shape) → Fitting m.word asked e → term_width (tree_of m asked e) ≡ shape_width m.word asked e
+  pub tree_width : (asked : ℕ) (e : SrcNodeModel) → Fitting m.word asked e → expr_width (tree_of m asked e) ≡ shape_width m.word asked e
   tree_width asked (num n) f = refl
   tree_width asked (plain name at) f = refl
   tree_width asked (element name at to x) f = refl
@@ -40,14 +40,14 @@ module _ (m : MemoryMap) where
   -- ---- addresses
 
   module _ (temps : ℕ) (vars : List Declared) (held : HoldsVars temps vars m) (cells : List ℕ) (room : HasCellRoom temps m (length cells)) where
-    narrowed_value : (t : Term) (v : ℕ) → tree_value cells t ≡ v → v < 2 ^ m.addr → tree_value cells (narrowed m t) ≡ v
+    narrowed_value : (t : ExprModel) (v : ℕ) → tree_value cells t ≡ v → v < 2 ^ m.addr → tree_value cells (narrowed m t) ≡ v
     narrowed_value t v e lt = by (nat_lt m.addr m.word)
       where
         by : (b : Bool) → tree_value cells (if b then slice t (m.addr - 1) 0 else t) ≡ v
         by true = low_bits (tree_value cells t) m.addr held.some ∙ ap (λ n. n % 2 ^ m.addr) e ∙ mod-eq_of_lt lt
         by false = e
 
-    narrowed_reads : (t : Term) → ReadsCells temps cells t → ReadsCells temps cells (narrowed m t)
+    narrowed_reads : (t : ExprModel) → ReadsCells temps cells t → ReadsCells temps cells (narrowed m t)
     narrowed_reads t r = by (nat_lt m.addr m.word)
       where
         by : (b : Bool) → ReadsCells temps cells (if b then slice t (m.addr - 1) 0 else t)
@@ -55,7 +55,7 @@ module _ (m : MemoryMap) where
         by false = r
 
     -- a sum of an index and an array's address
-    pub computed_value : (name : List ℕ) (index : Term) (i : ℕ) → term_width index ≡ m.word → tree_value cells index ≡ i → base_of m.places name + i < 2 ^ m.addr
+    pub computed_value : (name : List ℕ) (index : ExprModel) (i : ℕ) → expr_width index ≡ m.word → tree_value cells index ≡ i → base_of m.places name + i < 2 ^ m.addr
         → tree_value cells (computed_address m name index) ≡ base_of m.places name + i
     computed_value name index i w e lt =
         let p : 2 ^ m.addr ≤ 2 ^ m.word = pow-le-pow_right (lit< tt) held.narrow in
@@ -63,7 +63,7 @@ module _ (m : MemoryMap) where
         narrowed_value (bin Add index (const m.word (base_of m.places name))) (base_of m.places name + i)
         ((λ j. (e j + base_of m.places name) % 2 ^ (w j)) ∙ ap (λ n. n % 2 ^ m.word) sum ∙ mod-eq_of_lt (let r : base_of m.places name + i < 2 ^ m.word = omega (arith, p, lt) in r)) lt
 
-    pub computed_reads : (name : List ℕ) (index : Term) → ReadsCells temps cells index → ReadsCells temps cells (computed_address m name index)
+    pub computed_reads : (name : List ℕ) (index : ExprModel) → ReadsCells temps cells index → ReadsCells temps cells (computed_address m name index)
     computed_reads name index r = narrowed_reads (bin Add index (const m.word (base_of m.places name))) (r, tt)
 
     -- where a variable's cell lies, and that it is one of the store
@@ -85,7 +85,7 @@ module _ (m : MemoryMap) where
         }
 
     -- an array's element: its address, what is read for that, and that it is a cell of the store
-    pub record Addressed (name : List ℕ) (x : Shape) : Type 0 where
+    pub record Addressed (name : List ℕ) (x : SrcNodeModel) : Type 0 where
       pub var : Declared
       pub is : declared vars name ≡ Some var
       pub inside : shape_value m.word vars (seen_store m cells) m.word x < cells_in var
@@ -93,7 +93,7 @@ module _ (m : MemoryMap) where
       pub at : tree_value cells (element_address m name (number_of x) (tree_of m m.word x)) ≡ base_of m.places name + shape_value m.word vars (seen_store m cells) m.word x
       pub reads : ReadsCells temps cells (element_address m name (number_of x) (tree_of m m.word x))
 
-    pub addressed : (name : List ℕ) (x : Shape) → is_array (declared vars name) ≡ true → shape_value m.word vars (seen_store m cells) m.word x < length_of (declared vars name) → term_width (tree_of m m.word x) ≡ m.word
+    pub addressed : (name : List ℕ) (x : SrcNodeModel) → is_array (declared vars name) ≡ true → shape_value m.word vars (seen_store m cells) m.word x < length_of (declared vars name) → expr_width (tree_of m m.word x) ≡ m.word
         → tree_value cells (tree_of m m.word x) ≡ shape_value m.word vars (seen_store m cells) m.word x → ReadsCells temps cells (tree_of m m.word x) → Addressed name x
     addressed name x known lt w e r =
         let v = array_var (declared vars name) (shape_value m.word vars (seen_store m cells) m.word x) known lt in
@@ -110,7 +110,7 @@ module _ (m : MemoryMap) where
     -- ---- values
 
     -- the tree has the expression's value, and reads the variables' cells alone
-    pub record Meant (asked : ℕ) (e : Shape) : Type 0 where
+    pub record Meant (asked : ℕ) (e : SrcNodeModel) : Type 0 where
       pub value : tree_value cells (tree_of m asked e) ≡ shape_value m.word vars (seen_store m cells) asked e
       pub reads : ReadsCells temps cells (tree_of m asked e)
 
@@ -124,7 +124,7 @@ module _ (m : MemoryMap) where
         let b : first_cell vars name + 0 ≡ first_cell vars name = omega arith in
         ap (slice_index cells) a ∙ sym h.seen ∙ ap (slice_index (seen_store m cells)) b
 
-    pub meant : (asked : ℕ) (e : Shape) → Fitting m.word asked e → Known vars e → is_inside m.word vars (seen_store m cells) e ≡ true → Meant asked e
+    pub meant : (asked : ℕ) (e : SrcNodeModel) → Fitting m.word asked e → Known vars e → is_inside m.word vars (seen_store m cells) e ≡ true → Meant asked e
     meant asked (num n) f k i = record { value = refl; reads = tt }
     meant asked (plain name at) f k i =
         let v = plain_var (declared vars name) k in

@@ -6,16 +6,16 @@ use Rattle.std.proofs.lemmas.Bool.Decides.{nat_tests}
 use Rattle.rec_bits.specs.Operators.{result_width}
 use Rattle.rec_bits.specs.declared.operator.Op2.TheVariants.{Add, Sub, Eq as Equal, Ltu, Lts}
 use Rattle.rec_bits.specs.declared.operator.Op2.{Op2}
-use Rattle.src_model.specs.Written.{shape_at}
+use Rattle.src_model.specs.Written.{node_at}
 use Rattle.src_model.proofs.Bounds.{rules_hold}
-use Rattle.src_trees.specs.Flows.{program_works}
+use Rattle.src_trees.specs.Flows.{program_jobs}
 use Rattle.src_model.proofs.SoundLemmas.{program_sound}
 use Rattle.net_model.specs.declared.hardware.Space.TheVariants.{Memory as InMemory}
-use Rattle.net_model.specs.Terms.{Term, const, read, bin, slice, term_width, size_of}
+use Rattle.net_model.specs.Exprs.{ExprModel, const, read, bin, slice, expr_width, size_of}
 use Rattle.src_model.specs.declared.program.Cmp.{Cmp}
 use Rattle.src_model.specs.declared.program.Cmp.TheVariants.{Eq, Ne, Lt, Le, Gt, Ge, Slt, Sle, Sgt, Sge}
 use Rattle.src_model.specs.declared.program.Var.{Var as Declared}
-use Rattle.src_model.specs.Written.{Shape, num, plain, element, un as un_of, bin as bin_of, zext as zext_of, sext as sext_of, low, Phrase, Place, Act, assign, choice, while, count, Acts, no_acts, act, Otherwise, without, otherwise, Listing, acts_of}
+use Rattle.src_model.specs.Written.{SrcNodeModel, num, plain, element, un as un_of, bin as bin_of, zext as zext_of, sext as sext_of, low, SrcExprModel, SpotModel, StmtModel, assign, choice, while, count, StmtsModel, no_acts, act, ElseModel, without, otherwise, ProgramModel, stmts_of}
 use Rattle.src_model.specs.Widths.{is_literal}
 use Rattle.src_model.specs.Indexes.{number_of}
 use Rattle.src_model.specs.Loops.{Round, place_shape}
@@ -24,8 +24,8 @@ use Rattle.src_model.specs.Fitting.{Fitting}
 use Rattle.src_model.specs.Sizes.{Root, value, assigned_root, indexed_root, compared as compared_roots, tested_roots, start_roots, step_roots, roots, roots_in, roots_else, greatest, nodes, nodes_of, read_nodes, is_word, node, all_of, part, read_part, sided, side_parts, temps_of}
 use Rattle.src_model.specs.Rules.{first_fault, temp_count}
 use Rattle.form_model.specs.Trees.{is_tree, is_number}
-use Rattle.form_model.specs.Rules.{cell, tested}
-use Rattle.src_trees.specs.Lowered.{MemoryMap, Work, base_of, narrowed, computed_address, element_address, tree_of, element_destination, assigned_destination, assign_work, compared_trees, step_work, works, works_in, works_else}
+use Rattle.form_model.specs.Forms.{cell, tested}
+use Rattle.src_trees.specs.Lowered.{MemoryMap, JobModel, base_of, narrowed, computed_address, element_address, tree_of, element_destination, assigned_destination, job_of_assign, compared_trees, job_of_step, works, jobs_in, jobs_else}
 use Rattle.src_model.specs.Inner.Sound.{Sound, SoundIn, SoundElse}
 use Rattle.form_model.specs.WideNodes.{wide_nodes, wide_below}
 use Rattle.src_trees.specs.Measures.{TreesAre, IsSmall, AllSmall}
@@ -42,18 +42,18 @@ own_word bits = ap (λ b. if b then 1 else 0) (eq-eqb bits bits refl)
 module _ (m : MemoryMap) (vars : List Declared) (some : 1 ≤ m.addr) where
   -- ---- trees
 
-  narrowed_tree : (t : Term) → is_tree t ≡ true → is_tree (narrowed m t) ≡ true
+  narrowed_tree : (t : ExprModel) → is_tree t ≡ true → is_tree (narrowed m t) ≡ true
   narrowed_tree t h = by (nat_lt m.addr m.word)
     where
       by : (b : Bool) → is_tree (if b then slice t (m.addr - 1) 0 else t) ≡ true
       by true = h
       by false = h
 
-  element_tree : (name : List ℕ) (o : Option ℕ) (t : Term) → is_tree t ≡ true → is_tree (element_address m name o t) ≡ true
+  element_tree : (name : List ℕ) (o : Option ℕ) (t : ExprModel) → is_tree t ≡ true → is_tree (element_address m name o t) ≡ true
   element_tree name (Some n) t h = refl
   element_tree name None t h = narrowed_tree (bin Add t (const m.word (base_of m.places name))) (both_true _ _ h refl)
 
-  pub is_tree_of : (asked : ℕ) (e : Shape) → is_tree (tree_of m asked e) ≡ true
+  pub is_tree_of : (asked : ℕ) (e : SrcNodeModel) → is_tree (tree_of m asked e) ≡ true
   is_tree_of asked (num n) = refl
   is_tree_of asked (plain name at) = refl
   is_tree_of asked (element name at to x) = element_tree name (number_of x) (tree_of m m.word x) (is_tree_of m.word x)
@@ -65,18 +65,18 @@ module _ (m : MemoryMap) (vars : List Declared) (some : 1 ≤ m.addr) where
 
   -- ---- sizes
 
-  narrowed_size : (t : Term) → size_of (narrowed m t) ≤ size_of t + 1
+  narrowed_size : (t : ExprModel) → size_of (narrowed m t) ≤ size_of t + 1
   narrowed_size t = by (nat_lt m.addr m.word)
     where
       by : (b : Bool) → size_of (if b then slice t (m.addr - 1) 0 else t) ≤ size_of t + 1
       by true = omega arith
       by false = omega arith
 
-  element_size : (name : List ℕ) (o : Option ℕ) (t : Term) (n : ℕ) → size_of t ≤ 2 * n → size_of (element_address m name o t) + 1 ≤ 2 * read_nodes o n
+  element_size : (name : List ℕ) (o : Option ℕ) (t : ExprModel) (n : ℕ) → size_of t ≤ 2 * n → size_of (element_address m name o t) + 1 ≤ 2 * read_nodes o n
   element_size name (Some k) t n h = omega arith
   element_size name None t n h = let s = narrowed_size (bin Add t (const m.word (base_of m.places name))) in omega (arith, s)
 
-  pub tree_small : (asked : ℕ) (e : Shape) → size_of (tree_of m asked e) ≤ 2 * nodes e
+  pub tree_small : (asked : ℕ) (e : SrcNodeModel) → size_of (tree_of m asked e) ≤ 2 * nodes e
   tree_small asked (num n) = omega arith
   tree_small asked (plain name at) = omega arith
   tree_small asked (element name at to x) = element_size name (number_of x) (tree_of m m.word x) (nodes x) (tree_small m.word x)
@@ -88,7 +88,7 @@ module _ (m : MemoryMap) (vars : List Declared) (some : 1 ≤ m.addr) where
 
   -- ---- temporary cells
 
-  narrowed_wide : (t : Term) → wide_nodes m.word (narrowed m t) ≡ wide_nodes m.word t
+  narrowed_wide : (t : ExprModel) → wide_nodes m.word (narrowed m t) ≡ wide_nodes m.word t
   narrowed_wide t = by (nat_lt m.addr m.word) refl
     where
       by : (b : Bool) → nat_lt m.addr m.word ≡ b → wide_nodes m.word (if b then slice t (m.addr - 1) 0 else t) ≡ wide_nodes m.word t
@@ -99,15 +99,15 @@ module _ (m : MemoryMap) (vars : List Declared) (some : 1 ≤ m.addr) where
           omega (arith, z)
       by false e = refl
 
-  pub computed_wide : (name : List ℕ) (t : Term) → term_width t ≡ m.word → wide_nodes m.word (computed_address m name t) ≡ 2 + wide_nodes m.word t
+  pub computed_wide : (name : List ℕ) (t : ExprModel) → expr_width t ≡ m.word → wide_nodes m.word (computed_address m name t) ≡ 2 + wide_nodes m.word t
   computed_wide name t w =
       let n = narrowed_wide (bin Add t (const m.word (base_of m.places name))) in
       let o = own_word m.word in
-      let p : is_word m.word (term_width t) ≡ 1 = ap (is_word m.word) w ∙ o in
+      let p : is_word m.word (expr_width t) ≡ 1 = ap (is_word m.word) w ∙ o in
       omega (arith, n, o, p)
 
   -- a computed address is no literal
-  computed_no_number : (name : List ℕ) (t : Term) → is_number (computed_address m name t) ≡ false
+  computed_no_number : (name : List ℕ) (t : ExprModel) → is_number (computed_address m name t) ≡ false
   computed_no_number name t = by (nat_lt m.addr m.word)
     where
       by : (b : Bool) → is_number (if b then slice (bin Add t (const m.word (base_of m.places name))) (m.addr - 1) 0 else bin Add t (const m.word (base_of m.places name))) ≡ false
@@ -115,12 +115,12 @@ module _ (m : MemoryMap) (vars : List Declared) (some : 1 ≤ m.addr) where
       by false = refl
 
   -- the nodes of a tree as a part counts them: all of them, and those below the root
-  pub record Same (t : Term) (n b w : ℕ) : Type 0 where
+  pub record Same (t : ExprModel) (n b w : ℕ) : Type 0 where
     pub all : wide_nodes m.word t ≡ n
     pub below : wide_below m.word t ≡ b
-    pub width : term_width t ≡ w
+    pub width : expr_width t ≡ w
 
-  element_same : (name : List ℕ) (o : Option ℕ) (t : Term) (x : Shape) → term_width t ≡ m.word → wide_nodes m.word t ≡ all_of (part m.word m.word x)
+  element_same : (name : List ℕ) (o : Option ℕ) (t : ExprModel) (x : SrcNodeModel) → expr_width t ≡ m.word → wide_nodes m.word t ≡ all_of (part m.word m.word x)
       → Same (read InMemory (element_address m name o t) m.word) (all_of (read_part m.word o (part m.word m.word x))) (read_part m.word o (part m.word m.word x)).below (read_part m.word o (part m.word m.word x)).width
   element_same name (Some n) t x w h = record { all = refl; below = refl; width = refl }
   element_same name None t x w h =
@@ -133,7 +133,7 @@ module _ (m : MemoryMap) (vars : List Declared) (some : 1 ≤ m.addr) where
       }
 
   -- the part at its own width
-  at_own : (e : Shape) → part m.word (shape_width m.word m.word e) e ≡ part m.word m.word e
+  at_own : (e : SrcNodeModel) → part m.word (shape_width m.word m.word e) e ≡ part m.word m.word e
   at_own (num n) = refl
   at_own (plain name at) = refl
   at_own (element name at to x) = refl
@@ -143,7 +143,7 @@ module _ (m : MemoryMap) (vars : List Declared) (some : 1 ≤ m.addr) where
   at_own (sext_of at x width) = refl
   at_own (low at x width) = refl
 
-  part_width : (asked : ℕ) (e : Shape) → (part m.word asked e).width ≡ shape_width m.word asked e
+  part_width : (asked : ℕ) (e : SrcNodeModel) → (part m.word asked e).width ≡ shape_width m.word asked e
   part_width asked (num n) = refl
   part_width asked (plain name at) = refl
   part_width asked (element name at to x) = by (number_of x)
@@ -163,7 +163,7 @@ module _ (m : MemoryMap) (vars : List Declared) (some : 1 ≤ m.addr) where
   part_width asked (low at x width) = refl
 
   -- two operands at their common width
-  sided_is : (x y : Shape) (b : Bool) → is_literal x ≡ b
+  sided_is : (x y : SrcNodeModel) (b : Bool) → is_literal x ≡ b
       → ((sided b (part m.word m.word x) (part m.word m.word y) (λ w. part m.word w x) (λ w. part m.word w y)).below ≡ all_of (part m.word (operand_width m.word x y) x) + all_of (part m.word (operand_width m.word x y) y))
       × ((sided b (part m.word m.word x) (part m.word m.word y) (λ w. part m.word w x) (λ w. part m.word w y)).width ≡ operand_width m.word x y)
   sided_is x y true e =
@@ -179,7 +179,7 @@ module _ (m : MemoryMap) (vars : List Declared) (some : 1 ≤ m.addr) where
       let l : all_of (part m.word (operand_width m.word x y) x) ≡ all_of (part m.word m.word x) = ap (λ w. all_of (part m.word w x)) o ∙ ap all_of (at_own x) in
       (omega (arith, l, r), q ∙ sym o)
 
-  pub same_part : (asked : ℕ) (e : Shape) → Fitting m.word asked e → Same (tree_of m asked e) (all_of (part m.word asked e)) (part m.word asked e).below (part m.word asked e).width
+  pub same_part : (asked : ℕ) (e : SrcNodeModel) → Fitting m.word asked e → Same (tree_of m asked e) (all_of (part m.word asked e)) (part m.word asked e).below (part m.word asked e).width
   same_part asked (num n) f = record { all = omega arith; below = refl; width = refl }
   same_part asked (plain name at) f = record { all = refl; below = refl; width = refl }
   same_part asked (element name at to x) f = element_same name (number_of x) (tree_of m m.word x) x (tree_width m m.word x f.0 ∙ f.1) (same_part m.word x f.0).all
@@ -187,13 +187,13 @@ module _ (m : MemoryMap) (vars : List Declared) (some : 1 ≤ m.addr) where
       let h = same_part asked x f in
       let w = h.width in
       let a = h.all in
-      let o : is_word m.word (term_width (tree_of m asked x)) ≡ is_word m.word (part m.word asked x).width = ap (is_word m.word) w in
+      let o : is_word m.word (expr_width (tree_of m asked x)) ≡ is_word m.word (part m.word asked x).width = ap (is_word m.word) w in
       record { all = omega (arith, o, a); below = a; width = w }
   same_part asked (bin_of op at x to y) f =
       let h = same_part (operand_width m.word x y) x f.0 in
       let k = same_part (operand_width m.word x y) y f.1 in
       let s = sided_is x y (is_literal x) refl in
-      let w : result_width op (term_width (tree_of m (operand_width m.word x y) x)) ≡ result_width op (sided (is_literal x) (part m.word m.word x) (part m.word m.word y) (λ w. part m.word w x) (λ w. part m.word w y)).width =
+      let w : result_width op (expr_width (tree_of m (operand_width m.word x y) x)) ≡ result_width op (sided (is_literal x) (part m.word m.word x) (part m.word m.word y) (λ w. part m.word w x) (λ w. part m.word w y)).width =
       ap (result_width op) (tree_width m (operand_width m.word x y) x f.0 ∙ f.2 ∙ sym s.1) in
       let b : wide_nodes m.word (tree_of m (operand_width m.word x y) x) + wide_nodes m.word (tree_of m (operand_width m.word x y) y) ≡ (sided (is_literal x) (part m.word m.word x) (part m.word m.word y) (λ w. part m.word w x) (λ w. part m.word w y)).below =
       (let a = h.all in let c = k.all in let e = s.0 in omega (arith, a, c, e)) in
@@ -212,7 +212,7 @@ module _ (m : MemoryMap) (vars : List Declared) (some : 1 ≤ m.addr) where
   -- ---- jobs
 
   -- of two sides
-  pub sides_same : (x y : Shape) → Fitting m.word (operand_width m.word x y) x → Fitting m.word (operand_width m.word x y) y
+  pub sides_same : (x y : SrcNodeModel) → Fitting m.word (operand_width m.word x y) x → Fitting m.word (operand_width m.word x y) y
       → (wide_nodes m.word (tree_of m (operand_width m.word x y) x) + wide_nodes m.word (tree_of m (operand_width m.word x y) y) ≡ (side_parts m.word x y).below) × ((side_parts m.word x y).width ≡ operand_width m.word x y)
   sides_same x y f g =
       let h = same_part (operand_width m.word x y) x f in
@@ -222,23 +222,23 @@ module _ (m : MemoryMap) (vars : List Declared) (some : 1 ≤ m.addr) where
 
   module _ (t most : ℕ) where
     -- a comparison, either way round
-    one_small : (op : Op2) (a b : Term) (n : ℕ) → is_tree a ≡ true → is_tree b ≡ true → wide_nodes m.word a + wide_nodes m.word b ≤ t → size_of a + size_of b ≤ 2 * n → 1 + n ≤ most
+    one_small : (op : Op2) (a b : ExprModel) (n : ℕ) → is_tree a ≡ true → is_tree b ≡ true → wide_nodes m.word a + wide_nodes m.word b ≤ t → size_of a + size_of b ≤ 2 * n → 1 + n ≤ most
         → TreesAre m.word t (2 * most) tested (bin op a b ∷ [])
     one_small op a b n p q h k l = (both_true _ _ p q, h, omega arith, tt)
 
-    two_small : (w : ℕ) (a b : Term) (n : ℕ) → is_tree a ≡ true → is_tree b ≡ true → term_width a ≡ w → wide_nodes m.word a + wide_nodes m.word b + 2 * is_word m.word w ≤ t → size_of a + size_of b ≤ 2 * n → 3 + n ≤ most
+    two_small : (w : ℕ) (a b : ExprModel) (n : ℕ) → is_tree a ≡ true → is_tree b ≡ true → expr_width a ≡ w → wide_nodes m.word a + wide_nodes m.word b + 2 * is_word m.word w ≤ t → size_of a + size_of b ≤ 2 * n → 3 + n ≤ most
         → TreesAre m.word t (2 * most) tested (bin Equal a b ∷ bin Equal (bin Sub a b) (const w 0) ∷ [])
     two_small w a b n p q e h k l =
-        let o : is_word m.word (term_width a) ≡ is_word m.word w = ap (is_word m.word) e in
+        let o : is_word m.word (expr_width a) ≡ is_word m.word w = ap (is_word m.word) e in
         (both_true _ _ p q, omega arith, omega arith, (both_true _ _ (both_true _ _ p q) refl, omega (arith, o), omega arith, tt))
 
-    compared_small : (cmp : Cmp) (x y : Shape) → Fitting m.word (operand_width m.word x y) x → Fitting m.word (operand_width m.word x y) y → shape_width m.word (operand_width m.word x y) x ≡ operand_width m.word x y
+    compared_small : (cmp : Cmp) (x y : SrcNodeModel) → Fitting m.word (operand_width m.word x y) x → Fitting m.word (operand_width m.word x y) y → shape_width m.word (operand_width m.word x y) x ≡ operand_width m.word x y
         → greatest (temps_of m.word) (compared_roots cmp x y) ≤ t → greatest nodes_of (compared_roots cmp x y) ≤ most
         → TreesAre m.word t (2 * most) tested (compared_trees cmp (operand_width m.word x y) (tree_of m (operand_width m.word x y) x) (tree_of m (operand_width m.word x y) y))
     compared_small cmp x y f g w h k =
         by cmp (is_tree_of (operand_width m.word x y) x) (is_tree_of (operand_width m.word x y) y) (tree_width m (operand_width m.word x y) x f ∙ w) (sides_same x y f g) (tree_small (operand_width m.word x y) x) (tree_small (operand_width m.word x y) y) h k
       where
-        by : (cmp : Cmp) → is_tree (tree_of m (operand_width m.word x y) x) ≡ true → is_tree (tree_of m (operand_width m.word x y) y) ≡ true → term_width (tree_of m (operand_width m.word x y) x) ≡ operand_width m.word x y
+        by : (cmp : Cmp) → is_tree (tree_of m (operand_width m.word x y) x) ≡ true → is_tree (tree_of m (operand_width m.word x y) y) ≡ true → expr_width (tree_of m (operand_width m.word x y) x) ≡ operand_width m.word x y
             → (wide_nodes m.word (tree_of m (operand_width m.word x y) x) + wide_nodes m.word (tree_of m (operand_width m.word x y) y) ≡ (side_parts m.word x y).below) × ((side_parts m.word x y).width ≡ operand_width m.word x y)
             → size_of (tree_of m (operand_width m.word x y) x) ≤ 2 * nodes x → size_of (tree_of m (operand_width m.word x y) y) ≤ 2 * nodes y
             → greatest (temps_of m.word) (compared_roots cmp x y) ≤ t → greatest nodes_of (compared_roots cmp x y) ≤ most
@@ -254,18 +254,18 @@ module _ (m : MemoryMap) (vars : List Declared) (some : 1 ≤ m.addr) where
         by Sgt p q e s a b h k = one_small Lts _ _ (nodes x + nodes y) q p (omega (arith, s.0)) (omega arith) (omega arith)
         by Sle p q e s a b h k = one_small Lts _ _ (nodes x + nodes y) q p (omega (arith, s.0)) (omega arith) (omega arith)
 
-    value_small : (e : Shape) (address : ℕ) → Fitting m.word m.word e → temps_of m.word (value e) ≤ t → nodes_of (value e) ≤ most → IsSmall m.word t (2 * most) (record { destination = cell address; trees = tree_of m m.word e ∷ [] })
+    value_small : (e : SrcNodeModel) (address : ℕ) → Fitting m.word m.word e → temps_of m.word (value e) ≤ t → nodes_of (value e) ≤ most → IsSmall m.word t (2 * most) (record { destination = cell address; trees = tree_of m m.word e ∷ [] })
     value_small e address f h k =
         let s = same_part m.word e f in
         let b = s.below in
         let z = tree_small m.word e in
         record { destination = tt; trees = (is_tree_of m.word e, omega (arith, b), omega (arith, z), tt) }
 
-    assign_small : (place : Place) (e : Phrase) → Fitting m.word m.word (place_shape place) → Fitting m.word m.word e.shape → temps_of m.word (assigned_root place.index e.shape) ≤ t → nodes_of (assigned_root place.index e.shape) ≤ most
-        → IsSmall m.word t (2 * most) (assign_work m place e)
+    assign_small : (place : SpotModel) (e : SrcExprModel) → Fitting m.word m.word (place_shape place) → Fitting m.word m.word e.shape → temps_of m.word (assigned_root place.index e.shape) ≤ t → nodes_of (assigned_root place.index e.shape) ≤ most
+        → IsSmall m.word t (2 * most) (job_of_assign m place e)
     assign_small place e fp fe h k = by place.index fp h k
       where
-        stored_small : (x : Shape) (o : Option ℕ) → Fitting m.word m.word x → shape_width m.word m.word x ≡ m.word → temps_of m.word (indexed_root o x e.shape) ≤ t → nodes_of (indexed_root o x e.shape) ≤ most
+        stored_small : (x : SrcNodeModel) (o : Option ℕ) → Fitting m.word m.word x → shape_width m.word m.word x ≡ m.word → temps_of m.word (indexed_root o x e.shape) ≤ t → nodes_of (indexed_root o x e.shape) ≤ most
             → IsSmall m.word t (2 * most) (record { destination = element_destination m place.name o (tree_of m m.word x); trees = tree_of m m.word e.shape ∷ [] })
         stored_small x (Some n) f w h k = value_small e.shape (base_of m.places place.name + n) fe h k
         stored_small x None f w h k =
@@ -280,12 +280,12 @@ module _ (m : MemoryMap) (vars : List Declared) (some : 1 ≤ m.addr) where
               trees = (is_tree_of m.word e.shape, omega (arith, c, a, b), omega (arith, n, y, z), tt);
             }
 
-        by : (index : Option Phrase) → Fitting m.word m.word (shape_at place.name place.at index) → temps_of m.word (assigned_root index e.shape) ≤ t → nodes_of (assigned_root index e.shape) ≤ most
+        by : (index : Option SrcExprModel) → Fitting m.word m.word (node_at place.name place.at index) → temps_of m.word (assigned_root index e.shape) ≤ t → nodes_of (assigned_root index e.shape) ≤ most
             → IsSmall m.word t (2 * most) (record { destination = assigned_destination m place.name index; trees = tree_of m m.word e.shape ∷ [] })
         by None fp h k = value_small e.shape (base_of m.places place.name) fe h k
         by (Some x) fp h k = stored_small x.shape (number_of x.shape) fp.0 fp.1 h k
 
-    all_small : (xs ys : List Work) → AllSmall m.word t (2 * most) xs → AllSmall m.word t (2 * most) ys → AllSmall m.word t (2 * most) (xs ++ ys)
+    all_small : (xs ys : List JobModel) → AllSmall m.word t (2 * most) xs → AllSmall m.word t (2 * most) ys → AllSmall m.word t (2 * most) (xs ++ ys)
     all_small [] ys p q = q
     all_small (x ∷ xs) ys p q = (p.0, all_small xs ys p.1 q)
 
@@ -294,21 +294,21 @@ module _ (m : MemoryMap) (vars : List Declared) (some : 1 ≤ m.addr) where
     greatest_parts f n (x ∷ xs) ys h = let r = greatest_parts f n xs ys (omega arith) in (omega (arith, r), r.1)
 
     mutual
-      act_small : (rounds : List Round) (a : Act) → Sound m.word vars rounds a → greatest (temps_of m.word) (roots a) ≤ t → greatest nodes_of (roots a) ≤ most → AllSmall m.word t (2 * most) (works m a)
-      act_small rounds (assign place e) f h k = (assign_small place e f.left.fits f.right.fits (omega arith) (omega arith), tt)
-      act_small rounds (choice test taken other) f h k =
+      stmt_small : (rounds : List Round) (a : StmtModel) → Sound m.word vars rounds a → greatest (temps_of m.word) (roots a) ≤ t → greatest nodes_of (roots a) ≤ most → AllSmall m.word t (2 * most) (works m a)
+      stmt_small rounds (assign place e) f h k = (assign_small place e f.left.fits f.right.fits (omega arith) (omega arith), tt)
+      stmt_small rounds (choice test taken other) f h k =
           let p = greatest_parts (temps_of m.word) t (tested_roots test ++ roots_in taken) (roots_else other) h in
           let p1 = greatest_parts (temps_of m.word) t (tested_roots test) (roots_in taken) p.0 in
           let q = greatest_parts nodes_of most (tested_roots test ++ roots_in taken) (roots_else other) k in
           let q1 = greatest_parts nodes_of most (tested_roots test) (roots_in taken) q.0 in (
             record { destination = tt; trees = compared_small test.cmp test.left.shape test.right.shape f.0.sides.left f.0.sides.right f.0.sides.left_width p1.0 q1.0 },
-            all_small (works_in m taken) (works_else m other) (acts_small rounds taken f.1 p1.1 q1.1) (else_small rounds other f.2 p.1 q.1),
+            all_small (jobs_in m taken) (jobs_else m other) (stmts_small rounds taken f.1 p1.1 q1.1) (else_small rounds other f.2 p.1 q.1),
           )
-      act_small rounds (while test body) f h k =
+      stmt_small rounds (while test body) f h k =
           let p1 = greatest_parts (temps_of m.word) t (tested_roots test) (roots_in body) h in
           let q1 = greatest_parts nodes_of most (tested_roots test) (roots_in body) k in
-          (record { destination = tt; trees = compared_small test.cmp test.left.shape test.right.shape f.0.sides.left f.0.sides.right f.0.sides.left_width p1.0 q1.0 }, acts_small rounds body f.1 p1.1 q1.1)
-      act_small rounds (count counter at from to body) f h k =
+          (record { destination = tt; trees = compared_small test.cmp test.left.shape test.right.shape f.0.sides.left f.0.sides.right f.0.sides.left_width p1.0 q1.0 }, stmts_small rounds body f.1 p1.1 q1.1)
+      stmt_small rounds (count counter at from to body) f h k =
           let p = greatest_parts (temps_of m.word) t (start_roots counter at from to ++ roots_in body) (step_roots counter at) h in
           let p1 = greatest_parts (temps_of m.word) t (start_roots counter at from to) (roots_in body) p.0 in
           let q = greatest_parts nodes_of most (start_roots counter at from to ++ roots_in body) (step_roots counter at) k in
@@ -318,23 +318,23 @@ module _ (m : MemoryMap) (vars : List Declared) (some : 1 ≤ m.addr) where
             value_small (num from) (base_of m.places counter) (omega arith) (omega (arith, p1.0)) (omega (arith, q1.0)),
             (
               record { destination = tt; trees = compared_small Ne (plain counter at) (num (to + 1)) tt below refl (omega (arith, p1.0)) (omega (arith, q1.0)) },
-              all_small (works_in m body) (step_work m counter ∷ []) (acts_small _ body f.1 p1.1 q1.1)
+              all_small (jobs_in m body) (job_of_step m counter ∷ []) (stmts_small _ body f.1 p1.1 q1.1)
                   (value_small (bin_of Add at (plain counter at) at (num 1)) (base_of m.places counter) (tt, omega arith, refl, refl) (omega (arith, p.1)) (omega (arith, q.1)), tt),
             ),
           )
 
-      acts_small : (rounds : List Round) (list : Acts) → SoundIn m.word vars rounds list → greatest (temps_of m.word) (roots_in list) ≤ t → greatest nodes_of (roots_in list) ≤ most → AllSmall m.word t (2 * most) (works_in m list)
-      acts_small rounds no_acts f h k = tt
-      acts_small rounds (act a rest) f h k =
+      stmts_small : (rounds : List Round) (list : StmtsModel) → SoundIn m.word vars rounds list → greatest (temps_of m.word) (roots_in list) ≤ t → greatest nodes_of (roots_in list) ≤ most → AllSmall m.word t (2 * most) (jobs_in m list)
+      stmts_small rounds no_acts f h k = tt
+      stmts_small rounds (act a rest) f h k =
           let p = greatest_parts (temps_of m.word) t (roots a) (roots_in rest) h in
           let q = greatest_parts nodes_of most (roots a) (roots_in rest) k in
-          all_small (works m a) (works_in m rest) (act_small rounds a f.0 p.0 q.0) (acts_small rounds rest f.1 p.1 q.1)
+          all_small (works m a) (jobs_in m rest) (stmt_small rounds a f.0 p.0 q.0) (stmts_small rounds rest f.1 p.1 q.1)
 
-      else_small : (rounds : List Round) (o : Otherwise) → SoundElse m.word vars rounds o → greatest (temps_of m.word) (roots_else o) ≤ t → greatest nodes_of (roots_else o) ≤ most → AllSmall m.word t (2 * most) (works_else m o)
+      else_small : (rounds : List Round) (o : ElseModel) → SoundElse m.word vars rounds o → greatest (temps_of m.word) (roots_else o) ≤ t → greatest nodes_of (roots_else o) ≤ most → AllSmall m.word t (2 * most) (jobs_else m o)
       else_small rounds without f h k = tt
-      else_small rounds (otherwise body) f h k = acts_small rounds body f h k
+      else_small rounds (otherwise body) f h k = stmts_small rounds body f h k
 
 -- the jobs of a program that keeps the rules
-pub program_small : (m : MemoryMap) (l : Listing) → first_fault m.word l ≡ None → 1 ≤ m.addr → AllSmall m.word (temp_count m.word l) 510 (program_works m l)
+pub program_small : (m : MemoryMap) (l : ProgramModel) → first_fault m.word l ≡ None → 1 ≤ m.addr → AllSmall m.word (temp_count m.word l) 510 (program_jobs m l)
 program_small m l kept some =
-    acts_small m l.vars some (temp_count m.word l) 255 [] (acts_of l.body) (program_sound m.word l kept) (omega arith) (rules_hold m.word l kept).few_nodes
+    stmts_small m l.vars some (temp_count m.word l) 255 [] (stmts_of l.body) (program_sound m.word l kept) (omega arith) (rules_hold m.word l kept).few_nodes

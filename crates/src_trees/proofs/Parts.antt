@@ -3,11 +3,11 @@ use Rattle.std.proofs.Common.{ℕ, zero, suc, ◌≡◌, ◌+◌, ◌-◌, Bool,
 use Rattle.std.proofs.lemmas.List.{length-set, length-append}
 use Rattle.form_model.specs.declared.flow.Flow.{Flow}
 use Rattle.form_model.specs.declared.flow.Flow.TheVariants.{Assign, Jump}
-use Rattle.form_model.specs.Rules.{Destination, into, cell, filed, stored, temporary, tested}
-use Rattle.net_model.specs.Terms.{Term}
-use Rattle.src_model.specs.Written.{Act, assign, choice, while, count, Acts, no_acts, act, Otherwise, without, otherwise}
+use Rattle.form_model.specs.Forms.{DestinationModel, into, cell, filed, stored, temporary, tested}
+use Rattle.net_model.specs.Exprs.{ExprModel}
+use Rattle.src_model.specs.Written.{StmtModel, assign, choice, while, count, StmtsModel, no_acts, act, ElseModel, without, otherwise}
 use Rattle.src_model.specs.Sizes.{statements, statements_in, statements_else}
-use Rattle.src_trees.specs.Lowered.{MemoryMap, Work, works, works_in, works_else, step_work}
+use Rattle.src_trees.specs.Lowered.{MemoryMap, JobModel, works, jobs_in, jobs_else, job_of_step}
 use Rattle.src_trees.specs.Flows.{places_for, places_in, places_else, flow_of, flow_in, flow_else}
 use Rattle.src_trees.specs.Doing.{put_at, done, all_done, Lies, AllLie, AllAre}
 use Rattle.src_trees.specs.Seen.{tree_value}
@@ -51,7 +51,7 @@ stand_all xs = stand_from [] xs 0 refl
 -- ---- lengths
 
 mutual
-  pub flow_length : (a : Act) (tree at : ℕ) → length (flow_of a tree at) ≡ places_for a
+  pub flow_length : (a : StmtModel) (tree at : ℕ) → length (flow_of a tree at) ≡ places_for a
   flow_length (assign place e) tree at = refl
   flow_length (choice test taken other) tree at =
       let t = in_length taken (tree + 1) (at + 1) in
@@ -64,45 +64,45 @@ mutual
       let t = in_length body (tree + 2) (at + 2) in
       omega (arith, length-append (flow_in body (tree + 2) (at + 2)) (Assign (tree + 2 + statements_in body) ∷ (Jump (at + 1) ∷ [])), t)
 
-  pub in_length : (list : Acts) (tree at : ℕ) → length (flow_in list tree at) ≡ places_in list
+  pub in_length : (list : StmtsModel) (tree at : ℕ) → length (flow_in list tree at) ≡ places_in list
   in_length no_acts tree at = refl
   in_length (act a rest) tree at =
       let t = flow_length a tree at in
       let o = in_length rest (tree + statements a) (at + places_for a) in
       omega (arith, length-append (flow_of a tree at) (flow_in rest (tree + statements a) (at + places_for a)), t, o)
 
-  pub else_length : (o : Otherwise) (tree at : ℕ) → length (flow_else o tree at) ≡ places_else o
+  pub else_length : (o : ElseModel) (tree at : ℕ) → length (flow_else o tree at) ≡ places_else o
   else_length without tree at = refl
   else_length (otherwise body) tree at = let t = in_length body tree (at + 1) in omega (arith, t)
 
 mutual
-  pub works_length : (m : MemoryMap) (a : Act) → length (works m a) ≡ statements a
+  pub works_length : (m : MemoryMap) (a : StmtModel) → length (works m a) ≡ statements a
   works_length m (assign place e) = refl
-  works_length m (choice test taken other) = let t = works_in_length m taken in let o = works_else_length m other in omega (arith, length-append (works_in m taken) (works_else m other), t, o)
+  works_length m (choice test taken other) = let t = works_in_length m taken in let o = works_else_length m other in omega (arith, length-append (jobs_in m taken) (jobs_else m other), t, o)
   works_length m (while test body) = let t = works_in_length m body in omega (arith, t)
   works_length m (count counter at from to body) =
       let t = works_in_length m body in
-      omega (arith, length-append (works_in m body) (step_work m counter ∷ []), t)
+      omega (arith, length-append (jobs_in m body) (job_of_step m counter ∷ []), t)
 
-  pub works_in_length : (m : MemoryMap) (list : Acts) → length (works_in m list) ≡ statements_in list
+  pub works_in_length : (m : MemoryMap) (list : StmtsModel) → length (jobs_in m list) ≡ statements_in list
   works_in_length m no_acts = refl
-  works_in_length m (act a rest) = let t = works_length m a in let o = works_in_length m rest in omega (arith, length-append (works m a) (works_in m rest), t, o)
+  works_in_length m (act a rest) = let t = works_length m a in let o = works_in_length m rest in omega (arith, length-append (works m a) (jobs_in m rest), t, o)
 
-  pub works_else_length : (m : MemoryMap) (o : Otherwise) → length (works_else m o) ≡ statements_else o
+  pub works_else_length : (m : MemoryMap) (o : ElseModel) → length (jobs_else m o) ≡ statements_else o
   works_else_length m without = refl
   works_else_length m (otherwise body) = works_in_length m body
 
 -- ---- jobs one after the other
 
-pub all_done_more : (ts : List Work) (t : Work) (cells : List ℕ) → all_done (ts ++ t ∷ []) cells ≡ done t (all_done ts cells)
+pub all_done_more : (ts : List JobModel) (t : JobModel) (cells : List ℕ) → all_done (ts ++ t ∷ []) cells ≡ done t (all_done ts cells)
 all_done_more [] t cells = refl
 all_done_more (u ∷ ts) t cells = all_done_more ts t (done u cells)
 
-pub all_lie_more : (at : ℕ) (ts : List Work) (t : Work) (cells : List ℕ) → AllLie at cells ts → Lies at (all_done ts cells) t → AllLie at cells (ts ++ t ∷ [])
+pub all_lie_more : (at : ℕ) (ts : List JobModel) (t : JobModel) (cells : List ℕ) → AllLie at cells ts → Lies at (all_done ts cells) t → AllLie at cells (ts ++ t ∷ [])
 all_lie_more at [] t cells h l = (l, tt)
 all_lie_more at (u ∷ ts) t cells h l = (h.0, all_lie_more at ts t (done u cells) h.1 l)
 
-put_length : (destination : Destination) (v : ℕ) (cells : List ℕ) → length (put_at destination v cells) ≡ length cells
+put_length : (destination : DestinationModel) (v : ℕ) (cells : List ℕ) → length (put_at destination v cells) ≡ length cells
 put_length (cell address) v cells = length-set cells address v
 put_length (stored address) v cells = length-set cells (tree_value cells address) v
 put_length (into id) v cells = refl
@@ -110,12 +110,12 @@ put_length temporary v cells = refl
 put_length filed v cells = refl
 put_length tested v cells = refl
 
-pub all_done_length : (ts : List Work) (cells : List ℕ) → length (all_done ts cells) ≡ length cells
+pub all_done_length : (ts : List JobModel) (cells : List ℕ) → length (all_done ts cells) ≡ length cells
 all_done_length [] cells = refl
 all_done_length (t ∷ ts) cells = all_done_length ts (done t cells) ∙ put_length t.destination _ cells
 
 -- one of some trees that have one value
-pub all_are_at : (v : ℕ) (cells : List ℕ) (trees : List Term) (k : ℕ) (t : Term) → AllAre v cells trees → slice_get trees k ≡ Some t → tree_value cells t ≡ v
+pub all_are_at : (v : ℕ) (cells : List ℕ) (trees : List ExprModel) (k : ℕ) (t : ExprModel) → AllAre v cells trees → slice_get trees k ≡ Some t → tree_value cells t ≡ v
 all_are_at v cells [] k t h e = absurd (cc e)
 all_are_at v cells (u ∷ trees) zero t h e = let s : u ≡ t = cc in subst (λ x. tree_value cells x ≡ v) s h.0
 all_are_at v cells (u ∷ trees) (suc k) t h e = all_are_at v cells trees k t h.1 e

@@ -3,7 +3,7 @@ use Rattle.std.proofs.Common.{ℕ, zero, suc, ◌≡◌, ◌≤◌, ◌<◌, ◌
 use Rattle.std.proofs.lemmas.Bool.Decides.{nat_tests}
 use Rattle.rec_bits.specs.Operators.{bit_of}
 use Rattle.net_model.specs.declared.hardware.Space.TheVariants.{Memory as InMemory}
-use Rattle.net_model.specs.Terms.{Term}
+use Rattle.net_model.specs.Exprs.{ExprModel}
 use Rattle.net_model.specs.declared.hardware.Netlist.{Netlist}
 use Rattle.net_model.specs.declared.states.State.{State}
 use Rattle.net_model.specs.Nets.{memory_size, memory_width}
@@ -11,12 +11,12 @@ use Rattle.src_model.specs.declared.program.Cmp.{Cmp}
 use Rattle.src_model.specs.declared.program.Cmp.TheVariants.{Ne}
 use Rattle.src_model.specs.declared.checkpoint.Checkpoint.TheVariants.{At, End as TheEnd}
 use Rattle.src_model.specs.declared.program.Var.{Var as Declared}
-use Rattle.src_model.specs.Written.{Phrase, Place, Test as Tested, Act, assign, choice, while, count, Acts, no_acts, act, Otherwise, without, otherwise, Listing, acts_of}
+use Rattle.src_model.specs.Written.{SrcExprModel, SpotModel, SrcTestModel as Tested, StmtModel, assign, choice, while, count, StmtsModel, no_acts, act, ElseModel, without, otherwise, ProgramModel, stmts_of}
 use Rattle.src_model.specs.Sizes.{statements, statements_in}
 use Rattle.src_model.specs.Loops.{Round, place_shape}
 use Rattle.src_model.specs.Meaning.{assigned, holds, FitsStore}
 use Rattle.src_model.specs.Ways.{Onward, pass, choose, loop, finish}
-use Rattle.src_model.specs.Trace.{started, stepped, counting, after_change, run_act, run_in, run_else, strace}
+use Rattle.src_model.specs.Trace.{started, stepped, counting, after_change, run_stmt, run_in, run_else, strace}
 use Rattle.src_model.proofs.WayLemmas.{Keeps, finish_whole, finish_steady}
 use Rattle.src_model.proofs.TraceLemmas.{counted_body, body_keeps, counted_keeps, in_whole, in_steady}
 use Rattle.code_model.specs.declared.image.Image.{Image}
@@ -29,7 +29,7 @@ use Rattle.code_model.proofs.Flowing.{block_stands, end_stands, test_stands, loo
 use Rattle.code_model.proofs.Traces.{traces_right}
 use Rattle.form_model.specs.declared.flow.Flow.{Flow}
 use Rattle.form_model.specs.declared.flow.Flow.TheVariants.{Assign, Test, Jump, End}
-use Rattle.src_trees.specs.Lowered.{MemoryMap, Work, holds_at_one, answer}
+use Rattle.src_trees.specs.Lowered.{MemoryMap, JobModel, holds_at_one, answer}
 use Rattle.net_model.specs.Widths.{IsState}
 use Rattle.net_model.specs.Clock.{counter_in}
 use Rattle.src_model.specs.Rules.{first_fault}
@@ -38,7 +38,7 @@ use Rattle.src_model.proofs.SoundLemmas.{program_sound}
 use Rattle.src_trees.proofs.Parts.{stand_all, Stand, stand_left, stand_right, in_length, flow_length, all_done_more, all_lie_more, all_done_length, all_are_at, or_former, or_later, entered_by, begins_entered, begins_other, begins_behind}
 use Rattle.src_trees.specs.Seen.{seen_store, tree_value, CanAssign, CanTest}
 use Rattle.src_trees.specs.Held.{HasCellRoom, HoldsCells, HoldsVars, LieWithin}
-use Rattle.src_trees.specs.Meant.{DoesAssign, DoesStart, DoesStep, Tells as TellsTest, count_test, DoAct, DoActs, DoElse, DoProgram}
+use Rattle.src_trees.specs.Meant.{DoesAssign, DoesStart, DoesStep, Tells as TellsTest, count_test, DoStmt, DoStmts, DoElse, DoProgram}
 use Rattle.src_trees.specs.Doing.{done, all_done, job_value, Lies, AllLie, AllAre}
 use Rattle.src_model.specs.Inner.Sound.{Holds, Turns, SoundAssign, SoundTest, SoundCount, Sound, SoundIn, SoundElse}
 use Rattle.src_trees.specs.Blocks.{is_assign, enters, continues, IsAssignBlock, job_list, job_at, jobs_at}
@@ -72,11 +72,11 @@ asked_enters cmp tree yes_to no_to = by (holds_at_one cmp)
     by true = or_later (yes_to == no_to) (no_to == no_to) (eq-eqb no_to no_to refl)
     by false = or_former (no_to == no_to) (yes_to == no_to) (eq-eqb no_to no_to refl)
 
-entry_within : (o : Otherwise) (at : ℕ) → else_entry o at ≤ at + places_else o
+entry_within : (o : ElseModel) (at : ℕ) → else_entry o at ≤ at + places_else o
 entry_within without at = omega arith
 entry_within (otherwise list) at = omega arith
 
-module _ (netlist : Netlist) (image : Image) (mem : MemoryMap) (temps : ℕ) (vars : List Declared) (flow : List Flow) (jobs : List Work) (starts : ℕ → ℕ) (end : ℕ)
+module _ (netlist : Netlist) (image : Image) (mem : MemoryMap) (temps : ℕ) (vars : List Declared) (flow : List Flow) (jobs : List JobModel) (starts : ℕ → ℕ) (end : ℕ)
     (room : HasCellRoom temps mem (memory_size netlist.storages)) (places : image.places ≡ mem.places) (wide : memory_width netlist.storages ≡ mem.word) (placed : IsPlaced netlist image temps flow jobs starts end) where
   store_is : (s : State) → store_in image s ≡ seen_store mem s.cells
   store_is s = ap (λ ps. cells_at ps s.cells) places
@@ -155,13 +155,13 @@ module _ (netlist : Netlist) (image : Image) (mem : MemoryMap) (temps : ℕ) (va
   -- ---- assignments
 
   -- a job that does what an assignment says
-  record Does (work : Work) (j k : Phase) (change : List ℕ → List ℕ) : Type 0 where
+  record Does (work : JobModel) (j k : Phase) (change : List ℕ → List ℕ) : Type 0 where
     lies : (cells : List ℕ) → HoldsCells temps mem cells → Meets mem.word vars j (seen_store mem cells) → Lies temps cells work
     is : (cells : List ℕ) → HoldsCells temps mem cells → Meets mem.word vars j (seen_store mem cells) → seen_store mem (done work cells) ≡ change (seen_store mem cells)
     fits : (cells : List ℕ) → HoldsCells temps mem cells → Meets mem.word vars j (seen_store mem cells) → job_value cells work.trees < 2 ^ mem.word
     keeps : (store : List ℕ) → Meets mem.word vars j store → Meets mem.word vars k (change store)
 
-  one_more : (i b n : ℕ) (c j k : Phase) (g change : List ℕ → List ℕ) (tree : ℕ) (work : Work) → slice_get flow i ≡ Some (Assign tree) → slice_get jobs tree ≡ Some work → Does work j k change
+  one_more : (i b n : ℕ) (c j k : Phase) (g change : List ℕ → List ℕ) (tree : ℕ) (work : JobModel) → slice_get flow i ≡ Some (Assign tree) → slice_get jobs tree ≡ Some work → Does work j k change
       → (n ≡ 0) ⊎ (continues flow i ≡ true) → Pending i b n c j g → Pending (i + 1) b (suc n) c k (λ cells. change (g cells))
   one_more i b n c j k g change tree work at_flow at_jobs does inside p =
       let h = p.here in
@@ -206,7 +206,7 @@ module _ (netlist : Netlist) (image : Image) (mem : MemoryMap) (temps : ℕ) (va
       met : (s : State) → IsCalm netlist (starts b) s → Meets mem.word vars c (store_in image s) → Meets mem.word vars j (seen_store mem (all_done (jobs_at flow jobs b n) s.cells))
       met s a m = subst (Meets mem.word vars j) (sym (p.store s a m)) (p.meets s a m)
 
-  assigned_stands : (i : ℕ) (j k : Phase) (change : List ℕ → List ℕ) (tree : ℕ) (work : Work) (way : Onward) (m : ℕ) → i ≤ end → slice_get flow i ≡ Some (Assign tree) → slice_get jobs tree ≡ Some work → Does work j k change
+  assigned_stands : (i : ℕ) (j k : Phase) (change : List ℕ → List ℕ) (tree : ℕ) (work : JobModel) (way : Onward) (m : ℕ) → i ≤ end → slice_get flow i ≡ Some (Assign tree) → slice_get jobs tree ≡ Some work → Does work j k change
       → StandsIn (i + 1) k way m → StandsIn i j (after_change change way) m
   assigned_stands i j k change tree work way m within at_flow at_jobs does h b n c g p = by (continues flow i) refl
     where
@@ -245,7 +245,7 @@ module _ (netlist : Netlist) (image : Image) (mem : MemoryMap) (temps : ℕ) (va
   -- ---- tests
 
   -- a job whose trees tell a test, and what the store keeps behind it
-  record Tells (work : Work) (cmp : Cmp) (test : List ℕ → Bool) (j k other : Phase) : Type 0 where
+  record Tells (work : JobModel) (cmp : Cmp) (test : List ℕ → Bool) (j k other : Phase) : Type 0 where
     lies : (cells : List ℕ) → HoldsCells temps mem cells → Meets mem.word vars j (seen_store mem cells) → Lies temps cells work
     are : (cells : List ℕ) → HoldsCells temps mem cells → Meets mem.word vars j (seen_store mem cells) → AllAre (bit_of (answer cmp (test (seen_store mem cells)))) cells work.trees
     on_true : (store : List ℕ) → Meets mem.word vars j store → test store ≡ true → Meets mem.word vars k store
@@ -258,7 +258,7 @@ module _ (netlist : Netlist) (image : Image) (mem : MemoryMap) (temps : ℕ) (va
     no_later : clocks ≤ starts no_to
     tests : (s : State) → Stated i j s → Tests netlist image tree test (Stated yes_to k) (Stated no_to other) clocks s
 
-  asking : (i tree yes_to no_to : ℕ) (work : Work) (cmp : Cmp) (test : List ℕ → Bool) (j k other : Phase) → slice_get flow i ≡ Some (asked cmp tree yes_to no_to) → slice_get jobs tree ≡ Some work
+  asking : (i tree yes_to no_to : ℕ) (work : JobModel) (cmp : Cmp) (test : List ℕ → Bool) (j k other : Phase) → slice_get flow i ≡ Some (asked cmp tree yes_to no_to) → slice_get jobs tree ≡ Some work
       → Tells work cmp test j k other → Asking i tree yes_to no_to test j k other
   asking i tree yes_to no_to work cmp test j k other at_flow at_jobs tells = by (holds_at_one cmp) refl at_flow
     where
@@ -268,7 +268,7 @@ module _ (netlist : Netlist) (image : Image) (mem : MemoryMap) (temps : ℕ) (va
       met : (s : State) → Stated i j s → Meets mem.word vars j (seen_store mem s.cells)
       met s q = subst (Meets mem.word vars j) (store_is s) q.1
 
-      value : (b : Bool) → holds_at_one cmp ≡ b → (s : State) → Stated i j s → (used : Term) (which : ℕ) → slice_get work.trees which ≡ Some used → (h : Bool) → test (store_in image s) ≡ h
+      value : (b : Bool) → holds_at_one cmp ≡ b → (s : State) → Stated i j s → (used : ExprModel) (which : ℕ) → slice_get work.trees which ≡ Some used → (h : Bool) → test (store_in image s) ≡ h
           → tree_value s.cells used ≡ bit_of (if b then h else not h)
       value b e s q used which among h is =
           all_are_at _ s.cells work.trees which used (tells.are s.cells (long s q) (met s q)) among
@@ -338,13 +338,13 @@ module _ (netlist : Netlist) (image : Image) (mem : MemoryMap) (temps : ℕ) (va
 
   -- ---- what the jobs of statements do
 
-  can_assign : (rounds : List Round) (place : Place) (e : Phrase) → SoundAssign mem.word vars rounds place e → (store : List ℕ) → Holds mem.word vars rounds store → CanAssign mem.word vars store place e
+  can_assign : (rounds : List Round) (place : SpotModel) (e : SrcExprModel) → SoundAssign mem.word vars rounds place e → (store : List ℕ) → Holds mem.word vars rounds store → CanAssign mem.word vars store place e
   can_assign rounds place e f store h = record {
     left = record { fits = f.left.fits; known = f.left.known; inside = inside mem.word vars store h.fits.below rounds h.counts mem.word (place_shape place) f.left.fits f.left.known f.left.within };
     right = record { fits = f.right.fits; known = f.right.known; inside = inside mem.word vars store h.fits.below rounds h.counts mem.word e.shape f.right.fits f.right.known f.right.within };
   }
 
-  assign_does : (rounds : List Round) (place : Place) (e : Phrase) (work : Work) → SoundAssign mem.word vars rounds place e → DoesAssign mem temps vars place e work → Does work (body rounds) (body rounds) (assigned mem.word vars place e)
+  assign_does : (rounds : List Round) (place : SpotModel) (e : SrcExprModel) (work : JobModel) → SoundAssign mem.word vars rounds place e → DoesAssign mem temps vars place e work → Does work (body rounds) (body rounds) (assigned mem.word vars place e)
   assign_does rounds place e work f d = record {
     lies = λ cells long h. d.lies cells long (can_assign rounds place e f (seen_store mem cells) h, f.width);
     is = λ cells long h. d.store cells long (can_assign rounds place e f (seen_store mem cells) h, f.width);
@@ -352,7 +352,7 @@ module _ (netlist : Netlist) (image : Image) (mem : MemoryMap) (temps : ℕ) (va
     keeps = λ store h. assign_holds mem.word vars rounds place e store f (can_assign rounds place e f store h).left.inside h;
   }
 
-  start_does : (rounds : List Round) (counter : List ℕ) (from to : ℕ) (work : Work) → SoundCount mem.word vars rounds counter from to → DoesStart mem temps vars counter from work
+  start_does : (rounds : List Round) (counter : List ℕ) (from to : ℕ) (work : JobModel) → SoundCount mem.word vars rounds counter from to → DoesStart mem temps vars counter from work
       → Does work (body rounds) (turn rounds counter from to) (started vars counter from)
   start_does rounds counter from to work f d =
       let below : from < 2 ^ mem.word = omega (arith, f.fits.order, f.fits.below) in
@@ -363,7 +363,7 @@ module _ (netlist : Netlist) (image : Image) (mem : MemoryMap) (temps : ℕ) (va
         keeps = λ store h. start_turns mem.word vars rounds counter from to f store h;
       }
 
-  step_does : (rounds : List Round) (counter : List ℕ) (from to : ℕ) (work : Work) → SoundCount mem.word vars rounds counter from to → DoesStep mem temps vars counter work
+  step_does : (rounds : List Round) (counter : List ℕ) (from to : ℕ) (work : JobModel) → SoundCount mem.word vars rounds counter from to → DoesStep mem temps vars counter work
       → Does work (body (record { counter = counter; from = from; to = to } ∷ rounds)) (turn rounds counter from to) (stepped mem.word vars counter)
   step_does rounds counter from to work f d = record {
     lies = λ cells long h. d.lies cells long f.plain;
@@ -383,7 +383,7 @@ module _ (netlist : Netlist) (image : Image) (mem : MemoryMap) (temps : ℕ) (va
         (inside mem.word vars store h.fits.below rounds h.counts _ test.right.shape f.sides.right f.right_known f.right_within);
   }
 
-  test_tells : (rounds : List Round) (test : Tested) (work : Work) → SoundTest mem.word vars rounds test → TellsTest mem temps vars test work → Tells work test.cmp (holds mem.word vars test) (body rounds) (body rounds) (body rounds)
+  test_tells : (rounds : List Round) (test : Tested) (work : JobModel) → SoundTest mem.word vars rounds test → TellsTest mem temps vars test work → Tells work test.cmp (holds mem.word vars test) (body rounds) (body rounds) (body rounds)
   test_tells rounds test work f d = record {
     lies = λ cells long h. d.lies cells long (can_test rounds test f (seen_store mem cells) h);
     are = λ cells long h. d.value cells long (can_test rounds test f (seen_store mem cells) h);
@@ -400,7 +400,7 @@ module _ (netlist : Netlist) (image : Image) (mem : MemoryMap) (temps : ℕ) (va
     inside = refl;
   }
 
-  counting_tells : (rounds : List Round) (counter : List ℕ) (at from to : ℕ) (work : Work) → SoundCount mem.word vars rounds counter from to → TellsTest mem temps vars (count_test counter at to) work
+  counting_tells : (rounds : List Round) (counter : List ℕ) (at from to : ℕ) (work : JobModel) → SoundCount mem.word vars rounds counter from to → TellsTest mem temps vars (count_test counter at to) work
       → Tells work Ne (counting vars counter to) (turn rounds counter from to) (body (record { counter = counter; from = from; to = to } ∷ rounds)) (body rounds)
   counting_tells rounds counter at from to work f d = record {
     lies = λ cells long t. d.lies cells long (can_count rounds counter at from to f (seen_store mem cells) t);
@@ -410,20 +410,20 @@ module _ (netlist : Netlist) (image : Image) (mem : MemoryMap) (temps : ℕ) (va
   }
 
   -- the way on from where an `if`'s test doesn't hold, and that from behind its first part
-  record Elsewhere (rounds : List Round) (at : ℕ) (o : Otherwise) (other way : Onward) (m : ℕ) : Type 0 where
+  record Elsewhere (rounds : List Round) (at : ℕ) (o : ElseModel) (other way : Onward) (m : ℕ) : Type 0 where
     entry : StandsAt (else_entry o at) (body rounds) other m
     over : StandsIn at (body rounds) way m
 
   -- ---- statements
 
   mutual
-    unfolding run_act run_in run_else
+    unfolding run_stmt run_in run_else
 
-    act_stands : (rounds : List Round) (a : Act) (tree at : ℕ) → Sound mem.word vars rounds a → at + places_for a ≤ end → Stand flow at (flow_of a tree at) → DoAct mem temps vars jobs tree a → (way : Onward) (m : ℕ)
-        → StandsIn (at + places_for a) (body rounds) way m → StandsIn at (body rounds) (run_act mem.word vars a tree way) m
-    act_stands rounds (assign place e) tree at f le in_flow in_jobs way m h =
+    stmt_stands : (rounds : List Round) (a : StmtModel) (tree at : ℕ) → Sound mem.word vars rounds a → at + places_for a ≤ end → Stand flow at (flow_of a tree at) → DoStmt mem temps vars jobs tree a → (way : Onward) (m : ℕ)
+        → StandsIn (at + places_for a) (body rounds) way m → StandsIn at (body rounds) (run_stmt mem.word vars a tree way) m
+    stmt_stands rounds (assign place e) tree at f le in_flow in_jobs way m h =
         assigned_stands at (body rounds) (body rounds) (assigned mem.word vars place e) tree in_jobs.work way m (omega arith) in_flow.0 in_jobs.at (assign_does rounds place e in_jobs.work f in_jobs.is) h
-    act_stands rounds (choice test taken other) tree at f le in_flow in_jobs way m h =
+    stmt_stands rounds (choice test taken other) tree at f le in_flow in_jobs way m h =
         let flow_taken : Stand flow (at + 1) (flow_in taken (tree + 1) (at + 1)) =
         stand_left flow (at + 1) (flow_in taken (tree + 1) (at + 1)) (flow_else other (tree + 1 + statements_in taken) (at + 1 + places_in taken)) in_flow.1 in
         let flow_other : Stand flow (at + 1 + places_in taken) (flow_else other (tree + 1 + statements_in taken) (at + 1 + places_in taken)) =
@@ -436,10 +436,10 @@ module _ (netlist : Netlist) (image : Image) (mem : MemoryMap) (temps : ℕ) (va
         (let e : at + (1 + places_in taken + places_else other) ≡ at + 1 + places_in taken + places_else other = omega arith in subst (λ n. StandsIn n (body rounds) way m) e h) in
         let t : StandsAt (at + 1) (body rounds) (run_in mem.word vars taken (tree + 1) way) m =
         opened (at + 1) (body rounds) (run_in mem.word vars taken (tree + 1) way) m (begins_behind flow at (at + 1) (asked test.cmp tree (at + 1) (else_entry other (at + 1 + places_in taken))) refl in_flow.0 (asked_other test.cmp tree (at + 1) (else_entry other (at + 1 + places_in taken))))
-        (acts_stand rounds taken (tree + 1) (at + 1) f.1 (omega arith) flow_taken in_jobs.1 way m o.over) in
+        (stmts_stand rounds taken (tree + 1) (at + 1) f.1 (omega arith) flow_taken in_jobs.1 way m o.over) in
         test_in at tree (at + 1) (else_entry other (at + 1 + places_in taken)) test.cmp (holds mem.word vars test) (body rounds) (body rounds) (body rounds) (run_in mem.word vars taken (tree + 1) way) (run_else mem.word vars other (tree + 1 + statements_in taken) way) m
         (omega arith) (omega arith) (let n = entry_within other (at + 1 + places_in taken) in omega (arith, n)) in_flow.0 k t o.entry
-    act_stands rounds (while test inner) tree at f le in_flow in_jobs way m h =
+    stmt_stands rounds (while test inner) tree at f le in_flow in_jobs way m h =
         let flow_inner : Stand flow (at + 1) (flow_in inner (tree + 1) (at + 1)) = stand_left flow (at + 1) (flow_in inner (tree + 1) (at + 1)) (Jump at ∷ []) in_flow.1 in
         let flow_back : slice_get flow (at + 1 + places_in inner) ≡ Some (Jump at) =
         (stand_right flow (at + 1) (at + 1 + places_in inner) (flow_in inner (tree + 1) (at + 1)) (Jump at ∷ []) (let n = in_length inner (tree + 1) (at + 1) in omega (arith, n)) in_flow.1).0 in
@@ -450,9 +450,9 @@ module _ (netlist : Netlist) (image : Image) (mem : MemoryMap) (temps : ℕ) (va
         (omega arith) (omega arith) (omega arith) in_flow.0 k (body_keeps mem.word vars inner (tree + 1))
         (λ next n back.
         opened (at + 1) (body rounds) (run_in mem.word vars inner (tree + 1) next) n (begins_behind flow at (at + 1) (asked test.cmp tree (at + 1) (at + 1 + places_in inner + 1)) refl in_flow.0 (asked_other test.cmp tree (at + 1) (at + 1 + places_in inner + 1)))
-        (acts_stand rounds inner (tree + 1) (at + 1) f.1 (omega arith) flow_inner in_jobs.1 next n (jumped_back (at + 1 + places_in inner) at (body rounds) next n (omega arith) flow_back back)))
+        (stmts_stand rounds inner (tree + 1) (at + 1) f.1 (omega arith) flow_inner in_jobs.1 next n (jumped_back (at + 1 + places_in inner) at (body rounds) next n (omega arith) flow_back back)))
         (opened (at + 1 + places_in inner + 1) (body rounds) way m (begins_behind flow (at + 1 + places_in inner) (at + 1 + places_in inner + 1) (Jump at) refl flow_back refl) (subst (λ n. StandsIn n (body rounds) way m) e h))
-    act_stands rounds (count counter from_at from to inner) tree at f le in_flow in_jobs way m h =
+    stmt_stands rounds (count counter from_at from to inner) tree at f le in_flow in_jobs way m h =
         let round : Round = record { counter = counter; from = from; to = to } in
         let test_item : Flow = asked Ne (tree + 1) (at + 2) (at + 2 + places_in inner + 2) in
         let back : List Flow = Assign (tree + 2 + statements_in inner) ∷ (Jump (at + 1) ∷ []) in
@@ -470,26 +470,26 @@ module _ (netlist : Netlist) (image : Image) (mem : MemoryMap) (temps : ℕ) (va
         (omega arith) (omega arith) (omega arith) in_flow.1.0 k (counted_keeps mem.word vars counter inner (tree + 2))
         (λ next n again.
         opened (at + 2) (body (round ∷ rounds)) (run_in mem.word vars inner (tree + 2) (after_change (stepped mem.word vars counter) next)) n (begins_behind flow (at + 1) (at + 2) test_item (omega arith) in_flow.1.0 (asked_other Ne (tree + 1) (at + 2) (at + 2 + places_in inner + 2)))
-        (acts_stand (round ∷ rounds) inner (tree + 2) (at + 2) f.1 (omega arith) flow_inner in_jobs.2 (after_change (stepped mem.word vars counter) next) n
+        (stmts_stand (round ∷ rounds) inner (tree + 2) (at + 2) f.1 (omega arith) flow_inner in_jobs.2 (after_change (stepped mem.word vars counter) next) n
         (assigned_stands (at + 2 + places_in inner) (body (round ∷ rounds)) (turn rounds counter from to) (stepped mem.word vars counter) (tree + 2 + statements_in inner) in_jobs.3.work next n (omega arith) flow_back.0 in_jobs.3.at
         (step_does rounds counter from to in_jobs.3.work f.0 in_jobs.3.is)
         (jumped_back (at + 2 + places_in inner + 1) (at + 1) (turn rounds counter from to) next n (omega arith) flow_back.1.0 again))))
         (opened (at + 2 + places_in inner + 2) (body rounds) way m (begins_behind flow (at + 2 + places_in inner + 1) (at + 2 + places_in inner + 2) (Jump (at + 1)) (omega arith) flow_back.1.0 refl)
         (subst (λ n. StandsIn n (body rounds) way m) e h)))
 
-    acts_stand : (rounds : List Round) (list : Acts) (tree at : ℕ) → SoundIn mem.word vars rounds list → at + places_in list ≤ end → Stand flow at (flow_in list tree at) → DoActs mem temps vars jobs tree list → (way : Onward) (m : ℕ)
+    stmts_stand : (rounds : List Round) (list : StmtsModel) (tree at : ℕ) → SoundIn mem.word vars rounds list → at + places_in list ≤ end → Stand flow at (flow_in list tree at) → DoStmts mem temps vars jobs tree list → (way : Onward) (m : ℕ)
         → StandsIn (at + places_in list) (body rounds) way m → StandsIn at (body rounds) (run_in mem.word vars list tree way) m
-    acts_stand rounds no_acts tree at f le in_flow in_jobs way m h = let e : at + 0 ≡ at = omega arith in subst (λ n. StandsIn n (body rounds) way m) e h
-    acts_stand rounds (act a rest) tree at f le in_flow in_jobs way m h =
-        act_stands rounds a tree at f.0 (omega arith) (stand_left flow at (flow_of a tree at) (flow_in rest (tree + statements a) (at + places_for a)) in_flow)
+    stmts_stand rounds no_acts tree at f le in_flow in_jobs way m h = let e : at + 0 ≡ at = omega arith in subst (λ n. StandsIn n (body rounds) way m) e h
+    stmts_stand rounds (act a rest) tree at f le in_flow in_jobs way m h =
+        stmt_stands rounds a tree at f.0 (omega arith) (stand_left flow at (flow_of a tree at) (flow_in rest (tree + statements a) (at + places_for a)) in_flow)
         in_jobs.0 (run_in mem.word vars rest (tree + statements a) way) m
-        (acts_stand rounds rest (tree + statements a) (at + places_for a) f.1 (omega arith)
+        (stmts_stand rounds rest (tree + statements a) (at + places_for a) f.1 (omega arith)
         (stand_right flow at (at + places_for a) (flow_of a tree at) (flow_in rest (tree + statements a) (at + places_for a)) (let n = flow_length a tree at in omega (arith, n)) in_flow)
         in_jobs.1 way m
         (let e : at + (places_for a + places_in rest) ≡ at + places_for a + places_in rest = omega arith in subst (λ n. StandsIn n (body rounds) way m) e h))
 
     -- where an `if`'s test doesn't hold, and behind its first part
-    else_stands : (rounds : List Round) (o : Otherwise) (tree at test_at : ℕ) (cmp : Cmp) (test_tree : ℕ) → SoundElse mem.word vars rounds o → at + places_else o ≤ end → slice_get flow test_at ≡ Some (asked cmp test_tree (test_at + 1) (else_entry o at))
+    else_stands : (rounds : List Round) (o : ElseModel) (tree at test_at : ℕ) (cmp : Cmp) (test_tree : ℕ) → SoundElse mem.word vars rounds o → at + places_else o ≤ end → slice_get flow test_at ≡ Some (asked cmp test_tree (test_at + 1) (else_entry o at))
         → Stand flow at (flow_else o tree at) → DoElse mem temps vars jobs tree o → (way : Onward) (m : ℕ)
         → StandsIn (at + places_else o) (body rounds) way m → Elsewhere rounds at o (run_else mem.word vars o tree way) way m
     else_stands rounds without tree at test_at cmp test_tree f le at_test in_flow in_jobs way m h =
@@ -504,7 +504,7 @@ module _ (netlist : Netlist) (image : Image) (mem : MemoryMap) (temps : ℕ) (va
         let there : StandsIn (at + 1 + places_in list) (body rounds) way m = subst (λ n. StandsIn n (body rounds) way m) e h in
         record {
           entry = opened (at + 1) (body rounds) (run_in mem.word vars list tree way) m (begins_behind flow at (at + 1) (Jump (at + 1 + places_in list)) refl in_flow.0 refl)
-              (acts_stand rounds list tree (at + 1) f (omega arith) in_flow.1 in_jobs way m there);
+              (stmts_stand rounds list tree (at + 1) f (omega arith) in_flow.1 in_jobs way m there);
           over = jumped at (at + 1 + places_in list) (body rounds) way m (omega arith) (omega arith) in_flow.0
               (opened (at + 1 + places_in list) (body rounds) way m (begins_entered flow (at + 1 + places_in list) (entered_by flow at (Jump (at + 1 + places_in list)) (at + 1 + places_in list) in_flow.0 (eq-eqb _ _ refl))) there);
         }
@@ -539,17 +539,17 @@ end_rests netlist image last word label only s h e =
 
 -- words that do what a program's flow says, by jobs that do what its statements say, trace the
 -- program
-pub placed_right : (netlist : Netlist) (image : Image) (m : MemoryMap) (temps : ℕ) (l : Listing) (jobs : List Work) (starts : ℕ → ℕ) → first_fault m.word l ≡ None → memory_width netlist.storages ≡ m.word → HoldsVars temps l.vars m
+pub placed_right : (netlist : Netlist) (image : Image) (m : MemoryMap) (temps : ℕ) (l : ProgramModel) (jobs : List JobModel) (starts : ℕ → ℕ) → first_fault m.word l ≡ None → memory_width netlist.storages ≡ m.word → HoldsVars temps l.vars m
     → HasCellRoom temps m (memory_size netlist.storages) → image.places ≡ m.places → DoProgram m temps l jobs
-    → IsPlaced netlist image temps (program_flow l) jobs starts (places_in (acts_of l.body)) → TracesRight netlist image (strace m.word l)
+    → IsPlaced netlist image temps (program_flow l) jobs starts (places_in (stmts_of l.body)) → TracesRight netlist image (strace m.word l)
 placed_right netlist image m temps l jobs starts kept wide held room places does placed =
-    let end : ℕ = places_in (acts_of l.body) in
-    let in_flow : Stand (program_flow l) 0 (flow_in (acts_of l.body) 0 0) = stand_left (program_flow l) 0 (flow_in (acts_of l.body) 0 0) (End ∷ []) (stand_all (program_flow l)) in
-    let at_end : slice_get (program_flow l) (places_in (acts_of l.body)) ≡ Some End =
-    (stand_right (program_flow l) 0 (places_in (acts_of l.body)) (flow_in (acts_of l.body) 0 0) (End ∷ []) (let n = in_length (acts_of l.body) 0 0 in omega (arith, n)) (stand_all (program_flow l))).0 in
+    let end : ℕ = places_in (stmts_of l.body) in
+    let in_flow : Stand (program_flow l) 0 (flow_in (stmts_of l.body) 0 0) = stand_left (program_flow l) 0 (flow_in (stmts_of l.body) 0 0) (End ∷ []) (stand_all (program_flow l)) in
+    let at_end : slice_get (program_flow l) (places_in (stmts_of l.body)) ≡ Some End =
+    (stand_right (program_flow l) 0 (places_in (stmts_of l.body)) (flow_in (stmts_of l.body) 0 0) (End ∷ []) (let n = in_length (stmts_of l.body) 0 0 in omega (arith, n)) (stand_all (program_flow l))).0 in
     let stands = λ (k : ℕ).
-    opened netlist image m temps l.vars (program_flow l) jobs starts end room places wide placed 0 (body []) (run_in m.word l.vars (acts_of l.body) 0 finish) k refl
-    (acts_stand netlist image m temps l.vars (program_flow l) jobs starts end room places wide placed [] (acts_of l.body) 0 0 (program_sound m.word l kept) (omega arith) in_flow does finish k
+    opened netlist image m temps l.vars (program_flow l) jobs starts end room places wide placed 0 (body []) (run_in m.word l.vars (stmts_of l.body) 0 finish) k refl
+    (stmts_stand netlist image m temps l.vars (program_flow l) jobs starts end room places wide placed [] (stmts_of l.body) 0 0 (program_sound m.word l kept) (omega arith) in_flow does finish k
     (let e : end ≡ 0 + end = omega arith in
     subst (λ n. StandsIn netlist image m temps l.vars (program_flow l) jobs starts end room places wide placed n (body []) finish k) e
     (closed netlist image m temps l.vars (program_flow l) jobs starts end room places wide placed end (body []) finish k (omega arith) (begins_other (program_flow l) end End at_end refl)
@@ -557,10 +557,10 @@ placed_right netlist image m temps l jobs starts kept wide held room places does
     (λ s q. record { state = q.0.here.state; mode = q.0.mode })
     (λ s q. ap (label_at image.marks) q.0.here.counter ∙ placed.end_label))))) in
     let none : starts end - starts 0 ≡ starts end = (let f = placed.first in omega arith) in
-    traces_right netlist image (run_in m.word l.vars (acts_of l.body) 0 finish) (starts end) placed.long
-    (λ j. in_whole m.word l.vars (acts_of l.body) 0 j finish (finish_whole j)) (λ j. in_steady m.word l.vars (acts_of l.body) 0 j finish (finish_steady j))
+    traces_right netlist image (run_in m.word l.vars (stmts_of l.body) 0 finish) (starts end) placed.long
+    (λ j. in_whole m.word l.vars (stmts_of l.body) 0 j finish (finish_whole j)) (λ j. in_steady m.word l.vars (stmts_of l.body) 0 j finish (finish_steady j))
     (λ s h e. end_rests netlist image (starts end) placed.end_word placed.end_label placed.end_only s h e)
     (λ s here k.
     let first : IsCalm netlist (starts 0) s = subst (λ a. IsCalm netlist a s) (sym placed.first) here in
-    subst (λ d. Follows netlist image (IsRestful netlist) (starts end) d s (run_in m.word l.vars (acts_of l.body) 0 finish k (store_in image s))) none
+    subst (λ d. Follows netlist image (IsRestful netlist) (starts end) d s (run_in m.word l.vars (stmts_of l.body) 0 finish k (store_in image s))) none
     (stands k k (omega arith) s (first, record { fits = start_fits netlist image m temps l.vars s wide held room places here.here.state; counts = tt })))

@@ -7,26 +7,26 @@ use Rattle.std.specs.Option.{option_map}
 use Rattle.std.proofs.Math.Bool.{or_comm}
 use Rattle.std.proofs.lemmas.Option.{slice_get-map}
 use Rattle.net_model.specs.declared.hardware.Netlist.{Netlist}
-use Rattle.net_model.specs.Terms.{Term}
+use Rattle.net_model.specs.Exprs.{ExprModel}
 use Rattle.code_model.specs.declared.image.Image.{Image}
 use Rattle.form_model.specs.declared.flow.Flow.{Flow}
 use Rattle.form_model.specs.declared.flow.Flow.TheVariants.{Assign, Test, Jump, End}
-use Rattle.src_trees.specs.Lowered.{Work}
+use Rattle.src_trees.specs.Lowered.{JobModel}
 use Rattle.src_trees.specs.Seen.{tree_value}
 use Rattle.src_trees.specs.Blocks.{IsAssignBlock, continues, enters, is_assign, is_entered, job_at, job_list, jobs_at}
 use Rattle.src_trees.specs.Doing.{AllRead, Lies}
 use Rattle.src_trees.specs.Placed.{DoesJobs, DoesTest, IsPlaced}
-use Rattle.src_trees.specs.Turned.{Turns, TurnsTests, told_from, told_work, told_works, turned_back, turned_flow, turned_place}
+use Rattle.src_trees.specs.Turned.{Turns, TurnsTests, told_from, job_of_told, jobs_of_told, turned_back, turned_flow, turned_place}
 
 -- ---- the other answer of a tree
 
 xor_one : (v : ℕ) → bit_xor (bit_xor v 1) 1 ≡ v
 xor_one v = xor_assoc v 1 1 ∙ ap (bit_xor v) (xor_self 1) ∙ xor_zero_r v
 
-back_one : (cells : List ℕ) (t : Term) → tree_value cells (turned_back t) ≡ 1 → tree_value cells t ≡ 0
+back_one : (cells : List ℕ) (t : ExprModel) → tree_value cells (turned_back t) ≡ 1 → tree_value cells t ≡ 0
 back_one cells t e = sym (xor_one (tree_value cells t)) ∙ ap (λ x. bit_xor x 1) e
 
-back_zero : (cells : List ℕ) (t : Term) → tree_value cells (turned_back t) ≡ 0 → tree_value cells t ≡ 1
+back_zero : (cells : List ℕ) (t : ExprModel) → tree_value cells (turned_back t) ≡ 0 → tree_value cells t ≡ 1
 back_zero cells t e = sym (xor_one (tree_value cells t)) ∙ ap (λ x. bit_xor x 1) e
 
 -- ---- a flow and the one with turned tests
@@ -80,28 +80,28 @@ module _ (turned : Turns) where
 
   -- ---- jobs that are turned back
 
-  told_at : (works : List Work) (k from : ℕ) → slice_get (told_from turned from works) k ≡ option_map (told_work (turned (from + k))) (slice_get works k)
+  told_at : (works : List JobModel) (k from : ℕ) → slice_get (told_from turned from works) k ≡ option_map (job_of_told (turned (from + k))) (slice_get works k)
   told_at [] k from = refl
-  told_at (work ∷ later) zero from = (let e : from ≡ from + zero = omega arith in ap (λ n. Some (told_work (turned n) work)) e)
+  told_at (work ∷ later) zero from = (let e : from ≡ from + zero = omega arith in ap (λ n. Some (job_of_told (turned n) work)) e)
   told_at (work ∷ later) (suc k) from =
       let e : from + 1 + k ≡ from + suc k = omega arith in
-      told_at later k (from + 1) ∙ ap (λ n. option_map (told_work (turned n)) (slice_get later k)) e
+      told_at later k (from + 1) ∙ ap (λ n. option_map (job_of_told (turned n)) (slice_get later k)) e
 
-  pub told_there : (works : List Work) (tree : ℕ) → slice_get (told_works turned works) tree ≡ option_map (told_work (turned tree)) (slice_get works tree)
+  pub told_there : (works : List JobModel) (tree : ℕ) → slice_get (jobs_of_told turned works) tree ≡ option_map (job_of_told (turned tree)) (slice_get works tree)
   told_there works tree =
       let e : 0 + tree ≡ tree = omega arith in
-      told_at works tree 0 ∙ ap (λ n. option_map (told_work (turned n)) (slice_get works tree)) e
+      told_at works tree 0 ∙ ap (λ n. option_map (job_of_told (turned n)) (slice_get works tree)) e
 
-  told_none : (work : Option Work) → option_map (told_work false) work ≡ work
+  told_none : (work : Option JobModel) → option_map (job_of_told false) work ≡ work
   told_none None = refl
   told_none (Some work) = refl
 
   -- the jobs of assignments stay
-  module _ (flow : List Flow) (works : List Work) (tests : TurnsTests turned flow) where
-    kept_job : (f : Option Flow) → ((tree : ℕ) → f ≡ Some (Assign tree) → turned tree ≡ false) → job_at works (option_map (turned_place turned) f) ≡ job_at (told_works turned works) f
+  module _ (flow : List Flow) (works : List JobModel) (tests : TurnsTests turned flow) where
+    kept_job : (f : Option Flow) → ((tree : ℕ) → f ≡ Some (Assign tree) → turned tree ≡ false) → job_at works (option_map (turned_place turned) f) ≡ job_at (jobs_of_told turned works) f
     kept_job None h = refl
     kept_job (Some (Assign tree)) h =
-        sym (ap job_list (told_there works tree ∙ ap (λ b. option_map (told_work b) (slice_get works tree)) (h tree refl) ∙ told_none (slice_get works tree)))
+        sym (ap job_list (told_there works tree ∙ ap (λ b. option_map (job_of_told b) (slice_get works tree)) (h tree refl) ∙ told_none (slice_get works tree)))
     kept_job (Some (Test tree one zer)) h = by (turned tree)
       where
         by : (b : Bool) → job_at works (Some (cond b (Test tree zer one) (Test tree one zer))) ≡ []
@@ -110,10 +110,10 @@ module _ (turned : Turns) where
     kept_job (Some (Jump to)) h = refl
     kept_job (Some End) h = refl
 
-    kept_jobs : (at n : ℕ) → jobs_at (turned_flow turned flow) works at n ≡ jobs_at flow (told_works turned works) at n
+    kept_jobs : (at n : ℕ) → jobs_at (turned_flow turned flow) works at n ≡ jobs_at flow (jobs_of_told turned works) at n
     kept_jobs at zero = refl
     kept_jobs at (suc n) =
-        let one : job_at works (slice_get (turned_flow turned flow) (at + n)) ≡ job_at (told_works turned works) (slice_get flow (at + n)) =
+        let one : job_at works (slice_get (turned_flow turned flow) (at + n)) ≡ job_at (jobs_of_told turned works) (slice_get flow (at + n)) =
         ap (job_at works) (slice_get-map (turned_place turned) flow (at + n)) ∙ kept_job (slice_get flow (at + n)) (λ tree e. tests (at + n) tree e) in
         cc (kept_jobs at n, one)
 
@@ -126,33 +126,33 @@ turned_nowhere (Test tree one zer ∷ rest) = ap (λ fs. Test tree one zer ∷ f
 turned_nowhere (Jump to ∷ rest) = ap (λ fs. Jump to ∷ fs) (turned_nowhere rest)
 turned_nowhere (End ∷ rest) = ap (λ fs. End ∷ fs) (turned_nowhere rest)
 
-told_all : (from : ℕ) (works : List Work) → told_from (λ k. false) from works ≡ works
+told_all : (from : ℕ) (works : List JobModel) → told_from (λ k. false) from works ≡ works
 told_all from [] = refl
 told_all from (work ∷ later) = ap (λ ws. work ∷ ws) (told_all (from + 1) later)
 
-pub told_nowhere : (works : List Work) → told_works (λ k. false) works ≡ works
+pub told_nowhere : (works : List JobModel) → jobs_of_told (λ k. false) works ≡ works
 told_nowhere works = told_all 0 works
 
 -- ---- tests
 
 -- a tree that is turned back reads what it reads itself
-back_reads : (temps : ℕ) (cells : List ℕ) (trees : List Term) → AllRead temps cells (map turned_back trees) → AllRead temps cells trees
+back_reads : (temps : ℕ) (cells : List ℕ) (trees : List ExprModel) → AllRead temps cells (map turned_back trees) → AllRead temps cells trees
 back_reads temps cells [] h = tt
 back_reads temps cells (t ∷ trees) h = (h.0.0, back_reads temps cells trees h.1)
 
 -- a job that was told of is one of the jobs
-told_is : (turned : Turns) (works : List Work) (tree : ℕ) (job : Work) → slice_get (told_works turned works) tree ≡ Some job → (work : Work) × (slice_get works tree ≡ Some work) × (told_work (turned tree) work ≡ job)
+told_is : (turned : Turns) (works : List JobModel) (tree : ℕ) (job : JobModel) → slice_get (jobs_of_told turned works) tree ≡ Some job → (work : JobModel) × (slice_get works tree ≡ Some work) × (job_of_told (turned tree) work ≡ job)
 told_is turned works tree job e = by (slice_get works tree) refl
   where
-    by : (o : Option Work) → slice_get works tree ≡ o → (work : Work) × (slice_get works tree ≡ Some work) × (told_work (turned tree) work ≡ job)
-    by None h = absurd (let none : None ≡ Some job = sym (ap (option_map (told_work (turned tree))) h) ∙ sym (told_there turned works tree) ∙ e in cc)
+    by : (o : Option JobModel) → slice_get works tree ≡ o → (work : JobModel) × (slice_get works tree ≡ Some work) × (job_of_told (turned tree) work ≡ job)
+    by None h = absurd (let none : None ≡ Some job = sym (ap (option_map (job_of_told (turned tree))) h) ∙ sym (told_there turned works tree) ∙ e in cc)
     by (Some work) h =
-        let same : Some (told_work (turned tree) work) ≡ Some job = sym (ap (option_map (told_work (turned tree))) h) ∙ sym (told_there turned works tree) ∙ e in
+        let same : Some (job_of_told (turned tree) work) ≡ Some job = sym (ap (option_map (job_of_told (turned tree))) h) ∙ sym (told_there turned works tree) ∙ e in
         (work, h, cc)
 
-module _ (netlist : Netlist) (image : Image) (temps tree : ℕ) (work : Work) (from one zer : ℕ) where
+module _ (netlist : Netlist) (image : Image) (temps tree : ℕ) (work : JobModel) (from one zer : ℕ) where
   -- a test that is turned, by its job that is turned back
-  turned_test : DoesTest netlist image temps tree work from zer one → DoesTest netlist image temps tree (told_work true work) from one zer
+  turned_test : DoesTest netlist image temps tree work from zer one → DoesTest netlist image temps tree (job_of_told true work) from one zer
   turned_test d = record {
     which = d.which;
     used = turned_back d.used;
@@ -172,9 +172,9 @@ module _ (netlist : Netlist) (image : Image) (temps tree : ℕ) (work : Work) (f
         });
   }
 
-module _ (netlist : Netlist) (image : Image) (temps : ℕ) (turned : Turns) (flow : List Flow) (works : List Work) (starts : ℕ → ℕ) (end : ℕ) (tests : TurnsTests turned flow)
+module _ (netlist : Netlist) (image : Image) (temps : ℕ) (turned : Turns) (flow : List Flow) (works : List JobModel) (starts : ℕ → ℕ) (end : ℕ) (tests : TurnsTests turned flow)
     (p : IsPlaced netlist image temps (turned_flow turned flow) works starts end) where
-  placed_test : (at tree one zer : ℕ) → slice_get flow at ≡ Some (Test tree one zer) → (job : Work) → slice_get (told_works turned works) tree ≡ Some job
+  placed_test : (at tree one zer : ℕ) → slice_get flow at ≡ Some (Test tree one zer) → (job : JobModel) → slice_get (jobs_of_told turned works) tree ≡ Some job
       → DoesTest netlist image temps tree job (starts at) (starts one) (starts zer)
   placed_test at tree one zer e job f =
       let g = told_is turned works tree job f in
@@ -183,19 +183,19 @@ module _ (netlist : Netlist) (image : Image) (temps : ℕ) (turned : Turns) (flo
       there : slice_get (turned_flow turned flow) at ≡ Some (turned_place turned (Test tree one zer))
       there = slice_get-map (turned_place turned) flow at ∙ ap (option_map (turned_place turned)) e
 
-      by : (b : Bool) → turned tree ≡ b → (work : Work) → slice_get works tree ≡ Some work → DoesTest netlist image temps tree (told_work (turned tree) work) (starts at) (starts one) (starts zer)
+      by : (b : Bool) → turned tree ≡ b → (work : JobModel) → slice_get works tree ≡ Some work → DoesTest netlist image temps tree (job_of_told (turned tree) work) (starts at) (starts one) (starts zer)
       by true h work w =
-          subst (λ b. DoesTest netlist image temps tree (told_work b work) (starts at) (starts one) (starts zer)) (sym h)
+          subst (λ b. DoesTest netlist image temps tree (job_of_told b work) (starts at) (starts one) (starts zer)) (sym h)
           (turned_test netlist image temps tree work (starts at) (starts one) (starts zer)
           (p.tests at tree zer one (there ∙ ap (λ b. Some (cond b (Test tree zer one) (Test tree one zer))) h) work w))
       by false h work w =
-          subst (λ b. DoesTest netlist image temps tree (told_work b work) (starts at) (starts one) (starts zer)) (sym h)
+          subst (λ b. DoesTest netlist image temps tree (job_of_told b work) (starts at) (starts one) (starts zer)) (sym h)
           (p.tests at tree one zer (there ∙ ap (λ b. Some (cond b (Test tree zer one) (Test tree one zer))) h) work w)
 
   placed_jump : (at to : ℕ) → slice_get flow at ≡ Some (Jump to) → slice_get (turned_flow turned flow) at ≡ Some (Jump to)
   placed_jump at to e = slice_get-map (turned_place turned) flow at ∙ ap (option_map (turned_place turned)) e
 
-  pub turned_placed : IsPlaced netlist image temps flow (told_works turned works) starts end
+  pub turned_placed : IsPlaced netlist image temps flow (jobs_of_told turned works) starts end
   turned_placed = record {
     first = p.first;
     rises = p.rises;

@@ -2,7 +2,7 @@
 use Rattle.std.specs.Prelude.{ℕ, zero, suc, ◌+◌, ◌-◌, ◌==◌, ◌<◌, ◌≤◌, ◌≡◌, nat_lt, Bool, true, false, ◌&&◌, ◌||◌, not, List, [], ◌∷◌, ◌++◌, Option, Some, None, slice_get}
 use Rattle.form_model.specs.declared.flow.Flow.{Flow}
 use Rattle.form_model.specs.declared.flow.Flow.TheVariants.{Assign, Test, Jump, End}
-use Rattle.src_trees.specs.Lowered.{Work}
+use Rattle.src_trees.specs.Lowered.{JobModel}
 
 abbrev pub is_assign : Option Flow → Bool
 is_assign (Some (Assign tree)) = true
@@ -35,16 +35,16 @@ pub record IsAssignBlock (flow : List Flow) (at n : ℕ) : Type 0 where
   pub last : continues flow (at + n) ≡ false
 
 -- the job of a tree's number
-abbrev pub job_list : Option Work → List Work
+abbrev pub job_list : Option JobModel → List JobModel
 job_list None = []
 job_list (Some work) = work ∷ []
 
 -- the job at a place
-abbrev pub job_at : List Work → Option Flow → List Work
+abbrev pub job_at : List JobModel → Option Flow → List JobModel
 job_at works (Some (Assign tree)) = job_list (slice_get works tree)
 job_at works _ = []
 
 -- the jobs at so many places from one on
-abbrev pub jobs_at : List Flow → List Work → ℕ → ℕ → List Work
+abbrev pub jobs_at : List Flow → List JobModel → ℕ → ℕ → List JobModel
 jobs_at flow works at zero = []
 jobs_at flow works at (suc n) = jobs_at flow works at n ++ job_at works (slice_get flow (at + n))

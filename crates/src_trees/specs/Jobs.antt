@@ -1,12 +1,12 @@
 -- Jobs of the code as plain values.
 use Rattle.std.specs.Prelude.{List, map}
 use Rattle.form_model.specs.declared.trees.Job.{Job}
-use Rattle.form_model.specs.Trees.{tree_term}
-use Rattle.form_model.specs.Rules.{destination_of}
-use Rattle.src_trees.specs.Lowered.{Work}
+use Rattle.form_model.specs.Trees.{model_of_tree}
+use Rattle.form_model.specs.Forms.{aim_destination}
+use Rattle.src_trees.specs.Lowered.{JobModel}
 
-abbrev pub work_of : Job → Work
-work_of job = record { destination = destination_of job.aim; trees = map tree_term job.trees.items }
+abbrev pub model_of_job : Job → JobModel
+model_of_job job = record { destination = aim_destination job.aim; trees = map model_of_tree job.trees.items }
 
-abbrev pub works_of : List Job → List Work
-works_of jobs = map work_of jobs
+abbrev pub models_of_jobs : List Job → List JobModel
+models_of_jobs jobs = map model_of_job jobs

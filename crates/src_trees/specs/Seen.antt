@@ -2,13 +2,13 @@
 -- reads nothing below an address.
 use Rattle.std.specs.Prelude.{ℕ, ◌+◌, ◌^◌, ◌≡◌, ◌<◌, ◌≤◌, true, List, [], slice_index}
 use Rattle.net_model.specs.declared.hardware.Space.TheVariants.{Memory as InMemory, File as InFile}
-use Rattle.net_model.specs.Terms.{Term, word, reg, const, read, un, bin, slice, cat, zext, sext, select}
+use Rattle.net_model.specs.Exprs.{ExprModel, word, reg, const, read, un, bin, slice, cat, zext, sext, select}
 use Rattle.net_model.specs.Meaning.{mean}
 use Rattle.src_model.specs.declared.program.Var.{Var as Declared}
 use Rattle.src_model.specs.Meaning.{cell_count}
 use Rattle.code_model.specs.Places.{cells_at, places_from}
 use Rattle.code_model.specs.Layout.{variables_of}
-use Rattle.src_model.specs.Written.{Shape, Phrase, Place, Test}
+use Rattle.src_model.specs.Written.{SrcNodeModel, SrcExprModel, SpotModel, SrcTestModel}
 use Rattle.src_model.specs.Loops.{place_shape}
 use Rattle.src_model.specs.Fitting.{Fitting, FitsSides}
 use Rattle.src_model.specs.Inside.{Known, is_inside, test_inside}
@@ -23,11 +23,11 @@ abbrev pub seen_store : MemoryMap → List ℕ → List ℕ
 seen_store m cells = cells_at m.places cells
 
 -- the value of a tree over the cells of the memory
-abbrev pub tree_value : List ℕ → Term → ℕ
+abbrev pub tree_value : List ℕ → ExprModel → ℕ
 tree_value cells t = mean t (record { regs = []; cells = cells; file = [] }) 0
 
 -- the tree reads no cell below an address, and no register file
-abbrev pub ReadsCells : ℕ → List ℕ → Term → Type 0
+abbrev pub ReadsCells : ℕ → List ℕ → ExprModel → Type 0
 ReadsCells at cells (word w) = Unit {0}
 ReadsCells at cells (reg r w) = Unit {0}
 ReadsCells at cells (const w v) = Unit {0}
@@ -50,16 +50,16 @@ pub record InReach (bits addr temps : ℕ) (vars : List Declared) : Type 0 where
 -- ---- what keeps the rules, in a store; the laws of trees speak of these
 
 -- an expression, of which a literal has this width
-pub record CanRead (bits : ℕ) (vars : List Declared) (store : List ℕ) (asked : ℕ) (e : Shape) : Type 0 where
+pub record CanRead (bits : ℕ) (vars : List Declared) (store : List ℕ) (asked : ℕ) (e : SrcNodeModel) : Type 0 where
   pub fits : Fitting bits asked e
   pub known : Known vars e
   pub inside : is_inside bits vars store e ≡ true
 
-pub record CanAssign (bits : ℕ) (vars : List Declared) (store : List ℕ) (place : Place) (e : Phrase) : Type 0 where
+pub record CanAssign (bits : ℕ) (vars : List Declared) (store : List ℕ) (place : SpotModel) (e : SrcExprModel) : Type 0 where
   pub left : CanRead bits vars store bits (place_shape place)
   pub right : CanRead bits vars store bits e.shape
 
-pub record CanTest (bits : ℕ) (vars : List Declared) (store : List ℕ) (test : Test) : Type 0 where
+pub record CanTest (bits : ℕ) (vars : List Declared) (store : List ℕ) (test : SrcTestModel) : Type 0 where
   pub words : (cell : ℕ) → slice_index store cell < 2 ^ bits
   pub sides : FitsSides bits test.left.shape test.right.shape
   pub left_known : Known vars test.left.shape

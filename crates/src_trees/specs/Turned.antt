@@ -2,10 +2,10 @@
 -- 1 where the program's is 0, and 0 where it is 1.
 use Rattle.std.specs.Prelude.{ℕ, ◌+◌, ◌≡◌, Bool, false, if◌then◌else◌, List, [], ◌∷◌, map, Some, slice_get}
 use Rattle.rec_bits.specs.declared.operator.Op2.TheVariants.{Xor}
-use Rattle.net_model.specs.Terms.{Term, const, bin}
+use Rattle.net_model.specs.Exprs.{ExprModel, const, bin}
 use Rattle.form_model.specs.declared.flow.Flow.{Flow}
 use Rattle.form_model.specs.declared.flow.Flow.TheVariants.{Assign, Test, Jump, End}
-use Rattle.src_trees.specs.Lowered.{Work}
+use Rattle.src_trees.specs.Lowered.{JobModel}
 
 -- which tests are turned, by the numbers of their jobs
 abbrev pub Turns : Type 0
@@ -27,20 +27,20 @@ abbrev pub TurnsTests : Turns → List Flow → Type 0
 TurnsTests turned flow = (at tree : ℕ) → slice_get flow at ≡ Some (Assign tree) → turned tree ≡ false
 
 -- what the tree of a turned test tells of the program's: 1 where it is 0, and 0 where it is 1
-abbrev pub turned_back : Term → Term
+abbrev pub turned_back : ExprModel → ExprModel
 turned_back t = bin Xor t (const 1 1)
 
 -- a job as the program asks for it
-abbrev pub told_work : Bool → Work → Work
-told_work turned work = record {
+abbrev pub job_of_told : Bool → JobModel → JobModel
+job_of_told turned work = record {
   destination = work.destination;
   trees = if turned then map turned_back work.trees else work.trees;
 }
 
 -- and all jobs, where the first one has this number
-abbrev pub told_from : Turns → ℕ → List Work → List Work
+abbrev pub told_from : Turns → ℕ → List JobModel → List JobModel
 told_from turned k [] = []
-told_from turned k (work ∷ later) = told_work (turned k) work ∷ told_from turned (k + 1) later
+told_from turned k (work ∷ later) = job_of_told (turned k) work ∷ told_from turned (k + 1) later
 
-abbrev pub told_works : Turns → List Work → List Work
-told_works turned works = told_from turned 0 works
+abbrev pub jobs_of_told : Turns → List JobModel → List JobModel
+jobs_of_told turned works = told_from turned 0 works

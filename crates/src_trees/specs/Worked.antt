@@ -2,20 +2,20 @@
 use Rattle.std.specs.Prelude.{ℕ, ◌≡◌, refl, true, false, List, [], ◌∷◌, Some, None}
 use Rattle.rec_bits.specs.declared.operator.Op2.TheVariants.{Add, Sub, Eq as Equal, Ltu}
 use Rattle.net_model.specs.declared.hardware.Space.TheVariants.{Memory as InMemory}
-use Rattle.net_model.specs.Terms.{const, read, bin, slice, sext}
+use Rattle.net_model.specs.Exprs.{const, read, bin, slice, sext}
 use Rattle.src_model.specs.declared.program.Cmp.TheVariants.{Eq, Ne, Lt, Le}
-use Rattle.src_model.specs.Written.{Shape, num, plain, element, bin as bin_of, sext as sext_of, low, Phrase, Act, assign, choice, while, count, without, otherwise, acts_of, Listing}
+use Rattle.src_model.specs.Written.{SrcNodeModel, num, plain, element, bin as bin_of, sext as sext_of, low, SrcExprModel, StmtModel, assign, choice, while, count, without, otherwise, stmts_of, ProgramModel}
 use Rattle.form_model.specs.declared.flow.Flow.TheVariants.{Assign, Test, Jump, End}
-use Rattle.form_model.specs.Rules.{cell, stored, tested}
+use Rattle.form_model.specs.Forms.{cell, stored, tested}
 use Rattle.src_model.specs.Rules.{node_count, temp_count}
-use Rattle.src_trees.specs.Lowered.{MemoryMap, computed_address, tree_of, assign_work, test_work}
-use Rattle.src_trees.specs.Flows.{asked, program_flow, program_works}
+use Rattle.src_trees.specs.Lowered.{MemoryMap, computed_address, tree_of, job_of_assign, job_of_test}
+use Rattle.src_trees.specs.Flows.{asked, program_flow, program_jobs}
 use Rattle.src_trees.specs.Seen.{memory_map, tree_value}
 use Rattle.src_trees.specs.Doing.{done, AllAre}
 use Rattle.src_trees.specs.Blocks.{continues}
 use Rattle.src_trees.specs.Measures.{most_nodes, most_temps}
 
-abbrev phrase : Shape → Phrase
+abbrev phrase : SrcNodeModel → SrcExprModel
 phrase shape = record { at = 0; shape = shape }
 
 abbrev a : List ℕ
@@ -24,23 +24,23 @@ a = 97 ∷ []
 abbrev x : List ℕ
 x = 120 ∷ []
 
-abbrev into : List ℕ → Shape → Act
+abbrev into : List ℕ → SrcNodeModel → StmtModel
 into name e = assign (record { name = name; at = 0; index = None }) (phrase e)
 
 -- var a; while a != 0 { a = a - 1; }
-abbrev counted : Listing
+abbrev counted : ProgramModel
 counted = record {
   vars = record { name = a; at = 4; len = None } ∷ [];
   body =
       while (record { cmp = Ne; left = phrase (plain a 0); right = phrase (num 0) })
-      (acts_of (into a (bin_of Sub 0 (plain a 0) 0 (num 1)) ∷ [])) ∷ [];
+      (stmts_of (into a (bin_of Sub 0 (plain a 0) 0 (num 1)) ∷ [])) ∷ [];
 }
 
 counted_flow : program_flow counted ≡ Test 0 3 1 ∷ Assign 1 ∷ Jump 0 ∷ End ∷ []
 counted_flow = refl
 
 -- with three temporary cells, in words of 16 bits at addresses of 8
-counted_works : program_works (memory_map 16 8 3 counted.vars) counted ≡
+counted_works : program_jobs (memory_map 16 8 3 counted.vars) counted ≡
     record {
       destination = tested;
       trees = bin Equal (read InMemory (const 8 3) 16) (const 16 0)
@@ -50,15 +50,15 @@ counted_works : program_works (memory_map 16 8 3 counted.vars) counted ≡
 counted_works = refl
 
 -- var a, x[4]; for a = 0 to 2 { if x[a] < 5 { x[a] = x[3]; } else { } }
-abbrev nested : Listing
+abbrev nested : ProgramModel
 nested = record {
   vars = record { name = a; at = 4; len = None } ∷ record { name = x; at = 7; len = Some 4 } ∷ [];
   body =
-      count a 0 0 2 (acts_of (choice
+      count a 0 0 2 (stmts_of (choice
       (record { cmp = Lt; left = phrase (element x 0 0 (plain a 0)); right = phrase (num 5) })
-      (acts_of (assign (record { name = x; at = 0; index = Some (phrase (plain a 0)) })
+      (stmts_of (assign (record { name = x; at = 0; index = Some (phrase (plain a 0)) })
       (phrase (element x 0 0 (num 3))) ∷ []))
-      (otherwise (acts_of [])) ∷ [])) ∷ [];
+      (otherwise (stmts_of [])) ∷ [])) ∷ [];
 }
 
 -- the else part has its jump, over nothing
@@ -67,7 +67,7 @@ nested_flow : program_flow nested
 nested_flow = refl
 
 -- an index that isn't a literal is added to the array's address, in a word's width
-nested_works : program_works (memory_map 16 8 3 nested.vars) nested ≡
+nested_works : program_jobs (memory_map 16 8 3 nested.vars) nested ≡
     record { destination = cell 3; trees = const 16 0 ∷ [] }
     ∷ record {
       destination = tested;
@@ -86,21 +86,21 @@ nested_works : program_works (memory_map 16 8 3 nested.vars) nested ≡
 nested_works = refl
 
 -- three nodes below the read, and the literal beside it
-nested_temps : most_temps 16 (program_works (memory_map 16 8 3 nested.vars) nested) ≡ 4
+nested_temps : most_temps 16 (program_jobs (memory_map 16 8 3 nested.vars) nested) ≡ 4
 nested_temps = refl
 
 nested_count : temp_count 16 nested ≡ 4
 nested_count = refl
 
 -- x[a] < 5: the comparison, the read with the four nodes of its address, and the number
-nested_nodes : most_nodes (program_works (memory_map 16 8 3 nested.vars) nested) ≡ 7
+nested_nodes : most_nodes (program_jobs (memory_map 16 8 3 nested.vars) nested) ≡ 7
 nested_nodes = refl
 
 nested_node_count : node_count nested ≡ 7
 nested_node_count = refl
 
 -- a test for equality has its second tree counted, too
-counted_nodes : most_nodes (program_works (memory_map 16 8 3 counted.vars) counted) ≡ 5
+counted_nodes : most_nodes (program_jobs (memory_map 16 8 3 counted.vars) counted) ≡ 5
 counted_nodes = refl
 
 counted_node_count : node_count counted ≡ 5
@@ -119,7 +119,7 @@ narrow_literal : tree_of wide 16 (sext_of 0 (bin_of Add 0 (low 0 (plain a 0) 8) 
 narrow_literal = refl
 
 -- a <= 5 is no 5 < a
-at_most : test_work wide (record { cmp = Le; left = phrase (plain a 0); right = phrase (num 5) })
+at_most : job_of_test wide (record { cmp = Le; left = phrase (plain a 0); right = phrase (num 5) })
     ≡ record { destination = tested; trees = bin Ltu (const 16 5) (read InMemory (const 16 3) 16) ∷ [] }
 at_most = refl
 
@@ -136,24 +136,24 @@ read_element : tree_value cells (tree_of (memory_map 16 8 3 nested.vars) 16 (ele
 read_element = refl
 
 -- x[a] = x[3];
-stored_element : done (assign_work (memory_map 16 8 3 nested.vars)
+stored_element : done (job_of_assign (memory_map 16 8 3 nested.vars)
     (record { name = x; at = 0; index = Some (phrase (plain a 0)) })
     (phrase (element x 0 0 (num 3)))) cells
     ≡ 0 ∷ 0 ∷ 0 ∷ 2 ∷ 10 ∷ 20 ∷ 40 ∷ 40 ∷ []
 stored_element = refl
 
 -- both trees of a == 2
-compared_twice : AllAre 1 cells (test_work (memory_map 16 8 3 nested.vars)
+compared_twice : AllAre 1 cells (job_of_test (memory_map 16 8 3 nested.vars)
     (record { cmp = Eq; left = phrase (plain a 0); right = phrase (num 2) })).trees
 compared_twice = (refl, (refl, tt))
 
 -- if a == 1 { a = 2; } a = 3; a = 4;
-abbrev joined : Listing
+abbrev joined : ProgramModel
 joined = record {
   vars = counted.vars;
   body =
       choice (record { cmp = Eq; left = phrase (plain a 0); right = phrase (num 1) })
-      (acts_of (into a (num 2) ∷ [])) without
+      (stmts_of (into a (num 2) ∷ [])) without
       ∷ into a (num 3) ∷ into a (num 4) ∷ [];
 }
 

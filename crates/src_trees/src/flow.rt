@@ -2,13 +2,13 @@
 
 ghost use Rattle.std.specs.Prelude.{◌≡◌, ◌+◌, ◌<◌, ◌≤◌, ◌^◌, ◌++◌, ◌∷◌, [], IfOk, OnOk, map, length};
 ghost use Rattle.form_model.specs.declared.flow.Flow.TheVariants.{Assign as AssignAt, Jump as JumpTo, End};
-ghost use Rattle.src_model.specs.Written.{act_of, acts_of, test_of, listing_of, choice, while, count, without, otherwise};
+ghost use Rattle.src_model.specs.Written.{model_of_stmt, stmts_of, model_of_src_test, model_of_program, choice, while, count, without, otherwise};
 ghost use Rattle.src_model.specs.Sizes.{statements, statements_in};
 ghost use Rattle.src_model.specs.declared.program.Cmp.TheVariants.{Ne};
-ghost use Rattle.src_trees.specs.Lowered.{holds_at_one, works_in};
-ghost use Rattle.src_trees.specs.Flows.{asked, flow_in, program_flow, program_works};
+ghost use Rattle.src_trees.specs.Lowered.{holds_at_one, jobs_in};
+ghost use Rattle.src_trees.specs.Flows.{asked, flow_in, program_flow, program_jobs};
 ghost use Rattle.src_trees.specs.Held.{HoldsVars, LieWithin};
-ghost use Rattle.src_trees.specs.Jobs.{works_of};
+ghost use Rattle.src_trees.specs.Jobs.{models_of_jobs};
 ghost use Rattle.src_trees.specs.Inner.Lowering.{IsPlain, ArePlain, IsReady, IsLowered, AreLowered};
 
 use crate::jobs::{assign_job, counting_job, start_job, step_job, test_job};
@@ -155,9 +155,9 @@ fn lower_statement(
     statement: &Stmt,
     at: u32,
 ) -> Result<Items<Flow>, NoMemory>
-    requires ready { IsReady at jobs.old (statements (act_of statement.now)) }
-    requires plain { IsPlain memory.now.word memory.now.places (act_of statement.now) }
-    ensures { IfOk result (IsLowered memory.now (act_of statement.now) at jobs.old jobs.new) }
+    requires ready { IsReady at jobs.old (statements (model_of_stmt statement.now)) }
+    requires plain { IsPlain memory.now.word memory.now.places (model_of_stmt statement.now) }
+    ensures { IfOk result (IsLowered memory.now (model_of_stmt statement.now) at jobs.old jobs.new) }
 {
     match statement {
         Stmt::Assign { place, value } => {
@@ -192,11 +192,11 @@ fn lower_if(
     taken: &[Stmt],
     at: u32,
 ) -> Result<Items<Flow>, NoMemory>
-    requires ready { IsReady at jobs.old (1 + statements_in (acts_of (map act_of taken.now)) + 0) }
+    requires ready { IsReady at jobs.old (1 + statements_in (stmts_of (map model_of_stmt taken.now)) + 0) }
     requires plain { IsPlain memory.now.word memory.now.places
-        (choice (test_of test.now) (acts_of (map act_of taken.now)) without) }
+        (choice (model_of_src_test test.now) (stmts_of (map model_of_stmt taken.now)) without) }
     ensures { IfOk result (IsLowered memory.now
-        (choice (test_of test.now) (acts_of (map act_of taken.now)) without) at jobs.old jobs.new) }
+        (choice (model_of_src_test test.now) (stmts_of (map model_of_stmt taken.now)) without) at jobs.old jobs.new) }
 {
     let job = test_job(alloc, memory, test)?;
     let tree = push_job(jobs, job)?;
@@ -215,12 +215,12 @@ fn lower_else(
     other: &[Stmt],
     at: u32,
 ) -> Result<Items<Flow>, NoMemory>
-    requires ready { IsReady at jobs.old (1 + statements_in (acts_of (map act_of taken.now))
-        + statements_in (acts_of (map act_of other.now))) }
-    requires plain { IsPlain memory.now.word memory.now.places (choice (test_of test.now)
-        (acts_of (map act_of taken.now)) (otherwise (acts_of (map act_of other.now)))) }
+    requires ready { IsReady at jobs.old (1 + statements_in (stmts_of (map model_of_stmt taken.now))
+        + statements_in (stmts_of (map model_of_stmt other.now))) }
+    requires plain { IsPlain memory.now.word memory.now.places (choice (model_of_src_test test.now)
+        (stmts_of (map model_of_stmt taken.now)) (otherwise (stmts_of (map model_of_stmt other.now)))) }
     ensures { IfOk result (IsLowered memory.now
-        (choice (test_of test.now) (acts_of (map act_of taken.now)) (otherwise (acts_of (map act_of other.now))))
+        (choice (model_of_src_test test.now) (stmts_of (map model_of_stmt taken.now)) (otherwise (stmts_of (map model_of_stmt other.now))))
         at jobs.old jobs.new) }
 {
     let job = test_job(alloc, memory, test)?;
@@ -247,11 +247,11 @@ fn lower_while(
     body: &[Stmt],
     at: u32,
 ) -> Result<Items<Flow>, NoMemory>
-    requires ready { IsReady at jobs.old (1 + statements_in (acts_of (map act_of body.now))) }
+    requires ready { IsReady at jobs.old (1 + statements_in (stmts_of (map model_of_stmt body.now))) }
     requires plain { IsPlain memory.now.word memory.now.places
-        (while (test_of test.now) (acts_of (map act_of body.now))) }
+        (while (model_of_src_test test.now) (stmts_of (map model_of_stmt body.now))) }
     ensures { IfOk result (IsLowered memory.now
-        (while (test_of test.now) (acts_of (map act_of body.now))) at jobs.old jobs.new) }
+        (while (model_of_src_test test.now) (stmts_of (map model_of_stmt body.now))) at jobs.old jobs.new) }
 {
     let job = test_job(alloc, memory, test)?;
     let tree = push_job(jobs, job)?;
@@ -270,11 +270,11 @@ fn lower_for(
     body: &[Stmt],
     at: u32,
 ) -> Result<Items<Flow>, NoMemory>
-    requires ready { IsReady at jobs.old (3 + statements_in (acts_of (map act_of body.now))) }
+    requires ready { IsReady at jobs.old (3 + statements_in (stmts_of (map model_of_stmt body.now))) }
     requires plain { IsPlain memory.now.word memory.now.places
-        (count counter.now 0 ends.0 ends.1 (acts_of (map act_of body.now))) }
+        (count counter.now 0 ends.0 ends.1 (stmts_of (map model_of_stmt body.now))) }
     ensures { IfOk result (IsLowered memory.now
-        (count counter.now 0 ends.0 ends.1 (acts_of (map act_of body.now))) at jobs.old jobs.new) }
+        (count counter.now 0 ends.0 ends.1 (stmts_of (map model_of_stmt body.now))) at jobs.old jobs.new) }
 {
     let (from, to) = ends;
     let start = start_job(alloc, memory, counter, from)?;
@@ -296,9 +296,9 @@ fn lower_block(
     block: &[Stmt],
     at: u32,
 ) -> Result<Items<Flow>, NoMemory>
-    requires ready { IsReady at jobs.old (statements_in (acts_of (map act_of block.now))) }
-    requires plain { ArePlain memory.now.word memory.now.places (acts_of (map act_of block.now)) }
-    ensures { IfOk result (AreLowered memory.now (acts_of (map act_of block.now)) at jobs.old jobs.new) }
+    requires ready { IsReady at jobs.old (statements_in (stmts_of (map model_of_stmt block.now))) }
+    requires plain { ArePlain memory.now.word memory.now.places (stmts_of (map model_of_stmt block.now)) }
+    ensures { IfOk result (AreLowered memory.now (stmts_of (map model_of_stmt block.now)) at jobs.old jobs.new) }
 {
     let mut flow = Vec::new(alloc);
     let mut place = at;
@@ -319,14 +319,14 @@ pub fn lower(
     places: &Places,
     addr_width: u8,
 ) -> Result<Blocks, NoMemory>
-    requires held { HoldsVars places.now.temps (listing_of typed.now.program).vars
+    requires held { HoldsVars places.now.temps (model_of_program typed.now.program).vars
         (record { word = typed.now.width; addr = addr_width; places = places.now.list }) }
     requires few { LieWithin places.now.temps (2 ^ 32) places.now.list }
-    ensures flow { IfOk result (λ blocks. blocks.flow ≡ program_flow (listing_of typed.now.program)) }
-    ensures jobs { IfOk result (λ blocks. works_of blocks.jobs.items
-        ≡ program_works
+    ensures flow { IfOk result (λ blocks. blocks.flow ≡ program_flow (model_of_program typed.now.program)) }
+    ensures jobs { IfOk result (λ blocks. models_of_jobs blocks.jobs.items
+        ≡ program_jobs
         (record { word = typed.now.width; addr = addr_width; places = places.now.list })
-        (listing_of typed.now.program)) }
+        (model_of_program typed.now.program)) }
 {
     let memory = DataMemory::new(typed.width(), addr_width, places.list.as_slice());
     lower_body(alloc, &memory, typed.program().body.as_slice())
@@ -334,11 +334,11 @@ pub fn lower(
 
 // The whole flow of a program with this body.
 fn lower_body(alloc: Global, memory: &DataMemory<'_>, body: &[Stmt]) -> Result<Blocks, NoMemory>
-    requires few { statements_in (acts_of (map act_of body.now)) ≤ 65536 }
-    requires plain { ArePlain memory.now.word memory.now.places (acts_of (map act_of body.now)) }
-    ensures flow { IfOk result (λ blocks. blocks.flow ≡ flow_in (acts_of (map act_of body.now)) 0 0 ++ End ∷ []) }
+    requires few { statements_in (stmts_of (map model_of_stmt body.now)) ≤ 65536 }
+    requires plain { ArePlain memory.now.word memory.now.places (stmts_of (map model_of_stmt body.now)) }
+    ensures flow { IfOk result (λ blocks. blocks.flow ≡ flow_in (stmts_of (map model_of_stmt body.now)) 0 0 ++ End ∷ []) }
     ensures jobs { IfOk result (λ blocks.
-        works_of blocks.jobs.items ≡ works_in memory.now (acts_of (map act_of body.now))) }
+        models_of_jobs blocks.jobs.items ≡ jobs_in memory.now (stmts_of (map model_of_stmt body.now))) }
 {
     let mut jobs = Items::new(alloc);
     let mut flow = lower_block(alloc, memory, &mut jobs, body, 0)?;

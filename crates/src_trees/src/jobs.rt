@@ -2,16 +2,16 @@
 
 ghost use Rattle.std.specs.Prelude.{◌≡◌, ◌+◌, ◌<◌, ◌^◌, IfOk, map, [], ◌∷◌};
 ghost use Rattle.net_model.specs.declared.hardware.Space.TheVariants.{Memory as InMemory};
-ghost use Rattle.net_model.specs.Terms.{const, read, bin};
+ghost use Rattle.net_model.specs.Exprs.{const, read, bin};
 ghost use Rattle.rec_bits.specs.Operators.{IsWidth};
 ghost use Rattle.rec_bits.specs.declared.operator.Op2.TheVariants.{Sub, Eq as Equal};
-ghost use Rattle.src_model.specs.Written.{shape_of, spot_shape, place_of, phrase_of, test_of};
+ghost use Rattle.src_model.specs.Written.{model_of_src_node, spot_node, model_of_spot, model_of_src_expr, model_of_src_test};
 ghost use Rattle.src_model.specs.Fitting.{Fitting, FitsSides};
-ghost use Rattle.form_model.specs.Trees.{tree_term};
-ghost use Rattle.form_model.specs.Rules.{destination_of};
-ghost use Rattle.src_trees.specs.Lowered.{base_of, tree_of, assigned_destination, assign_work, compare_work, test_work, start_work, counting_work, step_work};
+ghost use Rattle.form_model.specs.Trees.{model_of_tree};
+ghost use Rattle.form_model.specs.Forms.{aim_destination};
+ghost use Rattle.src_trees.specs.Lowered.{base_of, tree_of, assigned_destination, job_of_assign, job_of_compare, job_of_test, job_of_start, job_of_counting, job_of_step};
 ghost use Rattle.src_trees.specs.Inner.Near.{IsNear};
-ghost use Rattle.src_trees.specs.Jobs.{work_of};
+ghost use Rattle.src_trees.specs.Jobs.{model_of_job};
 
 use crate::memory::DataMemory;
 use crate::trees::{computed, keeping, operand, over, tree};
@@ -22,10 +22,10 @@ use std::alloc::Global;
 
 // Where an assignment puts its value.
 fn aim(alloc: Global, memory: &DataMemory<'_>, spot: &Spot) -> Result<Aim, NoMemory>
-    requires fitting { Fitting memory.now.word memory.now.word (spot_shape spot.now) }
-    requires near { IsNear memory.now.places (spot_shape spot.now) }
+    requires fitting { Fitting memory.now.word memory.now.word (spot_node spot.now) }
+    requires near { IsNear memory.now.places (spot_node spot.now) }
     ensures { IfOk result (λ made.
-        destination_of made ≡ assigned_destination memory.now (place_of spot.now).name (place_of spot.now).index) }
+        aim_destination made ≡ assigned_destination memory.now (model_of_spot spot.now).name (model_of_spot spot.now).index) }
 {
     let first = memory.base(&spot.name);
     match &spot.index {
@@ -61,7 +61,7 @@ fn two<T: Drop>(alloc: Global, x: T, y: T) -> Result<Vec<T>, NoMemory>
 // A job of one tree.
 fn job(alloc: Global, aim: Aim, tree: Tree) -> Result<Job, NoMemory>
     ensures { IfOk result (λ made.
-        work_of made ≡ record { destination = destination_of aim; trees = tree_term tree ∷ [] }) }
+        model_of_job made ≡ record { destination = aim_destination aim; trees = model_of_tree tree ∷ [] }) }
 {
     let (aim, trees) = keeping(aim, one(alloc, tree))?;
     Ok(Job { aim, trees })
@@ -74,11 +74,11 @@ pub(crate) fn assign_job(
     spot: &Spot,
     value: &SrcExpr,
 ) -> Result<Job, NoMemory>
-    requires place { Fitting memory.now.word memory.now.word (spot_shape spot.now) }
-    requires value { Fitting memory.now.word memory.now.word (shape_of value.now.node) }
-    requires near_place { IsNear memory.now.places (spot_shape spot.now) }
-    requires near_value { IsNear memory.now.places (shape_of value.now.node) }
-    ensures { IfOk result (λ made. work_of made ≡ assign_work memory.now (place_of spot.now) (phrase_of value.now)) }
+    requires place { Fitting memory.now.word memory.now.word (spot_node spot.now) }
+    requires value { Fitting memory.now.word memory.now.word (model_of_src_node value.now.node) }
+    requires near_place { IsNear memory.now.places (spot_node spot.now) }
+    requires near_value { IsNear memory.now.places (model_of_src_node value.now.node) }
+    ensures { IfOk result (λ made. model_of_job made ≡ job_of_assign memory.now (model_of_spot spot.now) (model_of_src_expr value.now)) }
 {
     let aim = aim(alloc, memory, spot)?;
     let (aim, tree) = keeping(aim, tree(alloc, memory, memory.word(), value))?;
@@ -96,13 +96,13 @@ fn operated(
     y: &SrcExpr,
 ) -> Result<Tree, NoMemory>
     requires width { IsWidth width }
-    requires left { Fitting memory.now.word width (shape_of x.now.node) }
-    requires right { Fitting memory.now.word width (shape_of y.now.node) }
-    requires near_left { IsNear memory.now.places (shape_of x.now.node) }
-    requires near_right { IsNear memory.now.places (shape_of y.now.node) }
+    requires left { Fitting memory.now.word width (model_of_src_node x.now.node) }
+    requires right { Fitting memory.now.word width (model_of_src_node y.now.node) }
+    requires near_left { IsNear memory.now.places (model_of_src_node x.now.node) }
+    requires near_right { IsNear memory.now.places (model_of_src_node y.now.node) }
     ensures { IfOk result (λ made.
-        tree_term made ≡ bin op (tree_of memory.now width (shape_of x.now.node))
-        (tree_of memory.now width (shape_of y.now.node))) }
+        model_of_tree made ≡ bin op (tree_of memory.now width (model_of_src_node x.now.node))
+        (tree_of memory.now width (model_of_src_node y.now.node))) }
 {
     let left = operand(alloc, memory, width, x)?;
     let (left, right) = keeping(left, operand(alloc, memory, width, y))?;
@@ -113,7 +113,7 @@ fn operated(
 // difference with 0.
 fn equality(alloc: Global, width: u8, same: Tree, difference: Tree) -> Result<Vec<Tree>, NoMemory>
     ensures { IfOk result (λ made.
-        map tree_term made.items ≡ tree_term same ∷ bin Equal (tree_term difference) (const width 0) ∷ []) }
+        map model_of_tree made.items ≡ model_of_tree same ∷ bin Equal (model_of_tree difference) (const width 0) ∷ []) }
 {
     let zero = Tree::Lit { width, value: 0 };
     let (same, none) = keeping(same, over(alloc, Op2::Eq, difference, zero))?;
@@ -130,16 +130,16 @@ fn equated(
     y: &SrcExpr,
 ) -> Result<Vec<Tree>, NoMemory>
     requires width { IsWidth width }
-    requires left { Fitting memory.now.word width (shape_of x.now.node) }
-    requires right { Fitting memory.now.word width (shape_of y.now.node) }
-    requires near_left { IsNear memory.now.places (shape_of x.now.node) }
-    requires near_right { IsNear memory.now.places (shape_of y.now.node) }
+    requires left { Fitting memory.now.word width (model_of_src_node x.now.node) }
+    requires right { Fitting memory.now.word width (model_of_src_node y.now.node) }
+    requires near_left { IsNear memory.now.places (model_of_src_node x.now.node) }
+    requires near_right { IsNear memory.now.places (model_of_src_node y.now.node) }
     ensures { IfOk result (λ made.
-        map tree_term made.items
-        ≡ bin Equal (tree_of memory.now width (shape_of x.now.node))
-        (tree_of memory.now width (shape_of y.now.node))
-        ∷ bin Equal (bin Sub (tree_of memory.now width (shape_of x.now.node))
-        (tree_of memory.now width (shape_of y.now.node))) (const width 0) ∷ []) }
+        map model_of_tree made.items
+        ≡ bin Equal (tree_of memory.now width (model_of_src_node x.now.node))
+        (tree_of memory.now width (model_of_src_node y.now.node))
+        ∷ bin Equal (bin Sub (tree_of memory.now width (model_of_src_node x.now.node))
+        (tree_of memory.now width (model_of_src_node y.now.node))) (const width 0) ∷ []) }
 {
     let same = operated(alloc, memory, Op2::Eq, width, x, y)?;
     let (same, difference) = keeping(same, operated(alloc, memory, Op2::Sub, width, x, y))?;
@@ -157,13 +157,13 @@ fn ordered(
     y: &SrcExpr,
 ) -> Result<Vec<Tree>, NoMemory>
     requires width { IsWidth width }
-    requires left { Fitting memory.now.word width (shape_of x.now.node) }
-    requires right { Fitting memory.now.word width (shape_of y.now.node) }
-    requires near_left { IsNear memory.now.places (shape_of x.now.node) }
-    requires near_right { IsNear memory.now.places (shape_of y.now.node) }
-    ensures { IfOk result (λ made. map tree_term made.items
-        ≡ bin op (tree_of memory.now width (shape_of x.now.node))
-        (tree_of memory.now width (shape_of y.now.node)) ∷ []) }
+    requires left { Fitting memory.now.word width (model_of_src_node x.now.node) }
+    requires right { Fitting memory.now.word width (model_of_src_node y.now.node) }
+    requires near_left { IsNear memory.now.places (model_of_src_node x.now.node) }
+    requires near_right { IsNear memory.now.places (model_of_src_node y.now.node) }
+    ensures { IfOk result (λ made. map model_of_tree made.items
+        ≡ bin op (tree_of memory.now width (model_of_src_node x.now.node))
+        (tree_of memory.now width (model_of_src_node y.now.node)) ∷ []) }
 {
     let tree = operated(alloc, memory, op, width, x, y)?;
     let trees = one(alloc, tree)?;
@@ -178,11 +178,11 @@ fn compared(
     x: &SrcExpr,
     y: &SrcExpr,
 ) -> Result<Vec<Tree>, NoMemory>
-    requires sides { FitsSides memory.now.word (shape_of x.now.node) (shape_of y.now.node) }
-    requires near_left { IsNear memory.now.places (shape_of x.now.node) }
-    requires near_right { IsNear memory.now.places (shape_of y.now.node) }
+    requires sides { FitsSides memory.now.word (model_of_src_node x.now.node) (model_of_src_node y.now.node) }
+    requires near_left { IsNear memory.now.places (model_of_src_node x.now.node) }
+    requires near_right { IsNear memory.now.places (model_of_src_node y.now.node) }
     ensures { IfOk result (λ made.
-        map tree_term made.items ≡ (compare_work memory.now cmp (shape_of x.now.node) (shape_of y.now.node)).trees) }
+        map model_of_tree made.items ≡ (job_of_compare memory.now cmp (model_of_src_node x.now.node) (model_of_src_node y.now.node)).trees) }
 {
     let width = operand_width(memory.word(), x, y);
     let trees = match cmp {
@@ -201,10 +201,10 @@ pub(crate) fn test_job(
     memory: &DataMemory<'_>,
     test: &SrcTest,
 ) -> Result<Job, NoMemory>
-    requires sides { FitsSides memory.now.word (shape_of test.now.left.node) (shape_of test.now.right.node) }
-    requires near_left { IsNear memory.now.places (shape_of test.now.left.node) }
-    requires near_right { IsNear memory.now.places (shape_of test.now.right.node) }
-    ensures { IfOk result (λ made. work_of made ≡ test_work memory.now (test_of test.now)) }
+    requires sides { FitsSides memory.now.word (model_of_src_node test.now.left.node) (model_of_src_node test.now.right.node) }
+    requires near_left { IsNear memory.now.places (model_of_src_node test.now.left.node) }
+    requires near_right { IsNear memory.now.places (model_of_src_node test.now.right.node) }
+    ensures { IfOk result (λ made. model_of_job made ≡ job_of_test memory.now (model_of_src_test test.now)) }
 {
     let trees = compared(alloc, memory, test.cmp, &test.left, &test.right)?;
     Ok(Job {
@@ -215,7 +215,7 @@ pub(crate) fn test_job(
 
 // The counter of a `for`.
 fn counter_tree(alloc: Global, memory: &DataMemory<'_>, counter: &Name) -> Result<Tree, NoMemory>
-    ensures { IfOk result (λ made. tree_term made
+    ensures { IfOk result (λ made. model_of_tree made
         ≡ read InMemory (const memory.now.addr (base_of memory.now.places counter.now)) memory.now.word) }
 {
     let at = Tree::Lit {
@@ -228,7 +228,7 @@ fn counter_tree(alloc: Global, memory: &DataMemory<'_>, counter: &Name) -> Resul
 
 // A number of a cell's width.
 fn number(memory: &DataMemory<'_>, value: u64) -> Tree
-    ensures { tree_term result ≡ const memory.now.word value }
+    ensures { model_of_tree result ≡ const memory.now.word value }
 {
     Tree::Lit {
         width: memory.word(),
@@ -245,7 +245,7 @@ fn counted(
     value: u64,
 ) -> Result<Tree, NoMemory>
     ensures { IfOk result (λ made.
-        tree_term made
+        model_of_tree made
         ≡ bin op (read InMemory (const memory.now.addr (base_of memory.now.places counter.now)) memory.now.word)
         (const memory.now.word value)) }
 {
@@ -261,7 +261,7 @@ pub(crate) fn start_job(
     counter: &Name,
     from: u64,
 ) -> Result<Job, NoMemory>
-    ensures { IfOk result (λ made. work_of made ≡ start_work memory.now counter.now from) }
+    ensures { IfOk result (λ made. model_of_job made ≡ job_of_start memory.now counter.now from) }
 {
     let aim = Aim::Cell(memory.base(counter));
     let made = job(alloc, aim, number(memory, from))?;
@@ -276,7 +276,7 @@ pub(crate) fn counting_job(
     to: u64,
 ) -> Result<Job, NoMemory>
     requires { to + 1 < 2 ^ 64 }
-    ensures { IfOk result (λ made. work_of made ≡ counting_work memory.now counter.now 0 to) }
+    ensures { IfOk result (λ made. model_of_job made ≡ job_of_counting memory.now counter.now 0 to) }
 {
     let same = counted(alloc, memory, Op2::Eq, counter, to + 1)?;
     let (same, difference) = keeping(same, counted(alloc, memory, Op2::Sub, counter, to + 1))?;
@@ -293,7 +293,7 @@ pub(crate) fn step_job(
     memory: &DataMemory<'_>,
     counter: &Name,
 ) -> Result<Job, NoMemory>
-    ensures { IfOk result (λ made. work_of made ≡ step_work memory.now counter.now) }
+    ensures { IfOk result (λ made. model_of_job made ≡ job_of_step memory.now counter.now) }
 {
     let next = counted(alloc, memory, Op2::Add, counter, 1)?;
     let aim = Aim::Cell(memory.base(counter));

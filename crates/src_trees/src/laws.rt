@@ -5,21 +5,21 @@ ghost use Rattle.std.specs.Prelude.{ℕ, ◌≡◌, ◌≤◌, ◌<◌, ◌+◌,
 ghost use Rattle.net_model.specs.declared.hardware.Netlist.{Netlist};
 ghost use Rattle.net_model.specs.Nets.{memory_size, memory_width};
 ghost use Rattle.src_model.specs.declared.program.Var.{Var as Declared};
-ghost use Rattle.src_model.specs.Written.{Shape, Phrase, Place, Listing, acts_of};
+ghost use Rattle.src_model.specs.Written.{SrcNodeModel, SrcExprModel, SpotModel, ProgramModel, stmts_of};
 ghost use Rattle.src_model.specs.Rules.{first_fault, node_count, temp_count};
 ghost use Rattle.src_model.specs.Meaning.{shape_value, index_value, cell_count};
 ghost use Rattle.src_model.specs.Trace.{strace};
 ghost use Rattle.code_model.specs.declared.image.Image.{Image};
 ghost use Rattle.code_model.specs.Right.{TracesRight};
-ghost use Rattle.src_trees.specs.Lowered.{MemoryMap, Work, base_of, tree_of, assign_work};
-ghost use Rattle.src_trees.specs.Flows.{places_in, program_flow, program_works};
+ghost use Rattle.src_trees.specs.Lowered.{MemoryMap, JobModel, base_of, tree_of, job_of_assign};
+ghost use Rattle.src_trees.specs.Flows.{places_in, program_flow, program_jobs};
 ghost use Rattle.src_trees.specs.Held.{HoldsVars, HasCellRoom};
 ghost use Rattle.src_trees.specs.Seen.{memory_map, seen_store, tree_value, ReadsCells, InReach, CanRead, CanAssign};
 ghost use Rattle.src_trees.specs.Doing.{destination_cell};
 ghost use Rattle.src_trees.specs.Meant.{DoProgram, KeepsMeaning};
 ghost use Rattle.src_trees.specs.Measures.{most_nodes, most_temps, AllSmall};
 ghost use Rattle.src_trees.specs.Placed.{IsPlaced};
-ghost use Rattle.src_trees.specs.Turned.{Turns, TurnsTests, told_works, turned_flow};
+ghost use Rattle.src_trees.specs.Turned.{Turns, TurnsTests, jobs_of_told, turned_flow};
 
 /// A memory that has the variables behind each other holds them, and has room for them where it has
 /// so many cells.
@@ -33,11 +33,11 @@ pub fn law_of_rows()
 /// The tree of an expression has the expression's value in the store that the memory holds, and
 /// reads the variables' cells alone.
 pub fn law_of_trees()
-    ensures value { (m : MemoryMap) (temps : ℕ) (vars : List Declared) (cells : List ℕ) (asked : ℕ) (e : Shape) →
+    ensures value { (m : MemoryMap) (temps : ℕ) (vars : List Declared) (cells : List ℕ) (asked : ℕ) (e : SrcNodeModel) →
         HoldsVars temps vars m → HasCellRoom temps m (length cells) →
         CanRead m.word vars (seen_store m cells) asked e →
         tree_value cells (tree_of m asked e) ≡ shape_value m.word vars (seen_store m cells) asked e }
-    ensures reads { (m : MemoryMap) (temps : ℕ) (vars : List Declared) (cells : List ℕ) (asked : ℕ) (e : Shape) →
+    ensures reads { (m : MemoryMap) (temps : ℕ) (vars : List Declared) (cells : List ℕ) (asked : ℕ) (e : SrcNodeModel) →
         HoldsVars temps vars m → HasCellRoom temps m (length cells) →
         CanRead m.word vars (seen_store m cells) asked e → ReadsCells temps cells (tree_of m asked e) }
 {}
@@ -45,10 +45,10 @@ pub fn law_of_trees()
 /// The job of an assignment goes to the cell of its place: that of the element, behind the address
 /// of the variable.
 pub fn law_of_assignments()
-    ensures { (m : MemoryMap) (temps : ℕ) (vars : List Declared) (cells : List ℕ) (place : Place) (e : Phrase) →
+    ensures { (m : MemoryMap) (temps : ℕ) (vars : List Declared) (cells : List ℕ) (place : SpotModel) (e : SrcExprModel) →
         HoldsVars temps vars m → HasCellRoom temps m (length cells) →
         CanAssign m.word vars (seen_store m cells) place e →
-        destination_cell cells (assign_work m place e).destination
+        destination_cell cells (job_of_assign m place e).destination
         ≡ Some (base_of m.places place.name + index_value m.word vars (seen_store m cells) place.index) }
 {}
 
@@ -59,28 +59,28 @@ pub fn law_of_assignments()
 pub fn law_of_jobs()
     ensures own { (m : MemoryMap) (temps : ℕ) (vars : List Declared) → HoldsVars temps vars m →
         KeepsMeaning m temps vars (λ work. work) }
-    ensures all { (m : MemoryMap) (temps : ℕ) (l : Listing) → HoldsVars temps l.vars m →
-        DoProgram m temps l (program_works m l) }
-    ensures changed { (m : MemoryMap) (temps : ℕ) (l : Listing) (change : Work → Work) →
-        KeepsMeaning m temps l.vars change → DoProgram m temps l (map change (program_works m l)) }
+    ensures all { (m : MemoryMap) (temps : ℕ) (l : ProgramModel) → HoldsVars temps l.vars m →
+        DoProgram m temps l (program_jobs m l) }
+    ensures changed { (m : MemoryMap) (temps : ℕ) (l : ProgramModel) (change : JobModel → JobModel) →
+        KeepsMeaning m temps l.vars change → DoProgram m temps l (map change (program_jobs m l)) }
 {}
 
 /// The temporary cells of a program are the greatest count over its trees, where addresses have some
 /// bits. These are trees, of at most 510 nodes each.
 pub fn law_of_temps()
-    ensures count { (m : MemoryMap) (l : Listing) → first_fault m.word l ≡ None → 1 ≤ m.addr →
-        temp_count m.word l ≡ most_temps m.word (program_works m l) }
-    ensures small { (m : MemoryMap) (l : Listing) → first_fault m.word l ≡ None → 1 ≤ m.addr →
-        AllSmall m.word (temp_count m.word l) 510 (program_works m l) }
+    ensures count { (m : MemoryMap) (l : ProgramModel) → first_fault m.word l ≡ None → 1 ≤ m.addr →
+        temp_count m.word l ≡ most_temps m.word (program_jobs m l) }
+    ensures small { (m : MemoryMap) (l : ProgramModel) → first_fault m.word l ≡ None → 1 ≤ m.addr →
+        AllSmall m.word (temp_count m.word l) 510 (program_jobs m l) }
 {}
 
 /// The nodes that a program has at most in a tree, as its rules count them, are the greatest count
 /// over the trees of its jobs, both trees of a test for equality among them, where addresses are
 /// narrower than words; where they are as wide, no address needs a slice, and trees may have fewer.
 pub fn law_of_nodes()
-    ensures count { (m : MemoryMap) (l : Listing) → m.addr < m.word →
-        node_count l ≡ most_nodes (program_works m l) }
-    ensures most { (m : MemoryMap) (l : Listing) → most_nodes (program_works m l) ≤ node_count l }
+    ensures count { (m : MemoryMap) (l : ProgramModel) → m.addr < m.word →
+        node_count l ≡ most_nodes (program_jobs m l) }
+    ensures most { (m : MemoryMap) (l : ProgramModel) → most_nodes (program_jobs m l) ≤ node_count l }
 {}
 
 /// An image whose words do what the flow of a program says, each block, test and jump at its
@@ -88,19 +88,19 @@ pub fn law_of_nodes()
 /// mode 0 at each mark. So does one of a flow some tests of which are turned, by jobs that do what
 /// the statements say once they are turned back.
 pub fn law_of_flow()
-    ensures own { (netlist : Netlist) (image : Image) (m : MemoryMap) (temps : ℕ) (l : Listing)
-        (jobs : List Work) (starts : ℕ → ℕ) →
+    ensures own { (netlist : Netlist) (image : Image) (m : MemoryMap) (temps : ℕ) (l : ProgramModel)
+        (jobs : List JobModel) (starts : ℕ → ℕ) →
         first_fault m.word l ≡ None → memory_width netlist.storages ≡ m.word →
         HoldsVars temps l.vars m → HasCellRoom temps m (memory_size netlist.storages) →
         image.places ≡ m.places → DoProgram m temps l jobs →
-        IsPlaced netlist image temps (program_flow l) jobs starts (places_in (acts_of l.body)) →
+        IsPlaced netlist image temps (program_flow l) jobs starts (places_in (stmts_of l.body)) →
         TracesRight netlist image (strace m.word l) }
-    ensures turned { (netlist : Netlist) (image : Image) (m : MemoryMap) (temps : ℕ) (l : Listing)
-        (turned : Turns) (jobs : List Work) (starts : ℕ → ℕ) →
+    ensures turned { (netlist : Netlist) (image : Image) (m : MemoryMap) (temps : ℕ) (l : ProgramModel)
+        (turned : Turns) (jobs : List JobModel) (starts : ℕ → ℕ) →
         first_fault m.word l ≡ None → memory_width netlist.storages ≡ m.word →
         HoldsVars temps l.vars m → HasCellRoom temps m (memory_size netlist.storages) →
         image.places ≡ m.places → TurnsTests turned (program_flow l) →
-        DoProgram m temps l (told_works turned jobs) →
-        IsPlaced netlist image temps (turned_flow turned (program_flow l)) jobs starts (places_in (acts_of l.body)) →
+        DoProgram m temps l (jobs_of_told turned jobs) →
+        IsPlaced netlist image temps (turned_flow turned (program_flow l)) jobs starts (places_in (stmts_of l.body)) →
         TracesRight netlist image (strace m.word l) }
 {}

@@ -2,7 +2,7 @@
 //! say.
 //!
 //! Promise: `lower` gives exactly the flow and the jobs of a checked program whose variables stand
-//! at places of their own (`flow`: `program_flow`, `jobs`: `program_works`). The laws: a memory with
+//! at places of their own (`flow`: `program_flow`, `jobs`: `program_jobs`). The laws: a memory with
 //! the variables behind each other holds them (`law_of_rows`: `HoldsVars`), the tree of an
 //! expression has its value in the store that the memory holds (`law_of_trees`), the job of an
 //! assignment goes to its place's cell (`law_of_assignments`), jobs do what the program's statements

@@ -2,10 +2,10 @@
 
 ghost use Rattle.std.specs.Prelude.{◌≡◌, Ok, IfOk};
 ghost use Rattle.net_model.specs.declared.hardware.Space.TheVariants.{Memory as InMemory};
-ghost use Rattle.net_model.specs.Terms.{read, bin};
-ghost use Rattle.src_model.specs.Written.{shape_of, spot_shape};
+ghost use Rattle.net_model.specs.Exprs.{read, bin};
+ghost use Rattle.src_model.specs.Written.{model_of_src_node, spot_node};
 ghost use Rattle.src_model.specs.Fitting.{Fitting};
-ghost use Rattle.form_model.specs.Trees.{tree_term};
+ghost use Rattle.form_model.specs.Trees.{model_of_tree};
 ghost use Rattle.src_trees.specs.Lowered.{narrowed, computed_address, tree_of};
 ghost use Rattle.src_trees.specs.Inner.Near.{IsNear};
 ghost use Rattle.rec_bits.specs.Operators.{IsWidth};
@@ -37,7 +37,7 @@ fn boxes<T: Drop>(alloc: Global, x: T, y: T) -> Result<(Box<T>, Box<T>), NoMemor
 
 /// An operator over two trees.
 pub(crate) fn over(alloc: Global, op: Op2, x: Tree, y: Tree) -> Result<Tree, NoMemory>
-    ensures { IfOk result (λ made. tree_term made ≡ bin op (tree_term x) (tree_term y)) }
+    ensures { IfOk result (λ made. model_of_tree made ≡ bin op (model_of_tree x) (model_of_tree y)) }
 {
     let (left, right) = boxes(alloc, x, y)?;
     Ok(Tree::Bin(op, left, right))
@@ -45,7 +45,7 @@ pub(crate) fn over(alloc: Global, op: Op2, x: Tree, y: Tree) -> Result<Tree, NoM
 
 // A value of a cell's width as an address.
 fn narrowed(alloc: Global, memory: &DataMemory<'_>, value: Tree) -> Result<Tree, NoMemory>
-    ensures { IfOk result (λ made. tree_term made ≡ narrowed memory.now (tree_term value)) }
+    ensures { IfOk result (λ made. model_of_tree made ≡ narrowed memory.now (model_of_tree value)) }
 {
     let addr = memory.addr();
     if addr < memory.word() {
@@ -63,7 +63,7 @@ pub(crate) fn computed(
     name: &Name,
     index: Tree,
 ) -> Result<Tree, NoMemory>
-    ensures { IfOk result (λ made. tree_term made ≡ computed_address memory.now name.now (tree_term index)) }
+    ensures { IfOk result (λ made. model_of_tree made ≡ computed_address memory.now name.now (model_of_tree index)) }
 {
     let base = Tree::Lit {
         width: memory.word(),
@@ -84,9 +84,9 @@ pub(crate) fn tree(
     e: &SrcExpr,
 ) -> Result<Tree, NoMemory>
     requires asked { IsWidth asked }
-    requires fitting { Fitting memory.now.word asked (shape_of e.now.node) }
-    requires near { IsNear memory.now.places (shape_of e.now.node) }
-    ensures { IfOk result (λ made. tree_term made ≡ tree_of memory.now asked (shape_of e.now.node)) }
+    requires fitting { Fitting memory.now.word asked (model_of_src_node e.now.node) }
+    requires near { IsNear memory.now.places (model_of_src_node e.now.node) }
+    ensures { IfOk result (λ made. model_of_tree made ≡ tree_of memory.now asked (model_of_src_node e.now.node)) }
 {
     let word = memory.word();
     match &e.node {
@@ -132,9 +132,9 @@ pub(crate) fn operand(
     e: &SrcExpr,
 ) -> Result<Box<Tree>, NoMemory>
     requires asked { IsWidth asked }
-    requires fitting { Fitting memory.now.word asked (shape_of e.now.node) }
-    requires near { IsNear memory.now.places (shape_of e.now.node) }
-    ensures { IfOk result (λ made. tree_term made.value ≡ tree_of memory.now asked (shape_of e.now.node)) }
+    requires fitting { Fitting memory.now.word asked (model_of_src_node e.now.node) }
+    requires near { IsNear memory.now.places (model_of_src_node e.now.node) }
+    ensures { IfOk result (λ made. model_of_tree made.value ≡ tree_of memory.now asked (model_of_src_node e.now.node)) }
 {
     let tree = tree(alloc, memory, asked, e)?;
     let made = Box::new(alloc, tree)?;
@@ -144,10 +144,10 @@ pub(crate) fn operand(
 // The address of a place.
 #[cycle(tree)]
 fn address(alloc: Global, memory: &DataMemory<'_>, spot: &Spot) -> Result<Tree, NoMemory>
-    requires fitting { Fitting memory.now.word memory.now.word (spot_shape spot.now) }
-    requires near { IsNear memory.now.places (spot_shape spot.now) }
-    ensures { IfOk result (λ made. read InMemory (tree_term made) memory.now.word
-        ≡ tree_of memory.now memory.now.word (spot_shape spot.now)) }
+    requires fitting { Fitting memory.now.word memory.now.word (spot_node spot.now) }
+    requires near { IsNear memory.now.places (spot_node spot.now) }
+    ensures { IfOk result (λ made. read InMemory (model_of_tree made) memory.now.word
+        ≡ tree_of memory.now memory.now.word (spot_node spot.now)) }
 {
     let first = u64::from(memory.base(&spot.name));
     let width = memory.addr();

@@ -3,9 +3,9 @@ use Rattle.std.proofs.Common.{◌≡◌, ℕ, ◌<◌, List, [], ◌∷◌, ◌+
 use Rattle.std.proofs.lemmas.List.{append-nil}
 use Rattle.std.proofs.lemmas.Bool.{cases_lt}
 use Rattle.sym_expr.specs.declared.pool.Node.{Node}
-use Rattle.sym_expr.specs.Pools.{node_term, children_of, AllBelow, term_at, TermFits, HeadFits, IsPool, Grows, KeepsTerms}
+use Rattle.sym_expr.specs.Pools.{node_expr, children_of, AllBelow, expr_of_id, ExprFits, HeadFits, IsPool, Grows, KeepsTerms}
 use Rattle.rec_bits.proofs.Lists.{pushed_at}
-use Rattle.sym_expr.proofs.Trees.{term_at-append, term_at-push}
+use Rattle.sym_expr.proofs.Trees.{expr_of_id-append, expr_of_id-push}
 use Rattle.sym_expr.proofs.Fits.{all_fit, whole_fits}
 
 pub grows_refl : (l : List Node) → Grows l l
@@ -26,10 +26,10 @@ grows_by old new w = record {
 }
 
 -- a growing pool changes no old id's expression
-pub same_term : (old new : List Node) → Grows old new → (id : ℕ) → id < length old → term_at new id ≡ term_at old id
-same_term old new g id h = ap (λ l. term_at l id) g.nodes ∙ term_at-append old g.more id h
+pub same_term : (old new : List Node) → Grows old new → (id : ℕ) → id < length old → expr_of_id new id ≡ expr_of_id old id
+same_term old new g id h = ap (λ l. expr_of_id l id) g.nodes ∙ expr_of_id-append old g.more id h
 
-module _ (nodes : List Node) (pool : IsPool nodes) (node : Node) (below : AllBelow (length nodes) (children_of node)) (fits : HeadFits (node_term node (term_at nodes))) where
+module _ (nodes : List Node) (pool : IsPool nodes) (node : Node) (below : AllBelow (length nodes) (children_of node)) (fits : HeadFits (node_expr node (expr_of_id nodes))) where
   pub push_pool : ((i : ℕ) → slice_get nodes i ≡ Some node → ⊥) → IsPool (nodes ++ node ∷ [])
   push_pool absent = record {
     below = λ place x at. elim (pushed_at nodes node place x at) [
@@ -39,11 +39,11 @@ module _ (nodes : List Node) (pool : IsPool nodes) (node : Node) (below : AllBel
           subst (λ (p : ℕ × Node). AllBelow p.0 (children_of p.1)) (λ j. (sym w.0 j, e j)) below)
     ];
     fits = λ id less. elim (cases_lt id (length nodes)) [
-      | inl h ↦ subst TermFits (sym (term_at-append nodes (node ∷ []) id h)) (pool.fits id h)
+      | inl h ↦ subst ExprFits (sym (expr_of_id-append nodes (node ∷ []) id h)) (pool.fits id h)
       | inr h ↦
           (let l = length-append nodes (node ∷ []) in
           let e : id ≡ length nodes = omega (arith, h, less, l) in
-          subst TermFits (sym (term_at-push nodes node id e)) (whole_fits node (term_at nodes) fits (all_fit (term_at nodes) (length nodes) pool.fits (children_of node) below)))
+          subst ExprFits (sym (expr_of_id-push nodes node id e)) (whole_fits node (expr_of_id nodes) fits (all_fit (expr_of_id nodes) (length nodes) pool.fits (children_of node) below)))
     ];
     distinct = λ i j n at_i at_j. elim (pushed_at nodes node i n at_i) [
       | inl v ↦ elim (pushed_at nodes node j n at_j) [

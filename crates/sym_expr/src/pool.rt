@@ -3,8 +3,8 @@
 ghost use Rattle.std.specs.Prelude.{◌≡◌, ℕ, ◌+◌, ◌<◌, ◌≤◌, max, List, [], length, IfOk, OnErr, slice_index};
 ghost use Rattle.rec_bits.specs.Counts.{capped};
 ghost use Rattle.net_model.specs.Meaning.{mean};
-ghost use Rattle.net_model.specs.Terms.{size_of, term_of, term_width};
-ghost use Rattle.sym_expr.specs.Pools.{AllBelow, Grows, HeadFits, IsOneEach, KeepsTerms, Suits, TermFits, node_term, children_of, term_at};
+ghost use Rattle.net_model.specs.Exprs.{size_of, model_of_expr, expr_width};
+ghost use Rattle.sym_expr.specs.Pools.{AllBelow, Grows, HeadFits, IsOneEach, KeepsTerms, Suits, ExprFits, node_expr, children_of, expr_of_id};
 ghost use Rattle.sym_expr.specs.Measures.{IsMeasure};
 ghost use Rattle.sym_expr.specs.declared.pool.Node.{Node as TheNode};
 
@@ -83,13 +83,13 @@ impl Pool {
     /// other is added.
     pub fn intern(&mut self, _alloc: Global, node: Node) -> Result<ExprId, NoMemory>
         requires parts { AllBelow (length self.old) (children_of node) }
-        requires fits { HeadFits (node_term node (term_at self.old)) }
+        requires fits { HeadFits (node_expr node (expr_of_id self.old)) }
         ensures grows { Grows self.old self.new }
         ensures refused { OnErr result (self.new ≡ self.old) }
         ensures within { IfOk result (λ id. id < length self.new) }
         ensures next { IfOk result (λ id. id ≤ length self.old) }
         ensures alone { IfOk result (λ id. length self.new ≤ max (length self.old) (id + 1)) }
-        ensures term { IfOk result (λ id. term_at self.new id ≡ node_term node (term_at self.old)) }
+        ensures term { IfOk result (λ id. expr_of_id self.new id ≡ node_expr node (expr_of_id self.old)) }
     {
         if let Some(place) = self.nodes.get_index_of(&node) {
             return Ok(place as u64);
@@ -103,7 +103,7 @@ impl Pool {
     pub fn len(&self) -> u64
         ensures len { result ≡ length self.now }
         ensures one_each { IsOneEach self.now }
-        ensures fits { (id : ℕ) → id < length self.now → TermFits (term_at self.now id) }
+        ensures fits { (id : ℕ) → id < length self.now → ExprFits (expr_of_id self.now id) }
         ensures keeps { (older : List TheNode) → Grows older self.now → KeepsTerms older self.now }
     {
         self.nodes.len() as u64
@@ -112,9 +112,9 @@ impl Pool {
     /// The node of an id.
     pub fn node(&self, id: ExprId) -> Node
         requires { id < length self.now }
-        ensures term { term_at self.now id ≡ node_term result (term_at self.now) }
+        ensures term { expr_of_id self.now id ≡ node_expr result (expr_of_id self.now) }
         ensures below { AllBelow id (children_of result) }
-        ensures fits { TermFits (node_term result (term_at self.now)) }
+        ensures fits { ExprFits (node_expr result (expr_of_id self.now)) }
     {
         self.nodes.keys().as_slice()[id as usize]
     }
@@ -122,7 +122,7 @@ impl Pool {
     /// The width of an expression, 1 to 64 bits.
     pub fn width(&self, id: ExprId) -> u8
         requires { id < length self.now }
-        ensures width { result ≡ term_width (term_at self.now id) }
+        ensures width { result ≡ expr_width (expr_of_id self.now id) }
         ensures low { 1 ≤ result }
         ensures high { result ≤ 64 }
     {
@@ -132,7 +132,7 @@ impl Pool {
     /// How many leaves and operators an expression has, or 2^64 - 1 where there are more.
     pub fn size(&self, id: ExprId) -> u64
         requires { id < length self.now }
-        ensures { result ≡ capped (size_of (term_at self.now id)) }
+        ensures { result ≡ capped (size_of (expr_of_id self.now id)) }
     {
         self.measured(id).size
     }
@@ -141,8 +141,8 @@ impl Pool {
     /// and the word that it names fit the widths with which it names them.
     pub fn eval(&self, id: ExprId, state: &State, word: u64) -> u64
         requires id { id < length self.now }
-        requires suits { Suits (term_at self.now id) state.now word }
-        ensures { result ≡ mean (term_at self.now id) state.now word }
+        requires suits { Suits (expr_of_id self.now id) state.now word }
+        ensures { result ≡ mean (expr_of_id self.now id) state.now word }
     {
         match self.node(id) {
             Node::Word(_) => word,
@@ -183,7 +183,7 @@ impl Pool {
     #[cycle(expr)]
     pub fn expr(&self, alloc: Global, id: ExprId) -> Result<Expr, NoMemory>
         requires { id < length self.now }
-        ensures { IfOk result (λ expr. term_of expr ≡ term_at self.now id) }
+        ensures { IfOk result (λ expr. model_of_expr expr ≡ expr_of_id self.now id) }
     {
         Ok(match self.node(id) {
             Node::Word(width) => Expr::Word(width),
@@ -209,7 +209,7 @@ impl Pool {
     #[cycle(expr)]
     fn boxed(&self, alloc: Global, id: ExprId) -> Result<Box<Expr>, NoMemory>
         requires { id < length self.now }
-        ensures { IfOk result (λ held. term_of held.value ≡ term_at self.now id) }
+        ensures { IfOk result (λ held. model_of_expr held.value ≡ expr_of_id self.now id) }
     {
         let expr = self.expr(alloc, id)?;
         let held = Box::new(alloc, expr)?;
@@ -219,8 +219,8 @@ impl Pool {
     // What is known of the expression of an id.
     fn measured(&self, id: ExprId) -> Measure
         requires { id < length self.now }
-        ensures fits { TermFits (term_at self.now id) }
-        ensures is { IsMeasure (term_at self.now id) result }
+        ensures fits { ExprFits (expr_of_id self.now id) }
+        ensures is { IsMeasure (expr_of_id self.now id) result }
     {
         self.nodes.values().as_slice()[id as usize]
     }
@@ -228,8 +228,8 @@ impl Pool {
     // What is known of the expression that a node would be.
     fn measure(&self, node: Node) -> Measure
         requires parts { AllBelow (length self.now) (children_of node) }
-        requires fits { HeadFits (node_term node (term_at self.now)) }
-        ensures { IsMeasure (node_term node (term_at self.now)) result }
+        requires fits { HeadFits (node_expr node (expr_of_id self.now)) }
+        ensures { IsMeasure (node_expr node (expr_of_id self.now)) result }
     {
         Measure {
             width: self.width_of(node),
@@ -239,8 +239,8 @@ impl Pool {
 
     fn width_of(&self, node: Node) -> u8
         requires parts { AllBelow (length self.now) (children_of node) }
-        requires fits { HeadFits (node_term node (term_at self.now)) }
-        ensures { result ≡ term_width (node_term node (term_at self.now)) }
+        requires fits { HeadFits (node_expr node (expr_of_id self.now)) }
+        ensures { result ≡ expr_width (node_expr node (expr_of_id self.now)) }
     {
         match node {
             Node::Word(width) => width,
@@ -262,7 +262,7 @@ impl Pool {
 
     fn size_of(&self, node: Node) -> u64
         requires parts { AllBelow (length self.now) (children_of node) }
-        ensures { result ≡ capped (size_of (node_term node (term_at self.now))) }
+        ensures { result ≡ capped (size_of (node_expr node (expr_of_id self.now))) }
     {
         match node {
             Node::Word(_) => 1,

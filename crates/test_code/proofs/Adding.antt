@@ -6,9 +6,9 @@ use Rattle.rec_bits.proofs.Lists.{all_append}
 use Rattle.net_model.specs.declared.hardware.Netlist.{Netlist}
 use Rattle.net_model.specs.Patterns.{Pattern}
 use Rattle.net_model.specs.Widths.{WordFits}
-use Rattle.form_model.specs.Covers.{Choice, Stock}
-use Rattle.src_trees.specs.Lowered.{Work}
-use Rattle.net_code.specs.Trials.{IsTried}
+use Rattle.form_model.specs.Covers.{JobCoverModel, StockModel}
+use Rattle.src_trees.specs.Lowered.{JobModel}
+use Rattle.code_gen.specs.Trials.{IsTried}
 use Rattle.test_code.specs.declared.code.TestCode.{TestCode}
 use Rattle.test_code.specs.Codes.{IsCodeOf}
 use Rattle.test_code.specs.Inner.Adding.{HasAdded}
@@ -16,12 +16,12 @@ use Rattle.test_code.specs.Tried.{AreTried, AreWordsOf, cost_sum, skipped_count,
 
 -- ---- counts
 
-tested_more : (tried : List (Option Choice)) (choice : Option Choice) → tested_count (tried ++ choice ∷ []) ≡ tested_count tried + tested_count (choice ∷ [])
+tested_more : (tried : List (Option JobCoverModel)) (choice : Option JobCoverModel) → tested_count (tried ++ choice ∷ []) ≡ tested_count tried + tested_count (choice ∷ [])
 tested_more [] choice = omega arith
 tested_more (None ∷ tried) choice = tested_more tried choice
 tested_more (Some first ∷ tried) choice = let h = tested_more tried choice in omega (arith, h)
 
-skipped_more : (tried : List (Option Choice)) (choice : Option Choice) → skipped_count (tried ++ choice ∷ []) ≡ skipped_count tried + skipped_count (choice ∷ [])
+skipped_more : (tried : List (Option JobCoverModel)) (choice : Option JobCoverModel) → skipped_count (tried ++ choice ∷ []) ≡ skipped_count tried + skipped_count (choice ∷ [])
 skipped_more [] choice = omega arith
 skipped_more (None ∷ tried) choice = let h = skipped_more tried choice in omega (arith, h)
 skipped_more (Some first ∷ tried) choice = skipped_more tried choice
@@ -29,22 +29,22 @@ skipped_more (Some first ∷ tried) choice = skipped_more tried choice
 capped_more : (x y : ℕ) → capped (capped x + y) ≡ capped (x + y)
 capped_more x y = grind (arith)
 
-module _ (stock : Stock) where
-  cost_more : (works : List Work) (tried : List (Option Choice)) (job : Work) (choice : Option Choice) → AreTried stock works tried → cost_sum (works ++ job ∷ []) (tried ++ choice ∷ []) ≡ cost_sum works tried + cost_sum (job ∷ []) (choice ∷ [])
+module _ (stock : StockModel) where
+  cost_more : (works : List JobModel) (tried : List (Option JobCoverModel)) (job : JobModel) (choice : Option JobCoverModel) → AreTried stock works tried → cost_sum (works ++ job ∷ []) (tried ++ choice ∷ []) ≡ cost_sum works tried + cost_sum (job ∷ []) (choice ∷ [])
   cost_more [] [] job choice t = omega arith
   cost_more [] (c ∷ tried) job choice t = absurd t
   cost_more (w ∷ works) [] job choice t = absurd t
   cost_more (w ∷ works) (None ∷ tried) job choice t = cost_more works tried job choice t.1
   cost_more (w ∷ works) (Some c ∷ tried) job choice t = let h = cost_more works tried job choice t.1 in omega (arith, h)
 
-  tried_more : (works : List Work) (tried : List (Option Choice)) (job : Work) (choice : Option Choice) → AreTried stock works tried → IsTried stock job choice → AreTried stock (works ++ job ∷ []) (tried ++ choice ∷ [])
+  tried_more : (works : List JobModel) (tried : List (Option JobCoverModel)) (job : JobModel) (choice : Option JobCoverModel) → AreTried stock works tried → IsTried stock job choice → AreTried stock (works ++ job ∷ []) (tried ++ choice ∷ [])
   tried_more [] [] job choice t is = (is, tt)
   tried_more [] (c ∷ tried) job choice t is = absurd t
   tried_more (w ∷ works) [] job choice t is = absurd t
   tried_more (w ∷ works) (c ∷ tried) job choice t is = (t.0, tried_more works tried job choice t.1 is)
 
   -- each job is tested or skipped
-  counted : (works : List Work) (tried : List (Option Choice)) → AreTried stock works tried → tested_count tried + skipped_count tried ≡ length works
+  counted : (works : List JobModel) (tried : List (Option JobCoverModel)) → AreTried stock works tried → tested_count tried + skipped_count tried ≡ length works
   counted [] [] t = refl
   counted [] (c ∷ tried) t = absurd t
   counted (w ∷ works) [] t = absurd t
@@ -53,8 +53,8 @@ module _ (stock : Stock) where
 
 -- ---- words
 
-module _ (netlist : Netlist) (patterns : List Pattern) (stock : Stock) where
-  words_more : (works : List Work) (tried : List (Option Choice)) (words : List ℕ) (job : Work) (choice : Option Choice) (added : List ℕ) → AreTried stock works tried → AreWordsOf netlist patterns stock works tried words
+module _ (netlist : Netlist) (patterns : List Pattern) (stock : StockModel) where
+  words_more : (works : List JobModel) (tried : List (Option JobCoverModel)) (words : List ℕ) (job : JobModel) (choice : Option JobCoverModel) (added : List ℕ) → AreTried stock works tried → AreWordsOf netlist patterns stock works tried words
       → AreWordsOf netlist patterns stock (job ∷ []) (choice ∷ []) added → AreWordsOf netlist patterns stock (works ++ job ∷ []) (tried ++ choice ∷ []) (words ++ added)
   words_more [] [] words job choice added t h one = subst (λ (front : List ℕ). AreWordsOf netlist patterns stock (job ∷ []) (choice ∷ []) (front ++ added)) (sym h) one
   words_more [] (c ∷ tried) words job choice added t h one = absurd t
@@ -69,7 +69,7 @@ module _ (netlist : Netlist) (patterns : List Pattern) (stock : Stock) where
   )
 
   -- a job that has no cover adds no words
-  pub none_added : (job : Work) → AreWordsOf netlist patterns stock (job ∷ []) (None ∷ []) []
+  pub none_added : (job : JobModel) → AreWordsOf netlist patterns stock (job ∷ []) (None ∷ []) []
   none_added job = refl
 
   pub nothing_coded : (code : TestCode) → code.tested ≡ 0 → code.skipped ≡ 0 → code.cost ≡ 0 → code.words.items ≡ [] → IsCodeOf netlist patterns stock [] code
@@ -83,7 +83,7 @@ module _ (netlist : Netlist) (patterns : List Pattern) (stock : Stock) where
     fit = subst (AllByRecursion (WordFits netlist)) (sym words) tt;
   }
 
-  pub code_more : (works : List Work) (job : Work) (old new : TestCode) → IsCodeOf netlist patterns stock works old → HasAdded netlist patterns stock job old new → IsCodeOf netlist patterns stock (works ++ job ∷ []) new
+  pub code_more : (works : List JobModel) (job : JobModel) (old new : TestCode) → IsCodeOf netlist patterns stock works old → HasAdded netlist patterns stock job old new → IsCodeOf netlist patterns stock (works ++ job ∷ []) new
   code_more works job old new h a = record {
     tried = h.tried ++ a.choice ∷ [];
     trials = tried_more stock works h.tried job a.choice h.trials a.trial;
@@ -101,5 +101,5 @@ module _ (netlist : Netlist) (patterns : List Pattern) (stock : Stock) where
   }
 
   -- so many jobs are tested or skipped
-  pub code_count : (works : List Work) (code : TestCode) → IsCodeOf netlist patterns stock works code → code.tested + code.skipped ≡ length works
+  pub code_count : (works : List JobModel) (code : TestCode) → IsCodeOf netlist patterns stock works code → code.tested + code.skipped ≡ length works
   code_count works code h = let n = counted stock works h.tried h.trials in let x = h.tested in let y = h.skipped in omega (arith, n, x, y)

@@ -8,17 +8,17 @@ use Rattle.net_model.specs.declared.hardware.Netlist.{Netlist}
 use Rattle.net_model.specs.declared.hardware.Space.TheVariants.{File as InFile}
 use Rattle.net_model.specs.Nets.{memory_width, word_width, size_in}
 use Rattle.net_model.specs.Patterns.{ArePatterns, Pattern}
-use Rattle.net_model.specs.Terms.{size_of}
+use Rattle.net_model.specs.Exprs.{size_of}
 use Rattle.net_model.specs.Widths.{WordFits}
 use Rattle.net_model.proofs.WordWidths.{has_bits}
-use Rattle.form_model.specs.Covers.{Choice, IsChosen, Stock}
+use Rattle.form_model.specs.Covers.{JobCoverModel, IsChosen, StockModel}
 use Rattle.form_model.specs.declared.forms.Step.{Step}
 use Rattle.block_words.specs.Laws.{operation_in}
 use Rattle.form_model.specs.Live.{Regs, regs_of, singles}
-use Rattle.form_model.specs.Rules.{Rule}
+use Rattle.form_model.specs.Forms.{FormModel}
 use Rattle.form_set.specs.Listing.{AreForms}
 use Rattle.emit_seq.specs.ReadWords.{AllReadWords}
-use Rattle.src_trees.specs.Lowered.{Work}
+use Rattle.src_trees.specs.Lowered.{JobModel}
 use Rattle.src_trees.specs.Measures.{IsSmall}
 use Rattle.word_fit.specs.Fits.{fits_over}
 use Rattle.word_fit.specs.Groups.{AllHaveWords}
@@ -32,10 +32,10 @@ use Rattle.right_code.proofs.Worded.{block_words}
 use Rattle.test_code.specs.Inner.Jobs.{IsCellJob}
 
 -- a job of one tree is small
-small : (bits temps : ℕ) (job : Work) (j : IsCellJob bits temps job) → IsSmall bits temps (size_of j.tree) job
+small : (bits temps : ℕ) (job : JobModel) (j : IsCellJob bits temps job) → IsSmall bits temps (size_of j.tree) job
 small bits temps job j = subst (IsSmall bits temps (size_of j.tree)) (sym j.is) (record { destination = tt; trees = (j.plain, j.few, omega arith, tt) })
 
-module _ (netlist : Netlist) (order : List ℕ) (keeps : KeepsRules netlist order) (patterns : List Pattern) (are : ArePatterns netlist patterns) (rules : List Rule) (reach : ℕ) (forms : AreForms netlist patterns rules reach) where
+module _ (netlist : Netlist) (order : List ℕ) (keeps : KeepsRules netlist order) (patterns : List Pattern) (are : ArePatterns netlist patterns) (rules : List FormModel) (reach : ℕ) (forms : AreForms netlist patterns rules reach) where
   some : 0 < word_width netlist
   some = has_bits netlist order keeps
 
@@ -45,15 +45,15 @@ module _ (netlist : Netlist) (order : List ℕ) (keeps : KeepsRules netlist orde
   reads : AllReadWords (memory_width netlist.storages) rules
   reads = all_read netlist order keeps some patterns known reach rules forms.list
 
-  module _ (temps file : ℕ) (job : Work) (choice : Choice) (j : IsCellJob (memory_width netlist.storages) temps job) where
-    abbrev stock : Stock
+  module _ (temps file : ℕ) (job : JobModel) (choice : JobCoverModel) (j : IsCellJob (memory_width netlist.storages) temps job) where
+    abbrev stock : StockModel
     stock = record { rules = rules; temps = temps; file = file }
 
     pub job_covered : IsChosen stock job.destination job.trees choice → IsCovered stock job choice
     job_covered c = covered_of (memory_width netlist.storages) stock reads (size_of j.tree) job choice (small (memory_width netlist.storages) temps job j) c
 
     one : HasOne job.destination job.trees
-    one = subst (λ (x : Work). HasOne x.destination x.trees) (sym j.is) (j.tree, refl)
+    one = subst (λ (x : JobModel). HasOne x.destination x.trees) (sym j.is) (j.tree, refl)
 
     -- each step of the job has a word
     pub job_have : file ≡ size_in InFile netlist.storages → IsChosen stock job.destination job.trees choice → AllHaveWords (operation_in netlist patterns) (fits_over netlist (operation_in netlist patterns)) (singles (job_steps stock job choice)) (regs_of 0)

@@ -3,30 +3,30 @@ use Rattle.std.proofs.Common.{ℕ, ◌+◌, ◌≤◌, List, [], ◌∷◌, Opti
 use Rattle.std.specs.List.{AllByRecursion}
 use Rattle.net_model.specs.declared.hardware.Netlist.{Netlist}
 use Rattle.net_model.specs.Patterns.{Pattern}
-use Rattle.net_model.specs.Terms.{Term}
-use Rattle.form_model.specs.Covers.{Choice, Covers, Stock, job_cost}
-use Rattle.form_model.specs.Rules.{Rule}
+use Rattle.net_model.specs.Exprs.{ExprModel}
+use Rattle.form_model.specs.Covers.{JobCoverModel, Covers, StockModel, job_cost}
+use Rattle.form_model.specs.Forms.{FormModel}
 use Rattle.emit_seq.specs.Leaves.{IsOfJob}
-use Rattle.src_trees.specs.Lowered.{Work}
-use Rattle.net_code.proofs.Lengths.{job_long}
-use Rattle.net_code.proofs.Packing.{groups_few}
-use Rattle.self_test.specs.Cells.{test_values, test_works, works_from}
+use Rattle.src_trees.specs.Lowered.{JobModel}
+use Rattle.code_gen.proofs.Lengths.{job_long}
+use Rattle.code_gen.proofs.Packing.{groups_few}
+use Rattle.self_test.specs.Cells.{test_values, test_jobs, jobs_from}
 use Rattle.self_test.specs.Trees.{operands, widths_of}
 use Rattle.test_code.specs.Tried.{AreJobWords, AreTried, AreWordsOf, IsMadeFor, cost_sum, test_stock}
 
 -- all jobs have a destination of jobs
-abbrev AreOfJobs : List Work → Type 0
-AreOfJobs works = AllByRecursion (λ (job : Work). IsOfJob job.destination) works
+abbrev AreOfJobs : List JobModel → Type 0
+AreOfJobs works = AllByRecursion (λ (job : JobModel). IsOfJob job.destination) works
 
-module _ (netlist : Netlist) (patterns : List Pattern) (stock : Stock) where
-  job_few : (job : Work) (choice : Choice) (words : List ℕ) → IsOfJob job.destination → Covers stock job.destination job.trees choice → AreJobWords netlist patterns stock job choice words → length words ≤ job_cost job.destination choice.plan
+module _ (netlist : Netlist) (patterns : List Pattern) (stock : StockModel) where
+  job_few : (job : JobModel) (choice : JobCoverModel) (words : List ℕ) → IsOfJob job.destination → Covers stock job.destination job.trees choice → AreJobWords netlist patterns stock job choice words → length words ≤ job_cost job.destination choice.plan
   job_few job choice words goes covers h =
       let long = h.least.long in
       let few = groups_few h.packing in
       let steps = job_long stock job choice goes covers in
       omega (arith, long, few, steps)
 
-  pub words_few : (works : List Work) (tried : List (Option Choice)) (words : List ℕ) → AreOfJobs works → AreTried stock works tried → AreWordsOf netlist patterns stock works tried words → length words ≤ cost_sum works tried
+  pub words_few : (works : List JobModel) (tried : List (Option JobCoverModel)) (words : List ℕ) → AreOfJobs works → AreTried stock works tried → AreWordsOf netlist patterns stock works tried words → length words ≤ cost_sum works tried
   words_few [] [] words of_jobs t h = let e = ap length h in omega (arith, e)
   words_few [] (choice ∷ tried) words of_jobs t h = absurd t
   words_few (job ∷ works) [] words of_jobs t h = absurd t
@@ -39,13 +39,13 @@ module _ (netlist : Netlist) (patterns : List Pattern) (stock : Stock) where
       omega (arith, first, rest, e, l)
 
 -- those of a self-test
-cells_of : (netlist : Netlist) (at out : ℕ) (values : List Term) → AreOfJobs (works_from (widths_of netlist) at out values)
+cells_of : (netlist : Netlist) (at out : ℕ) (values : List ExprModel) → AreOfJobs (jobs_from (widths_of netlist) at out values)
 cells_of netlist at out [] = tt
 cells_of netlist at out (value ∷ values) = (tt, cells_of netlist (at + operands value) (out + 1) values)
 
-pub test_of_jobs : (netlist : Netlist) (rules : List Rule) (patterns : List Pattern) → AreOfJobs (test_works netlist rules patterns)
+pub test_of_jobs : (netlist : Netlist) (rules : List FormModel) (patterns : List Pattern) → AreOfJobs (test_jobs netlist rules patterns)
 test_of_jobs netlist rules patterns = cells_of netlist _ _ (test_values netlist rules patterns)
 
-pub made_few : (netlist : Netlist) (tried : List (Option Choice)) (words : List ℕ) (made : IsMadeFor netlist tried words) → length words ≤ cost_sum (test_works netlist made.rules made.patterns) tried
+pub made_few : (netlist : Netlist) (tried : List (Option JobCoverModel)) (words : List ℕ) (made : IsMadeFor netlist tried words) → length words ≤ cost_sum (test_jobs netlist made.rules made.patterns) tried
 made_few netlist tried words made =
-    words_few netlist made.patterns (test_stock netlist made.rules made.patterns) (test_works netlist made.rules made.patterns) tried words (test_of_jobs netlist made.rules made.patterns) made.trials made.code
+    words_few netlist made.patterns (test_stock netlist made.rules made.patterns) (test_jobs netlist made.rules made.patterns) tried words (test_of_jobs netlist made.rules made.patterns) made.trials made.code

@@ -4,12 +4,12 @@ use Rattle.std.specs.List.{AllByRecursion}
 use Rattle.net_model.specs.declared.hardware.Netlist.{Netlist}
 use Rattle.net_model.specs.Nets.{memory_width, word_width}
 use Rattle.net_model.specs.Patterns.{Pattern}
-use Rattle.net_model.specs.Terms.{Term, word, reg, const, read, un, bin, slice, cat, zext, sext, select}
-use Rattle.form_model.specs.Rules.{Rule}
+use Rattle.net_model.specs.Exprs.{ExprModel, word, reg, const, read, un, bin, slice, cat, zext, sext, select}
+use Rattle.form_model.specs.Forms.{FormModel}
 use Rattle.form_model.specs.Shapes.{is_field}
 use Rattle.form_model.specs.Trees.{is_tree}
 use Rattle.form_model.specs.WideNodes.{wide_below}
-use Rattle.self_test.specs.Cells.{test_temps, test_values, test_works, works_from}
+use Rattle.self_test.specs.Cells.{test_temps, test_values, test_jobs, jobs_from}
 use Rattle.self_test.specs.Trees.{literal, operands, temps_of, tree_from, widths_of}
 use Rattle.self_test.proofs.Inner.{inner_is}
 use Rattle.test_code.specs.Inner.Jobs.{IsCellJob}
@@ -20,7 +20,7 @@ both false b e f = absurd cc
 
 module _ (netlist : Netlist) where
   -- what a candidate's value becomes is a tree
-  pub is_plain : (at : ℕ) (t : Term) → is_tree (tree_from (widths_of netlist) at t) ≡ true
+  pub is_plain : (at : ℕ) (t : ExprModel) → is_tree (tree_from (widths_of netlist) at t) ≡ true
   is_plain at (word w) = refl
   is_plain at (reg r w) = refl
   is_plain at (const w v) = refl
@@ -46,10 +46,10 @@ module _ (netlist : Netlist) where
   is_plain at (select c a b) = refl
 
   -- wherever its operands stand, it may need as many cells
-  same_need : (at : ℕ) (t : Term) → wide_below (memory_width netlist.storages) (tree_from (widths_of netlist) at t) ≡ wide_below (memory_width netlist.storages) (tree_from (widths_of netlist) 0 t)
+  same_need : (at : ℕ) (t : ExprModel) → wide_below (memory_width netlist.storages) (tree_from (widths_of netlist) at t) ≡ wide_below (memory_width netlist.storages) (tree_from (widths_of netlist) 0 t)
   same_need at t = inner_is (widths_of netlist) (memory_width netlist.storages) at t ∙ sym (inner_is (widths_of netlist) (memory_width netlist.storages) 0 t)
 
-  works_plain : (temps at out : ℕ) (values : List Term) → temps_of (widths_of netlist) values ≤ temps → AllByRecursion (IsCellJob (memory_width netlist.storages) temps) (works_from (widths_of netlist) at out values)
+  works_plain : (temps at out : ℕ) (values : List ExprModel) → temps_of (widths_of netlist) values ≤ temps → AllByRecursion (IsCellJob (memory_width netlist.storages) temps) (jobs_from (widths_of netlist) at out values)
   works_plain temps at out [] le = tt
   works_plain temps at out (value ∷ values) le = (
     record {
@@ -63,5 +63,5 @@ module _ (netlist : Netlist) where
   )
 
 -- the jobs of a netlist's self-test
-pub test_plain : (netlist : Netlist) (rules : List Rule) (patterns : List Pattern) → AllByRecursion (IsCellJob (memory_width netlist.storages) (test_temps netlist rules patterns)) (test_works netlist rules patterns)
+pub test_plain : (netlist : Netlist) (rules : List FormModel) (patterns : List Pattern) → AllByRecursion (IsCellJob (memory_width netlist.storages) (test_temps netlist rules patterns)) (test_jobs netlist rules patterns)
 test_plain netlist rules patterns = works_plain netlist (test_temps netlist rules patterns) _ _ (test_values netlist rules patterns) (omega arith)

@@ -5,16 +5,16 @@ use Rattle.rec_bits.specs.Counts.{capped}
 use Rattle.net_model.specs.declared.hardware.Netlist.{Netlist}
 use Rattle.net_model.specs.Patterns.{Pattern}
 use Rattle.net_model.specs.Widths.{WordFits}
-use Rattle.form_model.specs.Covers.{Choice, Stock}
-use Rattle.src_trees.specs.Lowered.{Work}
+use Rattle.form_model.specs.Covers.{JobCoverModel, StockModel}
+use Rattle.src_trees.specs.Lowered.{JobModel}
 use Rattle.test_code.specs.declared.code.TestCode.{TestCode}
 use Rattle.test_code.specs.Tried.{AreTried, AreWordsOf, cost_sum, skipped_count, tested_count}
 
 -- the words of all jobs that have a cover, with how many have one, how many have none, and what
 -- the covers cost together
-pub record IsCodeOf (netlist : Netlist) (patterns : List Pattern) (stock : Stock)
-    (works : List Work) (code : TestCode) : Type 0 where
-  pub tried : List (Option Choice)
+pub record IsCodeOf (netlist : Netlist) (patterns : List Pattern) (stock : StockModel)
+    (works : List JobModel) (code : TestCode) : Type 0 where
+  pub tried : List (Option JobCoverModel)
   pub trials : AreTried stock works tried
   pub tested : code.tested ≡ tested_count tried
   pub skipped : code.skipped ≡ skipped_count tried

@@ -1,4 +1,6 @@
--- What stands in a line.
+-- What stands in a line: what stands before the first byte of a kind and behind it; a number is
+-- decimal digits without leading zeros and lies below 2^64; a name is a letter or `_`, then
+-- letters, digits and `_`, 32 bytes at most.
 use Rattle.std.specs.Prelude.{ℕ, ◌+◌, ◌-◌, ◌*◌, ◌^◌, ◌==◌, ◌&&◌, not, nat_le, if◌then◌else◌, List, [], ◌∷◌, length, Bool, true, false, Option, Some, None, option_map}
 use Rattle.std.specs.List.{list_all}
 use Rattle.lexing.specs.Numbers.{below_2_64}

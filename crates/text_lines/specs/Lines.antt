@@ -1,4 +1,5 @@
--- The lines of a text.
+-- The lines of a text. The lines of a text, each with its LF; what follows the last LF, if
+-- anything does, is a line too.
 use Rattle.std.specs.Prelude.{ℕ, ◌==◌, ◌≡◌, ◌<◌, if◌then◌else◌, List, [], ◌∷◌, ◌++◌, length}
 
 -- a byte before the first line

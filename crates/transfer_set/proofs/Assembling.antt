@@ -7,27 +7,27 @@ use Rattle.net_model.specs.declared.hardware.Netlist.{Netlist}
 use Rattle.net_model.specs.CheckedRules.{KeepsRules}
 use Rattle.net_model.specs.Nets.{counter_of, counter_width, file_place, memory_id}
 use Rattle.net_model.specs.Patterns.{ArePatterns, IsPatternBefore, IsPattern, IsWordOf, Pattern}
-use Rattle.net_model.specs.Texts.{move_text}
-use Rattle.net_model.specs.Transfers.{IsClean, move_at}
+use Rattle.net_model.specs.Texts.{text_of_transfer}
+use Rattle.net_model.specs.Transfers.{IsClean, transfer_at}
 use Rattle.sym_expr.specs.declared.pool.Node.{Node}
 use Rattle.transfer_set.specs.declared.entries.Entry.{Entry}
 use Rattle.transfer_set.specs.declared.row.Row.{Row}
 use Rattle.transfer_set.specs.Entries.{IsAddrKnown, IsWordsOf}
-use Rattle.transfer_set.specs.Inner.Entries.{HaveWords, AreKnown, AreLeft, AreWhole, entry_move, list_if, moves_under, patterns_of}
+use Rattle.transfer_set.specs.Inner.Entries.{HaveWords, AreKnown, AreLeft, AreWhole, entry_transfer, list_if, transfers_under, patterns_of}
 use Rattle.transfer_set.specs.Routes.{IsSet}
-use Rattle.transfer_set.specs.Rows.{AreSorted, AreRowsOf, IsNotAfter, ShowsMove, entries_of, entry_of, row_move, row_pattern, row_patterns}
+use Rattle.transfer_set.specs.Rows.{AreSorted, AreRowsOf, IsNotAfter, ShowsMove, entries_of, entry_of, row_transfer, row_pattern, row_patterns}
 use Rattle.transfer_set.specs.Inner.Sources.{changes}
 use Rattle.transfer_set.specs.Inner.Stepping.{any_step}
 use Rattle.transfer_set.specs.Tables.{IsPatternTable, IsRow}
-use Rattle.transfer_set.specs.TextMarks.{HasPlainNames, IsMoveOf}
+use Rattle.transfer_set.specs.TextMarks.{HasPlainNames, IsTransferOf}
 use Rattle.transfer_set.proofs.Collecting.{held_entries_later, moves_later, whole_later}
 use Rattle.transfer_set.proofs.SetsFound.{keep_found, step_found}
 use Rattle.transfer_set.proofs.Finding.{never}
 use Rattle.transfer_set.proofs.Moved.{all_images, all_listed, all_map, all_moved, images_moved, pairs_map}
 use Rattle.transfer_set.proofs.OnceEach.{never_both, once_held, text_before}
 use Rattle.transfer_set.specs.declared.stepping.Counter.{Counter}
-use Rattle.transfer_set.proofs.TermsOf.{move_terms}
-use Rattle.transfer_set.proofs.TransfersDiffer.{same_move}
+use Rattle.transfer_set.proofs.TermsOf.{move_exprs}
+use Rattle.transfer_set.proofs.TransfersDiffer.{same_transfer}
 
 -- three facts of each
 both_all : {X : Type 0} (P Q R : X → Type 0) (xs : List X) → AllByRecursion P xs → AllByRecursion Q xs → AllByRecursion R xs → AllByRecursion (λ x. P x × Q x × R x) xs
@@ -44,28 +44,28 @@ is_pattern netlist book pool row is =
 
 -- rows of one storage with one text have one transfer
 same_text : (netlist : Netlist) (order : List ℕ) → KeepsRules netlist order → HasPlainNames netlist → (book : Diagrams) (pool : List Node) (a b : Row)
-    → IsRow netlist book pool a → IsRow netlist book pool b → a.storage ≡ b.storage → a.text.items ≡ b.text.items → row_move pool a ≡ row_move pool b
+    → IsRow netlist book pool a → IsRow netlist book pool b → a.storage ≡ b.storage → a.text.items ≡ b.text.items → row_transfer pool a ≡ row_transfer pool b
 same_text netlist order kept plain book pool a b p q same e =
-    same_move netlist order kept plain a.storage (row_move pool a) (row_move pool b)
+    same_transfer netlist order kept plain a.storage (row_transfer pool a) (row_transfer pool b)
     (never pool a.addr a.value) (never pool b.addr b.value) (of_netlist a p) (of_netlist b q)
-    (sym p.told.text ∙ e ∙ q.told.text ∙ ap (λ id. move_text netlist id (row_move pool b)) (sym same))
+    (sym p.told.text ∙ e ∙ q.told.text ∙ ap (λ id. text_of_transfer netlist id (row_transfer pool b)) (sym same))
   where
-    of_netlist : (row : Row) → IsRow netlist book pool row → IsMoveOf netlist (row_move pool row)
+    of_netlist : (row : Row) → IsRow netlist book pool row → IsTransferOf netlist (row_transfer pool row)
     of_netlist row is =
         let list_if = (is.whole is.set.word is.set.fits).0 is.set.holds in
-        subst (IsMoveOf netlist) list_if.gives (move_terms netlist order kept is.set.word row.storage)
+        subst (IsTransferOf netlist) list_if.gives (move_exprs netlist order kept is.set.word row.storage)
 
 module _ (netlist : Netlist) (order : List ℕ) (kept : KeepsRules netlist order) (book : Diagrams) (pool : List Node) (entries : List Entry)
     (held : HaveWords book entries) (known : AreKnown (length pool) entries) (whole : AreWhole netlist pool book entries)
-    (legal : ℕ → Bool) (moves : (n word : ℕ) → word < 2 ^ book.bits → moves_under book pool entries n word ≡ list_if (legal word) (changes (move_at netlist word n)))
+    (legal : ℕ → Bool) (moves : (n word : ℕ) → word < 2 ^ book.bits → transfers_under book pool entries n word ≡ list_if (legal word) (changes (transfer_at netlist word n)))
     (every : (pattern : Pattern) → IsPattern netlist pattern → Contains (patterns_of pool entries) pattern)
     (rows : List Row) (of : AreRowsOf entries rows) (told : All (ShowsMove netlist pool) rows) (ordered : AreSorted rows) where
   abbrev Facts : Entry → Type 0
-  Facts entry = IsSet book entry.set × (IsAddrKnown (length pool) entry.addr × (entry.value < length pool)) × IsWordsOf netlist book.bits entry.storage (entry_move pool entry) (λ word. has_word book entry.set word)
+  Facts entry = IsSet book entry.set × (IsAddrKnown (length pool) entry.addr × (entry.value < length pool)) × IsWordsOf netlist book.bits entry.storage (entry_transfer pool entry) (λ word. has_word book entry.set word)
 
   facts : All (λ (row : Row). Facts (entry_of row)) rows
   facts =
-      let all : AllByRecursion Facts entries = both_all (λ (entry : Entry). IsSet book entry.set) (λ (entry : Entry). IsAddrKnown (length pool) entry.addr × (entry.value < length pool)) (λ (entry : Entry). IsWordsOf netlist book.bits entry.storage (entry_move pool entry) (λ word. has_word book entry.set word)) entries held known whole in
+      let all : AllByRecursion Facts entries = both_all (λ (entry : Entry). IsSet book entry.set) (λ (entry : Entry). IsAddrKnown (length pool) entry.addr × (entry.value < length pool)) (λ (entry : Entry). IsWordsOf netlist book.bits entry.storage (entry_transfer pool entry) (λ word. has_word book entry.set word)) entries held known whole in
       let listed : AllByRecursion Facts (entries_of of.listed) = subst (AllByRecursion Facts) (sym of.same) all in
       all_moved (λ (row : Row). Facts (entry_of row)) of.listed rows of.moved
       (all_listed (λ (row : Row). Facts (entry_of row)) of.listed (all_images entry_of Facts of.listed listed))
@@ -88,8 +88,8 @@ module _ (netlist : Netlist) (order : List ℕ) (kept : KeepsRules netlist order
       → (word : ℕ) → word < 2 ^ book.bits → has_word book (slice_index_or rows i d).set word ≡ true → has_word book (slice_index_or rows j d).set word ≡ true → ⊥
   apart i j d less lt same word fits hi hj =
       let id : ℕ = (slice_index_or rows j d).storage in
-      let held_listed : moves_under book pool (entries_of of.listed) id word ≡ list_if (legal word) (changes (move_at netlist word id)) = ap (λ es. moves_under book pool es id word) of.same ∙ moves id word fits in
-      let few = once_held book pool of.listed rows of.moved id word (legal word) (move_at netlist word id) held_listed in
+      let held_listed : transfers_under book pool (entries_of of.listed) id word ≡ list_if (legal word) (changes (transfer_at netlist word id)) = ap (λ es. transfers_under book pool es id word) of.same ∙ moves id word fits in
+      let few = once_held book pool of.listed rows of.moved id word (legal word) (transfer_at netlist word id) held_listed in
       never_both book rows id word few i j d less lt same hi refl hj
 
   pub once_told : AllPairs (λ p q. p ≢ q) (row_patterns pool rows)
@@ -113,11 +113,11 @@ module _ (netlist : Netlist) (order : List ℕ) (kept : KeepsRules netlist order
           let a = rows_are i d (omega (arith, less, lt)) in
           let b = rows_are j d lt in
           let texts : (slice_index_or rows i d).text.items ≡ (slice_index_or rows j d).text.items → ⊥ = λ e.
-          (let moved : row_move pool (slice_index_or rows i d) ≡ row_move pool (slice_index_or rows j d) =
+          (let moved : row_transfer pool (slice_index_or rows i d) ≡ row_transfer pool (slice_index_or rows j d) =
           same_text netlist order kept plain book pool (slice_index_or rows i d) (slice_index_or rows j d) a b same e in
           let there : IsWordOf netlist (row_pattern pool (slice_index_or rows j d)) b.set.word = (b.whole b.set.word b.set.fits).0 b.set.holds in
           let here : IsWordOf netlist (row_pattern pool (slice_index_or rows i d)) b.set.word =
-          record { clean = there.clean; gives = ap (move_at netlist b.set.word) same ∙ there.gives ∙ sym moved } in
+          record { clean = there.clean; gives = ap (transfer_at netlist b.set.word) same ∙ there.gives ∙ sym moved } in
           apart i j d less lt same b.set.word b.set.fits ((a.whole b.set.word b.set.fits).1 here) b.set.holds) in
           inr (same, rw (sym a.told.text) (rw (sym b.told.text) (text_before (slice_index_or rows i d).text.items (slice_index_or rows j d).text.items later texts)))
 
@@ -129,7 +129,7 @@ module _ (netlist : Netlist) (order : List ℕ) (kept : KeepsRules netlist order
 module _ (netlist : Netlist) (order : List ℕ) (kept : KeepsRules netlist order) (old mid new last : Diagrams) (collected : Extends old mid) (left : Extends mid new) (stepped : Extends new last)
     (pool : List Node) (entries : List Entry) (held : HaveWords mid entries) (known : AreKnown (length pool) entries) (whole : AreWhole netlist pool mid entries)
     (set : ℕ) (within : set < length old.nodes) (clean : (word : ℕ) → word < 2 ^ old.bits → (has_word old set word ≡ true) ↔ IsClean netlist word)
-    (moves : (n word : ℕ) → word < 2 ^ old.bits → moves_under mid pool entries n word ≡ list_if (has_word old set word) (changes (move_at netlist word n)))
+    (moves : (n word : ℕ) → word < 2 ^ old.bits → transfers_under mid pool entries n word ≡ list_if (has_word old set word) (changes (transfer_at netlist word n)))
     (every : (pattern : Pattern) → IsPattern netlist pattern → Contains (patterns_of pool entries) pattern) where
   later : Extends mid last
   later = extends_trans mid new last left stepped
@@ -137,7 +137,7 @@ module _ (netlist : Netlist) (order : List ℕ) (kept : KeepsRules netlist order
   back : (b : ℕ) → b ≡ old.bits → (word : ℕ) → word < 2 ^ b → word < 2 ^ old.bits
   back b e word fits = subst (λ n. word < 2 ^ n) e fits
 
-  moves_in : (book : Diagrams) → Extends mid book → (n word : ℕ) → word < 2 ^ book.bits → moves_under book pool entries n word ≡ list_if (has_word old set word) (changes (move_at netlist word n))
+  moves_in : (book : Diagrams) → Extends mid book → (n word : ℕ) → word < 2 ^ book.bits → transfers_under book pool entries n word ≡ list_if (has_word old set word) (changes (transfer_at netlist word n))
   moves_in book grows n word fits = moves_later mid book grows pool entries held n word ∙ moves n word (back book.bits (grows.bits ∙ collected.bits) word fits)
 
   clean_in : (book : Diagrams) → Extends mid book → (word : ℕ) → word < 2 ^ book.bits → (has_word old set word ≡ true) ↔ IsClean netlist word

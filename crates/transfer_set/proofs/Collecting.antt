@@ -4,14 +4,14 @@ use Rattle.std.proofs.lemmas.List.{append-nil}
 use Rattle.bit_bdd.specs.Diagrams.{Diagrams, has_word, Extends}
 use Rattle.bit_bdd.proofs.CallerLemmas.{same_words}
 use Rattle.net_model.specs.declared.hardware.Netlist.{Netlist}
-use Rattle.net_model.specs.Terms.{Move}
+use Rattle.net_model.specs.Exprs.{TransferModel}
 use Rattle.sym_expr.specs.declared.pool.Node.{Node}
-use Rattle.sym_expr.specs.Pools.{term_at}
+use Rattle.sym_expr.specs.Pools.{expr_of_id}
 use Rattle.transfer_set.specs.declared.route.Route.{Route}
 use Rattle.transfer_set.specs.declared.entries.Entry.{Entry}
-use Rattle.transfer_set.specs.Routes.{exprs_under, terms_under, IsSet, AllSets, AllExprs}
+use Rattle.transfer_set.specs.Routes.{exprs_under, models_under, IsSet, AllSets, AllExprs}
 use Rattle.transfer_set.specs.Entries.{IsAddrKnown, IsWordsOf}
-use Rattle.transfer_set.specs.Inner.Entries.{list_if, each, entry_move, moves_under, HaveWords, AreKnown, AreWhole}
+use Rattle.transfer_set.specs.Inner.Entries.{list_if, each, entry_transfer, transfers_under, HaveWords, AreKnown, AreWhole}
 
 -- ---- sets of a book that grows
 
@@ -35,22 +35,22 @@ pub known_push : (size : ℕ) (entries : List Entry) (x : Entry) → AreKnown si
 known_push size [] x h a v = ((a, v), tt)
 known_push size (y ∷ entries) x h a v = (h.0, known_push size entries x h.1 a v)
 
-pub moves_later : (old new : Diagrams) → Extends old new → (pool : List Node) (entries : List Entry) → HaveWords old entries → (id word : ℕ) → moves_under new pool entries id word ≡ moves_under old pool entries id word
+pub moves_later : (old new : Diagrams) → Extends old new → (pool : List Node) (entries : List Entry) → HaveWords old entries → (id word : ℕ) → transfers_under new pool entries id word ≡ transfers_under old pool entries id word
 moves_later old new e pool [] h id word = refl
 moves_later old new e pool (x ∷ entries) h id word =
     let p = same_words old new e x.set h.0.within word in
     let q = moves_later old new e pool entries h.1 id word in
-    (λ j. list_if ((x.storage == id) && p j) (entry_move pool x ∷ []) ++ q j)
+    (λ j. list_if ((x.storage == id) && p j) (entry_transfer pool x ∷ []) ++ q j)
 
 pub moves_push : (book : Diagrams) (pool : List Node) (entries : List Entry) (x : Entry) (id word : ℕ)
-    → moves_under book pool (entries ++ x ∷ []) id word ≡ moves_under book pool entries id word ++ list_if ((x.storage == id) && has_word book x.set word) (entry_move pool x ∷ [])
-moves_push book pool [] x id word = append-nil (list_if ((x.storage == id) && has_word book x.set word) (entry_move pool x ∷ []))
+    → transfers_under book pool (entries ++ x ∷ []) id word ≡ transfers_under book pool entries id word ++ list_if ((x.storage == id) && has_word book x.set word) (entry_transfer pool x ∷ [])
+moves_push book pool [] x id word = append-nil (list_if ((x.storage == id) && has_word book x.set word) (entry_transfer pool x ∷ []))
 moves_push book pool (y ∷ entries) x id word =
-    ap (λ l. list_if ((y.storage == id) && has_word book y.set word) (entry_move pool y ∷ []) ++ l) (moves_push book pool entries x id word)
-    ∙ sym (append_assoc (list_if ((y.storage == id) && has_word book y.set word) (entry_move pool y ∷ [])) (moves_under book pool entries id word) (list_if ((x.storage == id) && has_word book x.set word) (entry_move pool x ∷ [])))
+    ap (λ l. list_if ((y.storage == id) && has_word book y.set word) (entry_transfer pool y ∷ []) ++ l) (moves_push book pool entries x id word)
+    ∙ sym (append_assoc (list_if ((y.storage == id) && has_word book y.set word) (entry_transfer pool y ∷ [])) (transfers_under book pool entries id word) (list_if ((x.storage == id) && has_word book x.set word) (entry_transfer pool x ∷ [])))
 
 -- sets that hold the same words of the same book's width
-pub words_same : (netlist : Netlist) (bits bits' storage : ℕ) (move : Move) (f g : ℕ → Bool) → bits' ≡ bits → ((word : ℕ) → g word ≡ f word) → IsWordsOf netlist bits storage move f → IsWordsOf netlist bits' storage move g
+pub words_same : (netlist : Netlist) (bits bits' storage : ℕ) (move : TransferModel) (f g : ℕ → Bool) → bits' ≡ bits → ((word : ℕ) → g word ≡ f word) → IsWordsOf netlist bits storage move f → IsWordsOf netlist bits' storage move g
 words_same netlist bits bits' storage move f g eb e w word fits =
     let h = w word (subst (λ b. word < 2 ^ b) eb fits) in
     (λ k. h.0 (sym (e word) ∙ k), λ k. e word ∙ h.1 k)
@@ -58,12 +58,12 @@ words_same netlist bits bits' storage move f g eb e w word fits =
 pub whole_later : (old new : Diagrams) → Extends old new → (netlist : Netlist) (pool : List Node) (entries : List Entry) → HaveWords old entries → AreWhole netlist pool old entries → AreWhole netlist pool new entries
 whole_later old new e netlist pool [] h w = tt
 whole_later old new e netlist pool (x ∷ entries) h w = (
-  words_same netlist old.bits new.bits x.storage (entry_move pool x) (λ word. has_word old x.set word) (λ word. has_word new x.set word) e.bits (λ word. same_words old new e x.set h.0.within word) w.0,
+  words_same netlist old.bits new.bits x.storage (entry_transfer pool x) (λ word. has_word old x.set word) (λ word. has_word new x.set word) e.bits (λ word. same_words old new e x.set h.0.within word) w.0,
   whole_later old new e netlist pool entries h.1 w.1,
 )
 
 pub whole_push : (netlist : Netlist) (pool : List Node) (book : Diagrams) (entries : List Entry) (x : Entry) → AreWhole netlist pool book entries
-    → IsWordsOf netlist book.bits x.storage (entry_move pool x) (λ word. has_word book x.set word) → AreWhole netlist pool book (entries ++ x ∷ [])
+    → IsWordsOf netlist book.bits x.storage (entry_transfer pool x) (λ word. has_word book x.set word) → AreWhole netlist pool book (entries ++ x ∷ [])
 whole_push netlist pool book [] x h w = (w, tt)
 whole_push netlist pool book (y ∷ entries) x h w = (h.0, whole_push netlist pool book entries x h.1 w)
 
@@ -90,27 +90,27 @@ held_later old new e (r ∷ routes) h word =
     let q = held_later old new e routes h.1 word in
     (λ j. (if p j then r.expr ∷ [] else []) ++ q j)
 
-pub terms_later : (old new : Diagrams) → Extends old new → (pool : List Node) (routes : List Route) → AllSets old routes → (word : ℕ) → terms_under new pool routes word ≡ terms_under old pool routes word
-terms_later old new e pool routes h word = ap (map (term_at pool)) (held_later old new e routes h word)
+pub terms_later : (old new : Diagrams) → Extends old new → (pool : List Node) (routes : List Route) → AllSets old routes → (word : ℕ) → models_under new pool routes word ≡ models_under old pool routes word
+terms_later old new e pool routes h word = ap (map (expr_of_id pool)) (held_later old new e routes h word)
 
-terms_step : (book : Diagrams) (pool : List Node) (route : Route) (rest : List ℕ) (word : ℕ) (b : Bool) → map (term_at pool) ((if b then route.expr ∷ [] else []) ++ rest) ≡ list_if b (term_at pool route.expr ∷ []) ++ map (term_at pool) rest
+terms_step : (book : Diagrams) (pool : List Node) (route : Route) (rest : List ℕ) (word : ℕ) (b : Bool) → map (expr_of_id pool) ((if b then route.expr ∷ [] else []) ++ rest) ≡ list_if b (expr_of_id pool route.expr ∷ []) ++ map (expr_of_id pool) rest
 terms_step book pool route rest word true = refl
 terms_step book pool route rest word false = refl
 
 terms_suc : (book : Diagrams) (pool : List Node) (routes : List Route) (i : ℕ) (route : Route) → slice_get routes i ≡ Some route → (word : ℕ)
-    → terms_under book pool (take (suc i) routes) word ≡ terms_under book pool (take i routes) word ++ list_if (has_word book route.set word) (term_at pool route.expr ∷ [])
+    → models_under book pool (take (suc i) routes) word ≡ models_under book pool (take i routes) word ++ list_if (has_word book route.set word) (expr_of_id pool route.expr ∷ [])
 terms_suc book pool [] i route at word = absurd (cc)
 terms_suc book pool (r ∷ routes) zero route at word =
-    terms_step book pool r [] word (has_word book r.set word) ∙ append-nil (list_if (has_word book r.set word) (term_at pool r.expr ∷ []))
-    ∙ (let e : r ≡ route = cc in λ j. list_if (has_word book (e j).set word) (term_at pool (e j).expr ∷ []))
+    terms_step book pool r [] word (has_word book r.set word) ∙ append-nil (list_if (has_word book r.set word) (expr_of_id pool r.expr ∷ []))
+    ∙ (let e : r ≡ route = cc in λ j. list_if (has_word book (e j).set word) (expr_of_id pool (e j).expr ∷ []))
 terms_suc book pool (r ∷ routes) (suc i) route at word =
     terms_step book pool r (exprs_under book (take (suc i) routes) word) word (has_word book r.set word)
-    ∙ ap (λ l. list_if (has_word book r.set word) (term_at pool r.expr ∷ []) ++ l) (terms_suc book pool routes i route at word)
-    ∙ sym (append_assoc (list_if (has_word book r.set word) (term_at pool r.expr ∷ [])) (terms_under book pool (take i routes) word) (list_if (has_word book route.set word) (term_at pool route.expr ∷ [])))
-    ∙ ap (λ l. l ++ list_if (has_word book route.set word) (term_at pool route.expr ∷ [])) (sym (terms_step book pool r (exprs_under book (take i routes) word) word (has_word book r.set word)))
+    ∙ ap (λ l. list_if (has_word book r.set word) (expr_of_id pool r.expr ∷ []) ++ l) (terms_suc book pool routes i route at word)
+    ∙ sym (append_assoc (list_if (has_word book r.set word) (expr_of_id pool r.expr ∷ [])) (models_under book pool (take i routes) word) (list_if (has_word book route.set word) (expr_of_id pool route.expr ∷ [])))
+    ∙ ap (λ l. l ++ list_if (has_word book route.set word) (expr_of_id pool route.expr ∷ [])) (sym (terms_step book pool r (exprs_under book (take i routes) word) word (has_word book r.set word)))
 
 pub terms_more : (book : Diagrams) (pool : List Node) (routes : List Route) (i : ℕ) (route : Route) → slice_get routes i ≡ Some route → (word : ℕ)
-    → terms_under book pool (take (i + 1) routes) word ≡ terms_under book pool (take i routes) word ++ list_if (has_word book route.set word) (term_at pool route.expr ∷ [])
+    → models_under book pool (take (i + 1) routes) word ≡ models_under book pool (take i routes) word ++ list_if (has_word book route.set word) (expr_of_id pool route.expr ∷ [])
 terms_more book pool routes i route at word = rw (add-one i) (terms_suc book pool routes i route at word)
 
 -- ---- a turn of a loop over routes

@@ -13,16 +13,16 @@ use Rattle.net_model.specs.declared.hardware.Storage.{Storage}
 use Rattle.net_model.specs.declared.hardware.Storage.TheVariants.{Register, Memory, File}
 use Rattle.net_model.specs.declared.hardware.Cells.{Cells}
 use Rattle.net_model.specs.Symbolic.{no_state, sym_of}
-use Rattle.net_model.specs.Terms.{Term, Move, keep, write, write_at}
+use Rattle.net_model.specs.Exprs.{ExprModel, TransferModel, keep, write, write_at}
 use Rattle.net_model.specs.Clock.{is_enabled}
-use Rattle.net_model.specs.Transfers.{move_at, same_reg, array_move, storage_move, transfer_of}
+use Rattle.net_model.specs.Transfers.{transfer_at, same_reg, array_transfer, storage_transfer, transfer_of}
 use Rattle.net_model.specs.Value.{value_of}
 use Rattle.net_model.specs.Widths.{ArrayFits, StorageFits}
 use Rattle.sym_expr.specs.declared.pool.Node.{Node}
-use Rattle.sym_expr.specs.Pools.{term_at, IsOneEach}
+use Rattle.sym_expr.specs.Pools.{expr_of_id, IsOneEach}
 use Rattle.transfer_set.specs.declared.route.Route.{Route}
-use Rattle.transfer_set.specs.Routes.{RouteIs, terms_under, routes_at}
-use Rattle.transfer_set.specs.Inner.Entries.{ArePairs, AreWrites, each, list_if, memory_moves, register_moves}
+use Rattle.transfer_set.specs.Routes.{RouteIs, models_under, routes_at}
+use Rattle.transfer_set.specs.Inner.Entries.{ArePairs, AreWrites, each, list_if, memory_transfers, register_transfers}
 use Rattle.transfer_set.specs.Inner.Sources.{IsArray, memory, file, IsOnSet, IsSource, IsStorageKnown, IsWhenKnown, changes, when_set}
 use Rattle.transfer_set.proofs.Collecting.{sets_later, terms_later}
 use Rattle.transfer_set.proofs.Exact.{exact}
@@ -77,7 +77,7 @@ array_fits : (netlist : Netlist) (cells : Cells) (storage : Storage) → IsArray
 array_fits netlist cells _ memory h = h
 array_fits netlist cells _ file h = h
 
-array_moves : (t : ℕ → Term) (u : ℕ → ℕ) (id : ℕ) (cells : Cells) (storage : Storage) → IsArray cells storage → storage_move t u id storage ≡ array_move t u cells
+array_moves : (t : ℕ → ExprModel) (u : ℕ → ℕ) (id : ℕ) (cells : Cells) (storage : Storage) → IsArray cells storage → storage_transfer t u id storage ≡ array_transfer t u cells
 array_moves t u id cells _ memory = refl
 array_moves t u id cells _ file = refl
 
@@ -94,7 +94,7 @@ module _ (netlist : Netlist) (book : Diagrams) (pool : List Node) (controls : Co
     on : IsOnSet netlist book (when_set controls.bits when) when
     on = register_known.1
 
-    register_is : (word : ℕ) → move_at netlist word id ≡ (if is_enabled (value_of netlist no_state word) when then (if same_reg (sym_of netlist word input) id then keep else write (sym_of netlist word input)) else keep)
+    register_is : (word : ℕ) → transfer_at netlist word id ≡ (if is_enabled (value_of netlist no_state word) when then (if same_reg (sym_of netlist word input) id then keep else write (sym_of netlist word input)) else keep)
     register_is word = ap (transfer_of netlist word id) at
 
     pub register_whole : AreWrites netlist pool book id (when_set controls.bits when) (routes_at nets input)
@@ -107,33 +107,33 @@ module _ (netlist : Netlist) (book : Diagrams) (pool : List Node) (controls : Co
             gives = register_is word
                 ∙ ap (λ o. if o then (if same_reg (sym_of netlist word input) id then keep else write (sym_of netlist word input)) else keep) (sym (on.words word fits) ∙ b.0)
                 ∙ ap (λ t. if same_reg t id then keep else write t) (sym r.1)
-                ∙ ap (λ s. if s then keep else write (term_at pool route.expr)) other;
+                ∙ ap (λ s. if s then keep else write (expr_of_id pool route.expr)) other;
           },
       λ q. back (is_enabled (value_of netlist no_state word) when) (same_reg (sym_of netlist word input) id) (on.words word fits) ((source.legal word fits).1 q.clean) (sym (register_is word) ∙ q.gives),
     )
       where
         back : (o s : Bool) → has_word book (when_set controls.bits when) word ≡ o → has_word book controls.legal word ≡ true
-            → (if o then (if s then keep else write (sym_of netlist word input)) else keep) ≡ write (term_at pool route.expr)
+            → (if o then (if s then keep else write (sym_of netlist word input)) else keep) ≡ write (expr_of_id pool route.expr)
             → (has_word book (when_set controls.bits when) word && has_word book route.set word) ≡ true
         back true true eo l e = absurd (cc)
         back true false eo l e =
-            let t : sym_of netlist word input ≡ term_at pool route.expr = cc in
+            let t : sym_of netlist word input ≡ expr_of_id pool route.expr = cc in
             let h = (route_is input fit.0.0 place route there word fits).1 (l, sym t) in
             (λ j. eo j && h j)
         back false s eo l e = absurd (cc)
 
     pub register_gives : (n word : ℕ) → word < 2 ^ book.bits
-        → list_if ((id == n) && has_word book (when_set controls.bits when) word) (each (register_moves id) (terms_under book pool (routes_at nets input) word))
-        ≡ list_if ((id == n) && has_word book controls.legal word) (changes (move_at netlist word id))
+        → list_if ((id == n) && has_word book (when_set controls.bits when) word) (each (register_transfers id) (models_under book pool (routes_at nets input) word))
+        ≡ list_if ((id == n) && has_word book controls.legal word) (changes (transfer_at netlist word id))
     register_gives n word fits =
         (let o = on.words word fits in
         let f = source.routes.gives input fit.0.0 word fits in
-        λ j. list_if ((id == n) && o j) (each (register_moves id) (f j)))
+        λ j. list_if ((id == n) && o j) (each (register_transfers id) (f j)))
         ∙ by (id == n) (is_enabled (value_of netlist no_state word) when) (has_word book controls.legal word) (same_reg (sym_of netlist word input) id) refl
         ∙ ap (λ m. list_if ((id == n) && has_word book controls.legal word) (changes m)) (sym (register_is word))
       where
         by : (k o l s : Bool) → same_reg (sym_of netlist word input) id ≡ s
-            → list_if (k && o) (each (register_moves id) (if l then sym_of netlist word input ∷ [] else []))
+            → list_if (k && o) (each (register_transfers id) (if l then sym_of netlist word input ∷ [] else []))
             ≡ list_if (k && l) (changes (if o then (if same_reg (sym_of netlist word input) id then keep else write (sym_of netlist word input)) else keep))
         by false o l s e = refl
         by true false true s e = refl
@@ -152,7 +152,7 @@ module _ (netlist : Netlist) (book : Diagrams) (pool : List Node) (controls : Co
     on_memory : IsOnSet netlist book (when_set controls.bits cells.when) cells.when
     on_memory = memory_known.1
 
-    memory_is : (word : ℕ) → move_at netlist word id ≡ (if is_enabled (value_of netlist no_state word) cells.when then write_at (sym_of netlist word cells.addr) (sym_of netlist word cells.value) else keep)
+    memory_is : (word : ℕ) → transfer_at netlist word id ≡ (if is_enabled (value_of netlist no_state word) cells.when then write_at (sym_of netlist word cells.addr) (sym_of netlist word cells.value) else keep)
     memory_is word = ap (transfer_of netlist word id) at ∙ array_moves (sym_of netlist word) (value_of netlist no_state word) id cells storage has
 
     pub memory_whole : ArePairs netlist pool book id (when_set controls.bits cells.when) (routes_at nets cells.addr) (routes_at nets cells.value)
@@ -172,34 +172,34 @@ module _ (netlist : Netlist) (book : Diagrams) (pool : List Node) (controls : Co
     )
       where
         back : (o : Bool) → has_word book (when_set controls.bits cells.when) word ≡ o → has_word book controls.legal word ≡ true
-            → (if o then write_at (sym_of netlist word cells.addr) (sym_of netlist word cells.value) else keep) ≡ write_at (term_at pool a.expr) (term_at pool v.expr)
+            → (if o then write_at (sym_of netlist word cells.addr) (sym_of netlist word cells.value) else keep) ≡ write_at (expr_of_id pool a.expr) (expr_of_id pool v.expr)
             → ((has_word book (when_set controls.bits cells.when) word && has_word book a.set word) && has_word book v.set word) ≡ true
         back true eo l e =
-            let f : sym_of netlist word cells.addr ≡ term_at pool a.expr = cc in
-            let g : sym_of netlist word cells.value ≡ term_at pool v.expr = cc in
+            let f : sym_of netlist word cells.addr ≡ expr_of_id pool a.expr = cc in
+            let g : sym_of netlist word cells.value ≡ expr_of_id pool v.expr = cc in
             let h = (route_is cells.addr fit_array.1.0 place a there word fits).1 (l, sym f) in
             let k = (route_is cells.value fit_array.0.0 i v here word fits).1 (l, sym g) in
             (λ j. (eo j && h j) && k j)
         back false eo l e = absurd (cc)
 
     pub memory_gives : (n word : ℕ) → word < 2 ^ book.bits
-        → list_if ((id == n) && has_word book (when_set controls.bits cells.when) word) (each (λ (a : Term). each (memory_moves a) (terms_under book pool (routes_at nets cells.value) word)) (terms_under book pool (routes_at nets cells.addr) word))
-        ≡ list_if ((id == n) && has_word book controls.legal word) (changes (move_at netlist word id))
+        → list_if ((id == n) && has_word book (when_set controls.bits cells.when) word) (each (λ (a : ExprModel). each (memory_transfers a) (models_under book pool (routes_at nets cells.value) word)) (models_under book pool (routes_at nets cells.addr) word))
+        ≡ list_if ((id == n) && has_word book controls.legal word) (changes (transfer_at netlist word id))
     memory_gives n word fits =
         (let o = on_memory.words word fits in
         let f = source.routes.gives cells.addr fit_array.1.0 word fits in
         let g = source.routes.gives cells.value fit_array.0.0 word fits in
-        λ j. list_if ((id == n) && o j) (each (λ (a : Term). each (memory_moves a) (g j)) (f j)))
+        λ j. list_if ((id == n) && o j) (each (λ (a : ExprModel). each (memory_transfers a) (g j)) (f j)))
         ∙ by (id == n) (is_enabled (value_of netlist no_state word) cells.when) (has_word book controls.legal word)
         ∙ ap (λ m. list_if ((id == n) && has_word book controls.legal word) (changes m)) (sym (memory_is word))
       where
-        f : Term
+        f : ExprModel
         f = sym_of netlist word cells.addr
 
-        g : Term
+        g : ExprModel
         g = sym_of netlist word cells.value
 
-        by : (k o l : Bool) → list_if (k && o) (each (λ (a : Term). each (memory_moves a) (if l then sym_of netlist word cells.value ∷ [] else [])) (if l then sym_of netlist word cells.addr ∷ [] else []))
+        by : (k o l : Bool) → list_if (k && o) (each (λ (a : ExprModel). each (memory_transfers a) (if l then sym_of netlist word cells.value ∷ [] else [])) (if l then sym_of netlist word cells.addr ∷ [] else []))
             ≡ list_if (k && l) (changes (if o then write_at (sym_of netlist word cells.addr) (sym_of netlist word cells.value) else keep))
         by true true true = refl
         by true true false = refl
@@ -227,16 +227,16 @@ slice_get-none (x ∷ xs) zero h = absurd (omega (arith, h))
 slice_get-none (x ∷ xs) (suc n) h = slice_get-none xs n (omega (arith, h))
 
 -- past the last storage nothing changes
-pub past : (netlist : Netlist) (word n i : ℕ) (l : Bool) → length netlist.storages ≤ i → list_if (nat_lt n i && l) (changes (move_at netlist word n)) ≡ list_if l (changes (move_at netlist word n))
+pub past : (netlist : Netlist) (word n i : ℕ) (l : Bool) → length netlist.storages ≤ i → list_if (nat_lt n i && l) (changes (transfer_at netlist word n)) ≡ list_if l (changes (transfer_at netlist word n))
 past netlist word n i l long = by (nat_lt n i) refl
   where
-    none : (l : Bool) → list_if {X = Move} l [] ≡ []
+    none : (l : Bool) → list_if {X = TransferModel} l [] ≡ []
     none true = refl
     none false = refl
 
-    gone : length netlist.storages ≤ n → changes (move_at netlist word n) ≡ []
+    gone : length netlist.storages ≤ n → changes (transfer_at netlist word n) ≡ []
     gone h = ap (λ s. changes (transfer_of netlist word n s)) (slice_get-none netlist.storages n h)
 
-    by : (b : Bool) → nat_lt n i ≡ b → list_if (b && l) (changes (move_at netlist word n)) ≡ list_if l (changes (move_at netlist word n))
+    by : (b : Bool) → nat_lt n i ≡ b → list_if (b && l) (changes (transfer_at netlist word n)) ≡ list_if l (changes (transfer_at netlist word n))
     by true e = refl
     by false e = (let f = ltb-false n i e in sym (ap (λ m. list_if l m) (gone (omega (arith, f, long))) ∙ none l))

@@ -4,11 +4,11 @@ use Rattle.std.proofs.lemmas.Bool.{eqb-true}
 use Rattle.std.proofs.lemmas.List.{get_or_append_left, get_or_push, length_push}
 use Rattle.bit_bdd.specs.Diagrams.{Diagrams, Extends, has_word}
 use Rattle.bit_bdd.proofs.CallerLemmas.{same_words}
-use Rattle.net_model.specs.Terms.{Move, keep, write, write_at}
+use Rattle.net_model.specs.Exprs.{TransferModel, keep, write, write_at}
 use Rattle.sym_expr.specs.declared.pool.Node.{Node}
 use Rattle.transfer_set.specs.declared.entries.Entry.{Entry}
 use Rattle.transfer_set.specs.Routes.{IsSet}
-use Rattle.transfer_set.specs.Inner.Entries.{HaveWords, AreLeft, entry_move, list_if, keeps_all, moves_under}
+use Rattle.transfer_set.specs.Inner.Entries.{HaveWords, AreLeft, entry_transfer, list_if, keeps_all, transfers_under}
 use Rattle.transfer_set.specs.Inner.Sources.{changes}
 
 pub entry_at : (book : Diagrams) (entries : List Entry) (i : ℕ) (entry : Entry) → slice_get entries i ≡ Some entry → HaveWords book entries → IsSet book entry.set
@@ -46,25 +46,25 @@ keeps_more book entries i entry at storage word legal left now one el eo en =
 -- ---- what is left
 
 -- whether a list of transfers is empty
-abbrev pub is_none : List Move → Bool
+abbrev pub is_none : List TransferModel → Bool
 is_none [] = true
 is_none (m ∷ ms) = false
 
 -- no set of the storage's transfers has the word where none of its transfers is held
-pub none_held : (book : Diagrams) (pool : List Node) (entries : List Entry) (storage word : ℕ) → keeps_all book entries storage word ≡ is_none (moves_under book pool entries storage word)
+pub none_held : (book : Diagrams) (pool : List Node) (entries : List Entry) (storage word : ℕ) → keeps_all book entries storage word ≡ is_none (transfers_under book pool entries storage word)
 none_held book pool [] storage word = refl
 none_held book pool (x ∷ entries) storage word = by ((x.storage == storage) && has_word book x.set word) (none_held book pool entries storage word)
   where
-    by : (b : Bool) → keeps_all book entries storage word ≡ is_none (moves_under book pool entries storage word)
-        → (not b && keeps_all book entries storage word) ≡ is_none (list_if b (entry_move pool x ∷ []) ++ moves_under book pool entries storage word)
+    by : (b : Bool) → keeps_all book entries storage word ≡ is_none (transfers_under book pool entries storage word)
+        → (not b && keeps_all book entries storage word) ≡ is_none (list_if b (entry_transfer pool x ∷ []) ++ transfers_under book pool entries storage word)
     by true e = refl
     by false e = e
 
 -- the words that are left are those under which the storage keeps
-pub keeps_when : (m : Move) (l k : Bool) (held : List Move) → held ≡ list_if l (changes m) → k ≡ is_none held → ((l && k) ≡ true) ↔ ((l ≡ true) × (m ≡ keep))
+pub keeps_when : (m : TransferModel) (l k : Bool) (held : List TransferModel) → held ≡ list_if l (changes m) → k ≡ is_none held → ((l && k) ≡ true) ↔ ((l ≡ true) × (m ≡ keep))
 keeps_when m true k held is e = (λ q. (refl, only m (sym (ap is_none is) ∙ sym e ∙ q)), λ q. e ∙ ap is_none (is ∙ ap changes q.1))
   where
-    only : (m : Move) → is_none (changes m) ≡ true → m ≡ keep
+    only : (m : TransferModel) → is_none (changes m) ≡ true → m ≡ keep
     only keep q = refl
     only (write t) q = absurd (true≢false (sym q))
     only (write_at a t) q = absurd (true≢false (sym q))

@@ -11,9 +11,9 @@ use Rattle.std.proofs.lemmas.List.Sums.{sum_by-cons}
 use Rattle.std.proofs.lemmas.List.Sorted.{sum_by-IsPermutation}
 use Rattle.bit_bdd.specs.Diagrams.{Diagrams, has_word}
 use Rattle.net_model.specs.Patterns.{IsTextBefore}
-use Rattle.net_model.specs.Terms.{Move, keep, write, write_at}
+use Rattle.net_model.specs.Exprs.{TransferModel, keep, write, write_at}
 use Rattle.sym_expr.specs.declared.pool.Node.{Node}
-use Rattle.transfer_set.specs.Inner.Entries.{entry_move, list_if, moves_under}
+use Rattle.transfer_set.specs.Inner.Entries.{entry_transfer, list_if, transfers_under}
 use Rattle.transfer_set.specs.Rows.{entries_of, entry_of}
 use Rattle.transfer_set.specs.Inner.Sources.{changes}
 use Rattle.transfer_set.specs.declared.row.Row.{Row}
@@ -23,34 +23,34 @@ use Rattle.transfer_set.proofs.Moved.{two_count}
 abbrev pub counts : Diagrams → ℕ → ℕ → Row → ℕ
 counts book id word row = if (row.storage == id) && has_word book row.set word then 1 else 0
 
-held_count : (book : Diagrams) (pool : List Node) (rows : List Row) (id word : ℕ) → length (moves_under book pool (entries_of rows) id word) ≡ sum_by (counts book id word) rows
+held_count : (book : Diagrams) (pool : List Node) (rows : List Row) (id word : ℕ) → length (transfers_under book pool (entries_of rows) id word) ≡ sum_by (counts book id word) rows
 held_count book pool [] id word = refl
 held_count book pool (row ∷ rows) id word =
-    by (entry_move pool (entry_of row)) ((row.storage == id) && has_word book row.set word) (held_count book pool rows id word)
+    by (entry_transfer pool (entry_of row)) ((row.storage == id) && has_word book row.set word) (held_count book pool rows id word)
     ∙ sym (sum_by-cons (counts book id word) row rows)
   where
-    by : (m : Move) (b : Bool) → length (moves_under book pool (entries_of rows) id word) ≡ sum_by (counts book id word) rows
-        → length (list_if b (m ∷ []) ++ moves_under book pool (entries_of rows) id word) ≡ (if b then 1 else 0) + sum_by (counts book id word) rows
+    by : (m : TransferModel) (b : Bool) → length (transfers_under book pool (entries_of rows) id word) ≡ sum_by (counts book id word) rows
+        → length (list_if b (m ∷ []) ++ transfers_under book pool (entries_of rows) id word) ≡ (if b then 1 else 0) + sum_by (counts book id word) rows
     by m true e = omega (arith, e)
     by m false e = omega (arith, e)
 
-few_changes : (m : Move) → length (changes m) ≤ 1
+few_changes : (m : TransferModel) → length (changes m) ≤ 1
 few_changes keep = omega arith
 few_changes (write e) = omega arith
 few_changes (write_at a e) = omega arith
 
-few_given : (l : Bool) (m : Move) → length (list_if l (changes m)) ≤ 1
+few_given : (l : Bool) (m : TransferModel) → length (list_if l (changes m)) ≤ 1
 few_given true m = few_changes m
 few_given false m = omega arith
 
 -- at most one of a storage's rows has the word
-pub once_held : (book : Diagrams) (pool : List Node) (listed rows : List Row) → IsPermutation listed rows → (id word : ℕ) (l : Bool) (m : Move)
-    → moves_under book pool (entries_of listed) id word ≡ list_if l (changes m) → sum_by (counts book id word) rows ≤ 1
+pub once_held : (book : Diagrams) (pool : List Node) (listed rows : List Row) → IsPermutation listed rows → (id word : ℕ) (l : Bool) (m : TransferModel)
+    → transfers_under book pool (entries_of listed) id word ≡ list_if l (changes m) → sum_by (counts book id word) rows ≤ 1
 once_held book pool listed rows p id word l m e =
     let few = few_given l m in
     let same = sum_by-IsPermutation (counts book id word) listed rows p in
     let count = held_count book pool listed id word in
-    let long : length (moves_under book pool (entries_of listed) id word) ≡ length (list_if l (changes m)) = ap length e in
+    let long : length (transfers_under book pool (entries_of listed) id word) ≡ length (list_if l (changes m)) = ap length e in
     omega (arith, few, same, count, long)
 
 -- so two rows of a storage don't have it

@@ -4,7 +4,7 @@ use Rattle.std.specs.Prelude.{AllPairs, Contains}
 use Rattle.std.proofs.lemmas.List.Elements.{All-contains}
 use Rattle.net_model.specs.declared.hardware.Netlist.{Netlist}
 use Rattle.net_model.specs.Patterns.{ArePatterns, IsPatternBefore, IsPattern, IsTextBefore, Pattern}
-use Rattle.net_model.specs.Texts.{move_text}
+use Rattle.net_model.specs.Texts.{text_of_transfer}
 
 -- ---- the order of patterns goes one way
 
@@ -21,7 +21,7 @@ pub one_way : (netlist : Netlist) (p q : Pattern) → IsPatternBefore netlist p 
 one_way netlist p q (inl h) (inl k) = omega arith
 one_way netlist p q (inl h) (inr k) = let e = k.0 in omega arith
 one_way netlist p q (inr h) (inl k) = let e = h.0 in omega arith
-one_way netlist p q (inr h) (inr k) = text_one_way (move_text netlist p.storage p.move) (move_text netlist q.storage q.move) h.1 k.1
+one_way netlist p q (inr h) (inr k) = text_one_way (text_of_transfer netlist p.storage p.move) (text_of_transfer netlist q.storage q.move) h.1 k.1
 
 -- ---- two lists in such an order that have the same elements are one
 

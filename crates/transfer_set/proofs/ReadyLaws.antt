@@ -7,19 +7,19 @@ use Rattle.std.proofs.lemmas.Option.{slice_get_within, get_or_from_slice_get}
 use Rattle.bit_bdd.specs.Diagrams.{Diagrams, Extends, has_word}
 use Rattle.bit_bdd.proofs.CallerLemmas.{same_words, still_within}
 use Rattle.net_model.specs.declared.hardware.Netlist.{Netlist}
-use Rattle.net_model.specs.Fields.{move_fields}
+use Rattle.net_model.specs.Fields.{transfer_fields}
 use Rattle.net_model.specs.Patterns.{ArePatterns, IsPattern, IsWordOf, Pattern}
-use Rattle.net_model.specs.Terms.{Move, write, write_at}
-use Rattle.net_model.specs.Texts.{move_text}
+use Rattle.net_model.specs.Exprs.{TransferModel, write, write_at}
+use Rattle.net_model.specs.Texts.{text_of_transfer}
 use Rattle.net_model.specs.Transfers.{IsClean, Keeps, StepsOn}
 use Rattle.sym_expr.specs.declared.pool.Node.{Node}
-use Rattle.sym_expr.specs.Pools.{Grows, term_at}
+use Rattle.sym_expr.specs.Pools.{Grows, expr_of_id}
 use Rattle.sym_expr.proofs.CallerLemmas.{grows_refl, same_term}
-use Rattle.transfer_set.specs.Entries.{IsAddrKnown, ids_move}
+use Rattle.transfer_set.specs.Entries.{IsAddrKnown, ids_transfer}
 use Rattle.transfer_set.specs.Ready.{IsReady}
-use Rattle.transfer_set.specs.Rows.{row_move, row_pattern, row_patterns}
+use Rattle.transfer_set.specs.Rows.{row_transfer, row_pattern, row_patterns}
 use Rattle.transfer_set.specs.Sets.{IsKeepSet, IsStepSet}
-use Rattle.transfer_set.specs.Tables.{Table, IsPatternTable, IsRow}
+use Rattle.transfer_set.specs.Tables.{PatternTable, IsPatternTable, IsRow}
 use Rattle.transfer_set.specs.declared.row.Row.{Row}
 use Rattle.transfer_set.proofs.Collecting.{set_later}
 
@@ -48,23 +48,23 @@ module _ (netlist : Netlist) (old new : Diagrams) (grows : Extends old new) wher
     known_later (Some addr) a = omega (arith, a, grown.longer)
 
     -- ids of the old pool say the same transfer
-    same_move : (addr : Option ℕ) (value : ℕ) → IsAddrKnown (length pool) addr → value < length pool → ids_move more addr value ≡ ids_move pool addr value
+    same_move : (addr : Option ℕ) (value : ℕ) → IsAddrKnown (length pool) addr → value < length pool → ids_transfer more addr value ≡ ids_transfer pool addr value
     same_move None value a v = ap write (same_term pool more grown value v)
     same_move (Some addr) value a v =
-        let p : term_at more addr ≡ term_at pool addr = same_term pool more grown addr a in
-        let q : term_at more value ≡ term_at pool value = same_term pool more grown value v in
+        let p : expr_of_id more addr ≡ expr_of_id pool addr = same_term pool more grown addr a in
+        let q : expr_of_id more value ≡ expr_of_id pool value = same_term pool more grown value v in
         (λ j. write_at (p j) (q j))
 
     row_later : (row : Row) → IsRow netlist old pool row → IsRow netlist new more row
     row_later row h =
-        let m : row_move more row ≡ row_move pool row = same_move row.addr row.value h.addr h.value in
+        let m : row_transfer more row ≡ row_transfer pool row = same_move row.addr row.value h.addr h.value in
         record {
-          told = record { text = h.told.text ∙ ap (move_text netlist row.storage) (sym m); fields = h.told.fields ∙ ap move_fields (sym m) };
+          told = record { text = h.told.text ∙ ap (text_of_transfer netlist row.storage) (sym m); fields = h.told.fields ∙ ap transfer_fields (sym m) };
           addr = known_later row.addr h.addr;
           value = omega (arith, h.value, grown.longer);
           set = set_later old new grows row.set h.set;
           whole = λ word f.
-              subst (λ (move : Move). (has_word new row.set word ≡ true) ↔ IsWordOf netlist (record { storage = row.storage; move = move }) word) (sym m)
+              subst (λ (move : TransferModel). (has_word new row.set word ≡ true) ↔ IsWordOf netlist (record { storage = row.storage; move = move }) word) (sym m)
               (along (IsWordOf netlist (row_pattern pool row) word) row.set word h.set.within (h.whole word (fits_old word f)));
         }
 
@@ -72,11 +72,11 @@ module _ (netlist : Netlist) (old new : Diagrams) (grows : Extends old new) wher
     same_patterns [] h = refl
     same_patterns (row ∷ rows) h =
         let first : IsRow netlist old pool row = h 0 row (omega arith) in
-        let m : row_move more row ≡ row_move pool row = same_move row.addr row.value first.addr first.value in
+        let m : row_transfer more row ≡ row_transfer pool row = same_move row.addr row.value first.addr first.value in
         let later : row_patterns more rows ≡ row_patterns pool rows = same_patterns rows (λ i d lt. h (suc i) d (omega (arith, lt))) in
         (λ j. let p : Pattern = record { storage = row.storage; move = m j } in p ∷ later j)
 
-    pub table_later : (table : Table) → IsPatternTable netlist old pool table → IsPatternTable netlist new more table
+    pub table_later : (table : PatternTable) → IsPatternTable netlist old pool table → IsPatternTable netlist new more table
     table_later table h =
         let same : row_patterns pool table.rows ≡ row_patterns more table.rows = sym (same_patterns table.rows h.rows) in
         record {
@@ -94,18 +94,18 @@ module _ (netlist : Netlist) (old new : Diagrams) (grows : Extends old new) wher
         }
 
 -- it holds in each extension of the book and each growth of the pool
-pub stays_ready : (netlist : Netlist) (old new : Diagrams) (pool more : List Node) (table : Table) → Extends old new → Grows pool more → IsReady netlist old pool table → IsReady netlist new more table
+pub stays_ready : (netlist : Netlist) (old new : Diagrams) (pool more : List Node) (table : PatternTable) → Extends old new → Grows pool more → IsReady netlist old pool table → IsReady netlist new more table
 stays_ready netlist old new pool more table grows grown r = record {
   patterns = table_later netlist old new grows pool more grown table r.patterns;
   bits = grows.bits ∙ r.bits;
 }
 
-pub ready_later : (netlist : Netlist) (old new : Diagrams) (pool : List Node) (table : Table) → Extends old new → IsReady netlist old pool table → IsReady netlist new pool table
+pub ready_later : (netlist : Netlist) (old new : Diagrams) (pool : List Node) (table : PatternTable) → Extends old new → IsReady netlist old pool table → IsReady netlist new pool table
 ready_later netlist old new pool table grows r = stays_ready netlist old new pool pool table grows (grows_refl pool) r
 
 -- ---- what is looked up
 
-module _ (netlist : Netlist) (book : Diagrams) (pool : List Node) (table : Table) (r : IsReady netlist book pool table) where
+module _ (netlist : Netlist) (book : Diagrams) (pool : List Node) (table : PatternTable) (r : IsReady netlist book pool table) where
   -- the row of a number is a pattern's
   pub row_at : (i : ℕ) (row : Row) → slice_get table.rows i ≡ Some row → IsRow netlist book pool row
   row_at i row e =

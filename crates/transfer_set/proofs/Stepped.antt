@@ -5,14 +5,14 @@ use Rattle.std.proofs.lemmas.Bool.{eqb-true, eq-eqb}
 use Rattle.rec_bits.proofs.Booleans.{both}
 use Rattle.rec_bits.specs.declared.operator.Op2.TheVariants.{Add}
 use Rattle.bit_bdd.specs.Diagrams.{Diagrams, has_word}
-use Rattle.net_model.specs.Terms.{Move, Term, keep, write, write_at, reg, const, bin, next_of, swapped_next_of}
+use Rattle.net_model.specs.Exprs.{TransferModel, ExprModel, keep, write, write_at, reg, const, bin, next_of, swapped_next_of}
 use Rattle.sym_expr.specs.declared.pool.Node.{Node}
 use Rattle.transfer_set.specs.declared.entries.Entry.{Entry}
 use Rattle.transfer_set.specs.declared.stepping.Counter.{Counter}
-use Rattle.transfer_set.specs.Inner.Entries.{AreKnown, entry_move, list_if, moves_under}
+use Rattle.transfer_set.specs.Inner.Entries.{AreKnown, entry_transfer, list_if, transfers_under}
 use Rattle.transfer_set.specs.Inner.Sources.{changes}
 use Rattle.transfer_set.specs.Stepping.{is_next, is_one, is_reg}
-use Rattle.transfer_set.specs.Inner.Stepping.{any_step, entry_steps, move_steps}
+use Rattle.transfer_set.specs.Inner.Stepping.{any_step, entry_steps, transfer_steps}
 
 or_assoc : (a b c : Bool) → (a || b) || c ≡ (a || (b || c))
 or_assoc true b c = refl
@@ -57,17 +57,17 @@ any_append p (x ∷ xs) ys = ap (λ b. p x || b) (any_append p xs ys) ∙ sym (o
 
 -- a transfer that steps has a word where it is one of the register's transfers under the word
 pub any_moves : (book : Diagrams) (pool : List Node) (counter : Counter) (word : ℕ) (entries : List Entry)
-    → any_step book pool counter entries word ≡ list_any (move_steps counter) (moves_under book pool entries counter.storage word)
+    → any_step book pool counter entries word ≡ list_any (transfer_steps counter) (transfers_under book pool entries counter.storage word)
 any_moves book pool counter word [] = refl
 any_moves book pool counter word (x ∷ entries) =
-    (λ j. one (move_steps counter) (entry_move pool x) (x.storage == counter.storage) (has_word book x.set word) j || any_moves book pool counter word entries j)
-    ∙ sym (any_append (move_steps counter) (list_if ((x.storage == counter.storage) && has_word book x.set word) (entry_move pool x ∷ [])) (moves_under book pool entries counter.storage word))
+    (λ j. one (transfer_steps counter) (entry_transfer pool x) (x.storage == counter.storage) (has_word book x.set word) j || any_moves book pool counter word entries j)
+    ∙ sym (any_append (transfer_steps counter) (list_if ((x.storage == counter.storage) && has_word book x.set word) (entry_transfer pool x ∷ [])) (transfers_under book pool entries counter.storage word))
   where
     and_false : (a : Bool) → (a && false) ≡ false
     and_false true = refl
     and_false false = refl
 
-    one : (p : Move → Bool) (m : Move) (k h : Bool) → ((k && p m) && h) ≡ list_any p (list_if (k && h) (m ∷ []))
+    one : (p : TransferModel → Bool) (m : TransferModel) (k h : Bool) → ((k && p m) && h) ≡ list_any p (list_if (k && h) (m ∷ []))
     one p m true true = and_true (p m) ∙ sym (or_none (p m))
     one p m true false = and_false (p m)
     one p m false h = refl
@@ -77,20 +77,20 @@ either true b e = inl refl
 either false b e = inr e
 
 module _ (counter : Counter) where
-  reg_is : (t : Term) → is_reg counter t ≡ true → t ≡ reg counter.storage counter.width
+  reg_is : (t : ExprModel) → is_reg counter t ≡ true → t ≡ reg counter.storage counter.width
   reg_is (reg id width) e =
       let b = both (id == counter.storage) (width == counter.width) e in
       (λ j. reg (eqb-true id counter.storage b.0 j) (eqb-true width counter.width b.1 j))
   reg_is _ e = absurd (cc)
 
-  one_is : (t : Term) → is_one counter.width t ≡ true → t ≡ const counter.width 1
+  one_is : (t : ExprModel) → is_one counter.width t ≡ true → t ≡ const counter.width 1
   one_is (const width value) e =
       let b = both (width == counter.width) (value == 1) e in
       (λ j. const (eqb-true width counter.width b.0 j) (eqb-true value 1 b.1 j))
   one_is _ e = absurd (cc)
 
   -- the register plus 1 is written in one of two ways
-  next_is : (t : Term) → is_next counter t ≡ true → (t ≡ next_of counter.storage counter.width) ⊎ (t ≡ swapped_next_of counter.storage counter.width)
+  next_is : (t : ExprModel) → is_next counter t ≡ true → (t ≡ next_of counter.storage counter.width) ⊎ (t ≡ swapped_next_of counter.storage counter.width)
   next_is (bin Add a b) e = by (either (is_reg counter a && is_one counter.width b) (is_one counter.width a && is_reg counter b) e)
     where
       by : (((is_reg counter a && is_one counter.width b) ≡ true) ⊎ ((is_one counter.width a && is_reg counter b) ≡ true))
@@ -99,7 +99,7 @@ module _ (counter : Counter) where
       by (inr e) = (let p = both (is_one counter.width a) (is_reg counter b) e in inr (λ j. bin Add (one_is a p.0 j) (reg_is b p.1 j)))
   next_is _ e = absurd (cc)
 
-  next_says : (t : Term) → (t ≡ next_of counter.storage counter.width) ⊎ (t ≡ swapped_next_of counter.storage counter.width) → is_next counter t ≡ true
+  next_says : (t : ExprModel) → (t ≡ next_of counter.storage counter.width) ⊎ (t ≡ swapped_next_of counter.storage counter.width) → is_next counter t ≡ true
   next_says t (inl e) = ap (is_next counter) e ∙ (λ j. ((same counter.storage j && same counter.width j) && (same counter.width j && true)) || false) ∙ refl
     where
       same : (n : ℕ) → (n == n) ≡ true
@@ -110,14 +110,14 @@ module _ (counter : Counter) where
       same n = eq-eqb n n refl
 
   -- a gathered word is one under which the register becomes itself plus 1
-  pub steps_when : (m : Move) (l s : Bool) (held : List Move) → held ≡ list_if l (changes m) → s ≡ list_any (move_steps counter) held
+  pub steps_when : (m : TransferModel) (l s : Bool) (held : List TransferModel) → held ≡ list_if l (changes m) → s ≡ list_any (transfer_steps counter) held
       → (s ≡ true) ↔ ((l ≡ true) × ((m ≡ write (next_of counter.storage counter.width)) ⊎ (m ≡ write (swapped_next_of counter.storage counter.width))))
   steps_when m true s held is e = (
-    λ q. (refl, there m (sym (ap (list_any (move_steps counter)) is) ∙ sym e ∙ q)),
-    λ q. e ∙ ap (list_any (move_steps counter)) is ∙ back m q.1,
+    λ q. (refl, there m (sym (ap (list_any (transfer_steps counter)) is) ∙ sym e ∙ q)),
+    λ q. e ∙ ap (list_any (transfer_steps counter)) is ∙ back m q.1,
   )
     where
-      there : (m : Move) → list_any (move_steps counter) (changes m) ≡ true → (m ≡ write (next_of counter.storage counter.width)) ⊎ (m ≡ write (swapped_next_of counter.storage counter.width))
+      there : (m : TransferModel) → list_any (transfer_steps counter) (changes m) ≡ true → (m ≡ write (next_of counter.storage counter.width)) ⊎ (m ≡ write (swapped_next_of counter.storage counter.width))
       there keep q = absurd (true≢false (sym q))
       there (write t) q = by (next_is t (sym (or_none (is_next counter t)) ∙ q))
         where
@@ -127,7 +127,7 @@ module _ (counter : Counter) where
           by (inr e) = inr (ap write e)
       there (write_at a t) q = absurd (true≢false (sym q))
 
-      back : (m : Move) → (m ≡ write (next_of counter.storage counter.width)) ⊎ (m ≡ write (swapped_next_of counter.storage counter.width)) → list_any (move_steps counter) (changes m) ≡ true
-      back m (inl q) = ap (λ x. list_any (move_steps counter) (changes x)) q ∙ or_none (is_next counter (next_of counter.storage counter.width)) ∙ next_says (next_of counter.storage counter.width) (inl refl)
-      back m (inr q) = ap (λ x. list_any (move_steps counter) (changes x)) q ∙ or_none (is_next counter (swapped_next_of counter.storage counter.width)) ∙ next_says (swapped_next_of counter.storage counter.width) (inr refl)
-  steps_when m false s held is e = (λ q. absurd (true≢false (sym q ∙ e ∙ ap (list_any (move_steps counter)) is)), λ q. absurd (true≢false (sym q.0)))
+      back : (m : TransferModel) → (m ≡ write (next_of counter.storage counter.width)) ⊎ (m ≡ write (swapped_next_of counter.storage counter.width)) → list_any (transfer_steps counter) (changes m) ≡ true
+      back m (inl q) = ap (λ x. list_any (transfer_steps counter) (changes x)) q ∙ or_none (is_next counter (next_of counter.storage counter.width)) ∙ next_says (next_of counter.storage counter.width) (inl refl)
+      back m (inr q) = ap (λ x. list_any (transfer_steps counter) (changes x)) q ∙ or_none (is_next counter (swapped_next_of counter.storage counter.width)) ∙ next_says (swapped_next_of counter.storage counter.width) (inr refl)
+  steps_when m false s held is e = (λ q. absurd (true≢false (sym q ∙ e ∙ ap (list_any (transfer_steps counter)) is)), λ q. absurd (true≢false (sym q.0)))

@@ -12,15 +12,15 @@ use Rattle.net_model.specs.declared.hardware.Storage.TheVariants.{Register, Memo
 use Rattle.net_model.specs.declared.hardware.Cells.{Cells}
 use Rattle.net_model.specs.CheckedRules.{KeepsRules}
 use Rattle.net_model.specs.Nets.{code_bits, net_width, storage_bits, width_at, word_width, space_at}
-use Rattle.net_model.specs.Symbolic.{no_state, bus_term, case_term, gate_term, is_static, net_term, sliced, sym_of, sym_within}
-use Rattle.net_model.specs.Terms.{Term, reg, slice, term_width, Move, keep, write, write_at}
+use Rattle.net_model.specs.Symbolic.{no_state, bus_expr, case_expr, gate_expr, is_static, net_expr, sliced, sym_of, sym_within}
+use Rattle.net_model.specs.Exprs.{ExprModel, reg, slice, expr_width, TransferModel, keep, write, write_at}
 use Rattle.net_model.specs.Clock.{is_enabled}
-use Rattle.net_model.specs.Transfers.{move_at, same_reg, array_move, storage_move, transfer_of}
+use Rattle.net_model.specs.Transfers.{transfer_at, same_reg, array_transfer, storage_transfer, transfer_of}
 use Rattle.net_model.specs.Value.{value_of, value_within}
 use Rattle.net_model.specs.Widths.{GateFits, IsTyped, NetFits}
 use Rattle.net_model.proofs.KeptRules.{typed_of}
 use Rattle.net_model.proofs.Meanings.{width_is}
-use Rattle.transfer_set.specs.TextMarks.{IsMoveOf, IsTermOf}
+use Rattle.transfer_set.specs.TextMarks.{IsTransferOf, IsExprOf}
 
 -- ---- numbers
 
@@ -36,19 +36,19 @@ narrow netlist None p = omega arith
 narrow netlist (Some net) p = p.1
 
 module _ (netlist : Netlist) where
-  pick : (b : Bool) (a c : Term) → IsTermOf netlist a → IsTermOf netlist c → IsTermOf netlist (cond b a c)
+  pick : (b : Bool) (a c : ExprModel) → IsExprOf netlist a → IsExprOf netlist c → IsExprOf netlist (cond b a c)
   pick true a c h k = h
   pick false a c h k = k
 
   -- ---- slices
 
-  plain_slice : (a : Term) (hi lo : ℕ) → IsTermOf netlist a → term_width a ≤ 64 → lo ≤ hi → hi < term_width a
-      → IsTermOf netlist (cond ((lo == 0) && (hi + 1 == term_width a)) a (slice a hi lo))
+  plain_slice : (a : ExprModel) (hi lo : ℕ) → IsExprOf netlist a → expr_width a ≤ 64 → lo ≤ hi → hi < expr_width a
+      → IsExprOf netlist (cond ((lo == 0) && (hi + 1 == expr_width a)) a (slice a hi lo))
   plain_slice a hi lo f w p q =
-      pick ((lo == 0) && (hi + 1 == term_width a)) a (slice a hi lo) f (f, small hi (omega (arith, w, q)), small lo (omega (arith, w, p, q)))
+      pick ((lo == 0) && (hi + 1 == expr_width a)) a (slice a hi lo) f (f, small hi (omega (arith, w, q)), small lo (omega (arith, w, p, q)))
 
   -- the ends of a slice of a slice lie between those of the inner one
-  slice_of : (a : Term) (hi lo : ℕ) → IsTermOf netlist a → term_width a ≤ 64 → lo ≤ hi → hi < term_width a → IsTermOf netlist (sliced a hi lo)
+  slice_of : (a : ExprModel) (hi lo : ℕ) → IsExprOf netlist a → expr_width a ≤ 64 → lo ≤ hi → hi < expr_width a → IsExprOf netlist (sliced a hi lo)
   slice_of (slice a h l) hi lo f w p q = (f.0, omega (arith, f.1, q), omega (arith, f.1, p, q))
   slice_of a hi lo f w p q = plain_slice a hi lo f w p q
 
@@ -64,26 +64,26 @@ module _ (netlist : Netlist) (typed : IsTyped netlist) (one : length netlist.cod
       let e : code_bits (slice_get netlist.codes (suc code)) ≡ 0 = ap code_bits (slice_get_past netlist.codes (suc code) (omega (arith, one))) in
       absurd (omega (arith, e, g, p))
 
-  reg_of : (id width : ℕ) → 1 ≤ width → storage_bits (slice_get netlist.storages id) ≡ width → IsTermOf netlist (reg id width)
+  reg_of : (id width : ℕ) → 1 ≤ width → storage_bits (slice_get netlist.storages id) ≡ width → IsExprOf netlist (reg id width)
   reg_of id width p g =
-      elim (slice_get_cases netlist.storages id).1 as (λ _. IsTermOf netlist (reg id width)) [
+      elim (slice_get_cases netlist.storages id).1 as (λ _. IsExprOf netlist (reg id width)) [
         | inl w ↦ (w.1, sym g)
         | inr w ↦ (let e : storage_bits (slice_get netlist.storages id) ≡ 0 = ap storage_bits w.1 in absurd (omega (arith, e, g, p)))
       ]
 
   -- ---- gates
 
-  module _ (t : ℕ → Term) (u : ℕ → ℕ) (f : ℕ → Bool) (h : (m : ℕ) → IsTermOf netlist (t m)) (wide : (m : ℕ) → term_width (t m) ≡ width_at netlist m) where
-    case_of : (width key : ℕ) (rows : List (ℕ × ℕ)) (rest : Option ℕ) → width ≤ 64 → IsTermOf netlist (case_term t width key rows rest)
+  module _ (t : ℕ → ExprModel) (u : ℕ → ℕ) (f : ℕ → Bool) (h : (m : ℕ) → IsExprOf netlist (t m)) (wide : (m : ℕ) → expr_width (t m) ≡ width_at netlist m) where
+    case_of : (width key : ℕ) (rows : List (ℕ × ℕ)) (rest : Option ℕ) → width ≤ 64 → IsExprOf netlist (case_expr t width key rows rest)
     case_of width key [] None p = (small width p, small 0 (omega arith))
     case_of width key [] (Some n) p = h n
     case_of width key (row ∷ rows) rest p = pick netlist (row.0 == key) _ _ (h row.1) (case_of width key rows rest p)
 
-    bus_of : (width : ℕ) (drivers : List (ℕ × ℕ)) → width ≤ 64 → IsTermOf netlist (bus_term t u width drivers)
+    bus_of : (width : ℕ) (drivers : List (ℕ × ℕ)) → width ≤ 64 → IsExprOf netlist (bus_expr t u width drivers)
     bus_of width [] p = (small width p, small 0 (omega arith))
     bus_of width (driver ∷ drivers) p = pick netlist (u driver.1 == 1) _ _ (h driver.0) (bus_of width drivers p)
 
-    gate_of : (width : ℕ) (gate : Gate) → 1 ≤ width → width ≤ 64 → GateFits netlist width gate → IsTermOf netlist (gate_term t u f netlist width gate)
+    gate_of : (width : ℕ) (gate : Gate) → 1 ≤ width → width ≤ 64 → GateFits netlist width gate → IsExprOf netlist (gate_expr t u f netlist width gate)
     gate_of width (Word code) p q g = word_of code width p g
     gate_of width (Reg id) p q g = reg_of id width p g
     gate_of width (Read memory addr) p q g = (h addr, sym g.1, wide_place (space_at netlist memory) netlist.storages (omega (arith, p, g.1)))
@@ -99,39 +99,39 @@ module _ (netlist : Netlist) (typed : IsTyped netlist) (one : length netlist.cod
         pick netlist (f sel) _ _ (case_of width (u sel) rows rest q) ((h sel, case_of width 1 rows rest q, case_of width 0 rows rest q))
     gate_of width (Bus drivers) p q g = bus_of width drivers q
 
-    net_of : (net : Option Net) → NetFits netlist net → IsTermOf netlist (net_term t u f netlist net)
+    net_of : (net : Option Net) → NetFits netlist net → IsExprOf netlist (net_expr t u f netlist net)
     net_of None p = (small 0 (omega arith), small 0 (omega arith))
     net_of (Some net) p = gate_of net.width net.gate p.0 p.1 p.2
 
-  within : (i k n : ℕ) → IsTermOf netlist (sym_within k netlist i n)
+  within : (i k n : ℕ) → IsExprOf netlist (sym_within k netlist i n)
   within i zero n = (small (width_at netlist n) (narrow_at n), small 0 (omega arith))
   within i (suc k) n =
       net_of (sym_within k netlist i) (value_within k netlist no_state i) (is_static netlist) (within i k) (width_is netlist i typed k) (slice_get netlist.nets n) (typed.nets n)
 
 -- the symbolic value of each net under each word; where there is no net it is a constant of no bits
-sym_terms : (netlist : Netlist) (order : List ℕ) → KeepsRules netlist order → (i n : ℕ) → IsTermOf netlist (sym_of netlist i n)
-sym_terms netlist order k i n = within netlist (typed_of netlist k.formed k.roles) k.roles.code i (length netlist.nets) n
+sym_exprs : (netlist : Netlist) (order : List ℕ) → KeepsRules netlist order → (i n : ℕ) → IsExprOf netlist (sym_of netlist i n)
+sym_exprs netlist order k i n = within netlist (typed_of netlist k.formed k.roles) k.roles.code i (length netlist.nets) n
 
 -- ---- transfers
 
-choose : (netlist : Netlist) (b : Bool) (m n : Move) → IsMoveOf netlist m → IsMoveOf netlist n → IsMoveOf netlist (cond b m n)
+choose : (netlist : Netlist) (b : Bool) (m n : TransferModel) → IsTransferOf netlist m → IsTransferOf netlist n → IsTransferOf netlist (cond b m n)
 choose netlist true m n h k = h
 choose netlist false m n h k = k
 
-array_of_terms : (netlist : Netlist) (t : ℕ → Term) (u : ℕ → ℕ) → ((m : ℕ) → IsTermOf netlist (t m)) → (cells : Cells) → IsMoveOf netlist (array_move t u cells)
-array_of_terms netlist t u h cells =
+array_of_exprs : (netlist : Netlist) (t : ℕ → ExprModel) (u : ℕ → ℕ) → ((m : ℕ) → IsExprOf netlist (t m)) → (cells : Cells) → IsTransferOf netlist (array_transfer t u cells)
+array_of_exprs netlist t u h cells =
     choose netlist (is_enabled u cells.when) (write_at (t cells.addr) (t cells.value)) keep (h cells.addr, h cells.value) tt
 
-storage_of : (netlist : Netlist) (t : ℕ → Term) (u : ℕ → ℕ) (id : ℕ) → ((m : ℕ) → IsTermOf netlist (t m)) → (storage : Storage) → IsMoveOf netlist (storage_move t u id storage)
+storage_of : (netlist : Netlist) (t : ℕ → ExprModel) (u : ℕ → ℕ) (id : ℕ) → ((m : ℕ) → IsExprOf netlist (t m)) → (storage : Storage) → IsTransferOf netlist (storage_transfer t u id storage)
 storage_of netlist t u id h (Register name width input when) =
     choose netlist (is_enabled u when) _ keep (choose netlist (same_reg (t input) id) keep (write (t input)) tt (h input)) tt
-storage_of netlist t u id h (Memory cells) = array_of_terms netlist t u h cells
-storage_of netlist t u id h (File cells) = array_of_terms netlist t u h cells
+storage_of netlist t u id h (Memory cells) = array_of_exprs netlist t u h cells
+storage_of netlist t u id h (File cells) = array_of_exprs netlist t u h cells
 
 -- what each storage does under each word
-pub move_terms : (netlist : Netlist) (order : List ℕ) → KeepsRules netlist order → (i id : ℕ) → IsMoveOf netlist (move_at netlist i id)
-move_terms netlist order k i id = by (slice_get netlist.storages id)
+pub move_exprs : (netlist : Netlist) (order : List ℕ) → KeepsRules netlist order → (i id : ℕ) → IsTransferOf netlist (transfer_at netlist i id)
+move_exprs netlist order k i id = by (slice_get netlist.storages id)
   where
-    by : (o : Option Storage) → IsMoveOf netlist (transfer_of netlist i id o)
+    by : (o : Option Storage) → IsTransferOf netlist (transfer_of netlist i id o)
     by None = tt
-    by (Some storage) = storage_of netlist (sym_of netlist i) (value_of netlist no_state i) id (sym_terms netlist order k i) storage
+    by (Some storage) = storage_of netlist (sym_of netlist i) (value_of netlist no_state i) id (sym_exprs netlist order k i) storage

@@ -18,10 +18,10 @@ use Rattle.net_model.specs.declared.hardware.Code.{Code}
 use Rattle.net_model.specs.declared.hardware.Storage.{Storage}
 use Rattle.net_model.specs.declared.hardware.Storage.TheVariants.{Register, Memory, File}
 use Rattle.net_model.specs.CheckedRules.{NamesDiffer, storage_names}
-use Rattle.net_model.specs.Terms.{Term, word, reg, const, read, un, bin, slice, cat, zext, sext, select}
+use Rattle.net_model.specs.Exprs.{ExprModel, word, reg, const, read, un, bin, slice, cat, zext, sext, select}
 use Rattle.net_model.specs.Nets.{place_in, storage_bits, storage_name, width_in}
-use Rattle.net_model.specs.Texts.{first_name, space_name, name_of, op1_text, op2_text, name_in, term_text}
-use Rattle.transfer_set.specs.TextMarks.{Closes, HasPlainNames, IsTermOf, Marks, Plain, is_close, is_mark}
+use Rattle.net_model.specs.Texts.{first_name, space_name, name_of, op1_text, op2_text, name_in, expr_text}
+use Rattle.transfer_set.specs.TextMarks.{Closes, HasPlainNames, IsExprOf, Marks, Plain, is_close, is_mark}
 
 -- ---- pieces
 
@@ -59,7 +59,7 @@ data Kind : Type 0 where
   two : Op2 → Kind
   reads slices cats zexts sexts selects : Kind
 
-abbrev kind_of : Term → Kind
+abbrev kind_of : ExprModel → Kind
 kind_of (read space a w) = reads
 kind_of (un o a) = one o
 kind_of (bin o a b) = two o
@@ -71,7 +71,7 @@ kind_of (select c a b) = selects
 kind_of _ = leaf
 
 module _ (netlist : Netlist) where
-  abbrev head : Term → List ℕ
+  abbrev head : ExprModel → List ℕ
   head (word w) = first_name netlist.codes
   head (reg r w) = name_of netlist r
   head (const w v) = decimal v
@@ -84,32 +84,32 @@ module _ (netlist : Netlist) where
   head (sext a w) = codes "sext"
   head (select c a b) = codes "select"
 
-  abbrev tail : Term → List ℕ → List ℕ
+  abbrev tail : ExprModel → List ℕ → List ℕ
   tail (word w) x = x
   tail (reg r w) x = x
   tail (const w v) x = 35 ∷ (decimal w ++ x)
-  tail (read space a w) x = 40 ∷ (space_name netlist space ++ (44 ∷ (term_text netlist a ++ (41 ∷ x))))
-  tail (un o a) x = 40 ∷ (term_text netlist a ++ (41 ∷ x))
-  tail (bin o a b) x = 40 ∷ (term_text netlist a ++ (44 ∷ (term_text netlist b ++ (41 ∷ x))))
-  tail (slice a hi lo) x = 40 ∷ (term_text netlist a ++ (44 ∷ (decimal hi ++ (44 ∷ (decimal lo ++ (41 ∷ x))))))
-  tail (cat a b) x = 40 ∷ (term_text netlist a ++ (44 ∷ (term_text netlist b ++ (41 ∷ x))))
-  tail (zext a w) x = 40 ∷ (term_text netlist a ++ (44 ∷ (decimal w ++ (41 ∷ x))))
-  tail (sext a w) x = 40 ∷ (term_text netlist a ++ (44 ∷ (decimal w ++ (41 ∷ x))))
-  tail (select c a b) x = 40 ∷ (term_text netlist c ++ (44 ∷ (term_text netlist a ++ (44 ∷ (term_text netlist b ++ (41 ∷ x))))))
+  tail (read space a w) x = 40 ∷ (space_name netlist space ++ (44 ∷ (expr_text netlist a ++ (41 ∷ x))))
+  tail (un o a) x = 40 ∷ (expr_text netlist a ++ (41 ∷ x))
+  tail (bin o a b) x = 40 ∷ (expr_text netlist a ++ (44 ∷ (expr_text netlist b ++ (41 ∷ x))))
+  tail (slice a hi lo) x = 40 ∷ (expr_text netlist a ++ (44 ∷ (decimal hi ++ (44 ∷ (decimal lo ++ (41 ∷ x))))))
+  tail (cat a b) x = 40 ∷ (expr_text netlist a ++ (44 ∷ (expr_text netlist b ++ (41 ∷ x))))
+  tail (zext a w) x = 40 ∷ (expr_text netlist a ++ (44 ∷ (decimal w ++ (41 ∷ x))))
+  tail (sext a w) x = 40 ∷ (expr_text netlist a ++ (44 ∷ (decimal w ++ (41 ∷ x))))
+  tail (select c a b) x = 40 ∷ (expr_text netlist c ++ (44 ∷ (expr_text netlist a ++ (44 ∷ (expr_text netlist b ++ (41 ∷ x))))))
 
-  parts : (t : Term) (x : List ℕ) → term_text netlist t ++ x ≡ head t ++ tail t x
+  parts : (t : ExprModel) (x : List ℕ) → expr_text netlist t ++ x ≡ head t ++ tail t x
   unfolding joined
   parts (word w) x = refl
   parts (reg r w) x = refl
   parts (const w v) x = joins (decimal v ∷ codes "#" ∷ decimal w ∷ []) x
-  parts (read space a w) x = joins (codes "read(" ∷ space_name netlist space ∷ codes "," ∷ term_text netlist a ∷ codes ")" ∷ []) x
-  parts (un o a) x = joins (op1_text o ∷ codes "(" ∷ term_text netlist a ∷ codes ")" ∷ []) x
-  parts (bin o a b) x = joins (op2_text o ∷ codes "(" ∷ term_text netlist a ∷ codes "," ∷ term_text netlist b ∷ codes ")" ∷ []) x
-  parts (slice a hi lo) x = joins (codes "slice(" ∷ term_text netlist a ∷ codes "," ∷ decimal hi ∷ codes "," ∷ decimal lo ∷ codes ")" ∷ []) x
-  parts (cat a b) x = joins (codes "cat(" ∷ term_text netlist a ∷ codes "," ∷ term_text netlist b ∷ codes ")" ∷ []) x
-  parts (zext a w) x = joins (codes "zext(" ∷ term_text netlist a ∷ codes "," ∷ decimal w ∷ codes ")" ∷ []) x
-  parts (sext a w) x = joins (codes "sext(" ∷ term_text netlist a ∷ codes "," ∷ decimal w ∷ codes ")" ∷ []) x
-  parts (select c a b) x = joins (codes "select(" ∷ term_text netlist c ∷ codes "," ∷ term_text netlist a ∷ codes "," ∷ term_text netlist b ∷ codes ")" ∷ []) x
+  parts (read space a w) x = joins (codes "read(" ∷ space_name netlist space ∷ codes "," ∷ expr_text netlist a ∷ codes ")" ∷ []) x
+  parts (un o a) x = joins (op1_text o ∷ codes "(" ∷ expr_text netlist a ∷ codes ")" ∷ []) x
+  parts (bin o a b) x = joins (op2_text o ∷ codes "(" ∷ expr_text netlist a ∷ codes "," ∷ expr_text netlist b ∷ codes ")" ∷ []) x
+  parts (slice a hi lo) x = joins (codes "slice(" ∷ expr_text netlist a ∷ codes "," ∷ decimal hi ∷ codes "," ∷ decimal lo ∷ codes ")" ∷ []) x
+  parts (cat a b) x = joins (codes "cat(" ∷ expr_text netlist a ∷ codes "," ∷ expr_text netlist b ∷ codes ")" ∷ []) x
+  parts (zext a w) x = joins (codes "zext(" ∷ expr_text netlist a ∷ codes "," ∷ decimal w ∷ codes ")" ∷ []) x
+  parts (sext a w) x = joins (codes "sext(" ∷ expr_text netlist a ∷ codes "," ∷ decimal w ∷ codes ")" ∷ []) x
+  parts (select c a b) x = joins (codes "select(" ∷ expr_text netlist c ∷ codes "," ∷ expr_text netlist a ∷ codes "," ∷ expr_text netlist b ∷ codes ")" ∷ []) x
 
 -- ---- what a head tells
 
@@ -142,7 +142,7 @@ two_told Eq = refl
 two_told Ltu = refl
 two_told Lts = refl
 
-kind_told : (netlist : Netlist) (t : Term) → kind_of t ≢ leaf → kind_at (head netlist t) ≡ kind_of t
+kind_told : (netlist : Netlist) (t : ExprModel) → kind_of t ≢ leaf → kind_at (head netlist t) ≡ kind_of t
 kind_told netlist (read space a w) n = refl
 kind_told netlist (un o a) n = one_told o
 kind_told netlist (bin o a b) n = two_told o
@@ -263,7 +263,7 @@ tag zexts = 6
 tag sexts = 7
 tag selects = 8
 
-is_leaf : (t : Term) → (kind_of t ≡ leaf) ⊎ (kind_of t ≢ leaf)
+is_leaf : (t : ExprModel) → (kind_of t ≡ leaf) ⊎ (kind_of t ≢ leaf)
 is_leaf (word w) = inl refl
 is_leaf (reg r w) = inl refl
 is_leaf (const w v) = inl refl
@@ -310,7 +310,7 @@ plain_two Lts = plain_of (codes "lts") refl
 -- ---- expressions
 
 module _ (netlist : Netlist) (plain : HasPlainNames netlist) (names : NamesDiffer netlist) (code : length netlist.codes ≡ 1) where
-  plain_head : (t : Term) → IsTermOf netlist t → Plain (head netlist t)
+  plain_head : (t : ExprModel) → IsExprOf netlist t → Plain (head netlist t)
   plain_head (word w) f = plain.code
   plain_head (reg r w) f = plain.storages r
   plain_head (const w v) f = plain_decimal v f.1
@@ -323,41 +323,41 @@ module _ (netlist : Netlist) (plain : HasPlainNames netlist) (names : NamesDiffe
   plain_head (sext a w) f = plain_of (codes "sext") refl
   plain_head (select c a b) f = plain_of (codes "select") refl
 
-  marks : (t : Term) (x : List ℕ) → Closes x → Marks (tail netlist t x)
+  marks : (t : ExprModel) (x : List ℕ) → Closes x → Marks (tail netlist t x)
   marks (word w) x c = marked x c
   marks (reg r w) x c = marked x c
   marks _ x c = refl
 
-  told : (t u : Term) → IsTermOf netlist t → IsTermOf netlist u → (x y : List ℕ) → Closes x → Closes y → term_text netlist t ++ x ≡ term_text netlist u ++ y
+  told : (t u : ExprModel) → IsExprOf netlist t → IsExprOf netlist u → (x y : List ℕ) → Closes x → Closes y → expr_text netlist t ++ x ≡ expr_text netlist u ++ y
       → (head netlist t ≡ head netlist u) × (tail netlist t x ≡ tail netlist u y)
   told t u f g x y c d e =
       split (head netlist t) (head netlist u) (tail netlist t x) (tail netlist u y) (plain_head t f) (plain_head u g) (marks t x c) (marks u y d)
       (sym (parts netlist t x) ∙ e ∙ parts netlist u y)
 
   -- an operator's text goes on with a bracket, and that of a leaf doesn't
-  no_leaf : (t u : Term) → kind_of t ≢ leaf → kind_of u ≡ leaf → (x y : List ℕ) → Closes y → tail netlist t x ≡ tail netlist u y → ⊥
+  no_leaf : (t u : ExprModel) → kind_of t ≢ leaf → kind_of u ≡ leaf → (x y : List ℕ) → Closes y → tail netlist t x ≡ tail netlist u y → ⊥
   no_leaf t (word v) n m x y d e = opens t n x (subst Closes (sym e) d)
     where
-      opens : (t : Term) → kind_of t ≢ leaf → (x : List ℕ) → Closes (tail netlist t x) → ⊥
+      opens : (t : ExprModel) → kind_of t ≢ leaf → (x : List ℕ) → Closes (tail netlist t x) → ⊥
       opens (word w) n x c = n refl
       opens (reg r w) n x c = n refl
       opens _ n x c = true≢false (sym c)
   no_leaf t (reg r v) n m x y d e = opens t n x (subst Closes (sym e) d)
     where
-      opens : (t : Term) → kind_of t ≢ leaf → (x : List ℕ) → Closes (tail netlist t x) → ⊥
+      opens : (t : ExprModel) → kind_of t ≢ leaf → (x : List ℕ) → Closes (tail netlist t x) → ⊥
       opens (word w) n x c = n refl
       opens (reg r w) n x c = n refl
       opens _ n x c = true≢false (sym c)
   no_leaf t (const w v) n m x y d e = opens t n x e
     where
-      opens : (t : Term) → kind_of t ≢ leaf → (x : List ℕ) → tail netlist t x ≡ 35 ∷ (decimal w ++ y) → ⊥
+      opens : (t : ExprModel) → kind_of t ≢ leaf → (x : List ℕ) → tail netlist t x ≡ 35 ∷ (decimal w ++ y) → ⊥
       opens (word v) n x e = n refl
       opens (reg r v) n x e = n refl
       opens (const v k) n x e = n refl
       opens _ n x e = omega (arith, first_of _ _ _ _ e)
   no_leaf t u n m x y d e = omega (arith, ap tag m)
 
-  same_kind : (t u : Term) (x y : List ℕ) → Closes x → Closes y → head netlist t ≡ head netlist u → tail netlist t x ≡ tail netlist u y → kind_of t ≡ kind_of u
+  same_kind : (t u : ExprModel) (x y : List ℕ) → Closes x → Closes y → head netlist t ≡ head netlist u → tail netlist t x ≡ tail netlist u y → kind_of t ≡ kind_of u
   same_kind t u x y c d h e = by (is_leaf t) (is_leaf u)
     where
       by : ((kind_of t ≡ leaf) ⊎ (kind_of t ≢ leaf)) → ((kind_of u ≡ leaf) ⊎ (kind_of u ≢ leaf)) → kind_of t ≡ kind_of u
@@ -377,7 +377,7 @@ module _ (netlist : Netlist) (plain : HasPlainNames netlist) (names : NamesDiffe
       (number_told m n f g s.0, rest_of b b p q s.1)
 
   -- texts that are equal are those of equal expressions, whatever closes them
-  pub differ : (t u : Term) → IsTermOf netlist t → IsTermOf netlist u → (x y : List ℕ) → Closes x → Closes y → term_text netlist t ++ x ≡ term_text netlist u ++ y → (t ≡ u) × (x ≡ y)
+  pub differ : (t u : ExprModel) → IsExprOf netlist t → IsExprOf netlist u → (x y : List ℕ) → Closes x → Closes y → expr_text netlist t ++ x ≡ expr_text netlist u ++ y → (t ≡ u) × (x ≡ y)
   differ (word w) (word v) f g x y c d e = (ap word (f ∙ sym g), (told (word w) (word v) f g x y c d e).1)
   differ (word w) (reg r v) f g x y c d e = absurd (no_code netlist names code r g.0 (sym (told (word w) (reg r v) f g x y c d e).0))
   differ (word w) u f g x y c d e = absurd (true≢false (sym (subst Closes (told (word w) u f g x y c d e).1 c)))
@@ -409,7 +409,7 @@ module _ (netlist : Netlist) (plain : HasPlainNames netlist) (names : NamesDiffe
       ((λ j. un (same j) (r.0 j)), rest_of 41 41 x y r.1)
   differ (bin o a b) (bin p k l) f g x y c d e =
       let s = told (bin o a b) (bin p k l) f g x y c d e in
-      let q = differ a k f.0 g.0 (44 ∷ (term_text netlist b ++ (41 ∷ x))) (44 ∷ (term_text netlist l ++ (41 ∷ y))) refl refl (rest_of 40 40 _ _ s.1) in
+      let q = differ a k f.0 g.0 (44 ∷ (expr_text netlist b ++ (41 ∷ x))) (44 ∷ (expr_text netlist l ++ (41 ∷ y))) refl refl (rest_of 40 40 _ _ s.1) in
       let r = differ b l f.1 g.1 (41 ∷ x) (41 ∷ y) refl refl (rest_of 44 44 _ _ q.1) in
       let same = two_same o p (same_kind (bin o a b) (bin p k l) x y c d s.0 s.1) in
       ((λ j. bin (same j) (q.0 j) (r.0 j)), rest_of 41 41 x y r.1)
@@ -421,7 +421,7 @@ module _ (netlist : Netlist) (plain : HasPlainNames netlist) (names : NamesDiffe
       ((λ j. slice (q.0 j) (h.0 j) (k.0 j)), k.1)
   differ (cat a b) (cat k l) f g x y c d e =
       let s = told (cat a b) (cat k l) f g x y c d e in
-      let q = differ a k f.0 g.0 (44 ∷ (term_text netlist b ++ (41 ∷ x))) (44 ∷ (term_text netlist l ++ (41 ∷ y))) refl refl (rest_of 40 40 _ _ s.1) in
+      let q = differ a k f.0 g.0 (44 ∷ (expr_text netlist b ++ (41 ∷ x))) (44 ∷ (expr_text netlist l ++ (41 ∷ y))) refl refl (rest_of 40 40 _ _ s.1) in
       let r = differ b l f.1 g.1 (41 ∷ x) (41 ∷ y) refl refl (rest_of 44 44 _ _ q.1) in
       ((λ j. cat (q.0 j) (r.0 j)), rest_of 41 41 x y r.1)
   differ (zext a w) (zext b v) f g x y c d e =
@@ -436,8 +436,8 @@ module _ (netlist : Netlist) (plain : HasPlainNames netlist) (names : NamesDiffe
       ((λ j. sext (q.0 j) (h.0 j)), h.1)
   differ (select k a b) (select l m n) f g x y c d e =
       let s = told (select k a b) (select l m n) f g x y c d e in
-      let h = differ k l f.0 g.0 (44 ∷ (term_text netlist a ++ (44 ∷ (term_text netlist b ++ (41 ∷ x))))) (44 ∷ (term_text netlist m ++ (44 ∷ (term_text netlist n ++ (41 ∷ y))))) refl refl (rest_of 40 40 _ _ s.1) in
-      let q = differ a m f.1 g.1 (44 ∷ (term_text netlist b ++ (41 ∷ x))) (44 ∷ (term_text netlist n ++ (41 ∷ y))) refl refl (rest_of 44 44 _ _ h.1) in
+      let h = differ k l f.0 g.0 (44 ∷ (expr_text netlist a ++ (44 ∷ (expr_text netlist b ++ (41 ∷ x))))) (44 ∷ (expr_text netlist m ++ (44 ∷ (expr_text netlist n ++ (41 ∷ y))))) refl refl (rest_of 40 40 _ _ s.1) in
+      let q = differ a m f.1 g.1 (44 ∷ (expr_text netlist b ++ (41 ∷ x))) (44 ∷ (expr_text netlist n ++ (41 ∷ y))) refl refl (rest_of 44 44 _ _ h.1) in
       let r = differ b n f.2 g.2 (41 ∷ x) (41 ∷ y) refl refl (rest_of 44 44 _ _ q.1) in
       ((λ j. select (h.0 j) (q.0 j) (r.0 j)), rest_of 41 41 x y r.1)
   differ t u f g x y c d e =

@@ -4,9 +4,9 @@ use Rattle.std.specs.List.{concat}
 use Rattle.std.proofs.lemmas.List.{append_cancel_left}
 use Rattle.net_model.specs.declared.hardware.Netlist.{Netlist}
 use Rattle.net_model.specs.CheckedRules.{KeepsRules}
-use Rattle.net_model.specs.Terms.{Move, keep, write, write_at}
-use Rattle.net_model.specs.Texts.{move_text, name_of, term_text}
-use Rattle.transfer_set.specs.TextMarks.{HasPlainNames, IsMoveOf}
+use Rattle.net_model.specs.Exprs.{TransferModel, keep, write, write_at}
+use Rattle.net_model.specs.Texts.{text_of_transfer, name_of, expr_text}
+use Rattle.transfer_set.specs.TextMarks.{HasPlainNames, IsTransferOf}
 use Rattle.transfer_set.proofs.TextsDiffer.{differ}
 
 -- the text of a value behind a name
@@ -27,15 +27,15 @@ never_both name t k u e =
     cc
 
 module _ (netlist : Netlist) (order : List ℕ) (kept : KeepsRules netlist order) (plain : HasPlainNames netlist) where
-  pub same_move : (id : ℕ) (m n : Move) → m ≢ keep → n ≢ keep → IsMoveOf netlist m → IsMoveOf netlist n → move_text netlist id m ≡ move_text netlist id n → m ≡ n
-  same_move id keep n p q f g e = absurd (p refl)
-  same_move id m keep p q f g e = absurd (q refl)
-  same_move id (write a) (write b) p q f g e =
-      ap write (differ netlist plain kept.formed.names kept.roles.code a b f g [] [] tt tt (values_same (name_of netlist id) (term_text netlist a) (term_text netlist b) e)).0
-  same_move id (write a) (write_at k b) p q f g e = absurd (never_both (name_of netlist id) (term_text netlist a) (term_text netlist k) (term_text netlist b) e)
-  same_move id (write_at k a) (write b) p q f g e = absurd (never_both (name_of netlist id) (term_text netlist b) (term_text netlist k) (term_text netlist a) (sym e))
-  same_move id (write_at k a) (write_at l b) p q f g e =
-      let behind = addresses_same (name_of netlist id) (term_text netlist k) (term_text netlist l) (term_text netlist a) (term_text netlist b) e in
-      let first = differ netlist plain kept.formed.names kept.roles.code k l f.0 g.0 (codes "] := " ++ (term_text netlist a ++ [])) (codes "] := " ++ (term_text netlist b ++ [])) refl refl behind in
-      let second = differ netlist plain kept.formed.names kept.roles.code a b f.1 g.1 [] [] tt tt (append_cancel_left (codes "] := ") (term_text netlist a ++ []) (term_text netlist b ++ []) first.1) in
+  pub same_transfer : (id : ℕ) (m n : TransferModel) → m ≢ keep → n ≢ keep → IsTransferOf netlist m → IsTransferOf netlist n → text_of_transfer netlist id m ≡ text_of_transfer netlist id n → m ≡ n
+  same_transfer id keep n p q f g e = absurd (p refl)
+  same_transfer id m keep p q f g e = absurd (q refl)
+  same_transfer id (write a) (write b) p q f g e =
+      ap write (differ netlist plain kept.formed.names kept.roles.code a b f g [] [] tt tt (values_same (name_of netlist id) (expr_text netlist a) (expr_text netlist b) e)).0
+  same_transfer id (write a) (write_at k b) p q f g e = absurd (never_both (name_of netlist id) (expr_text netlist a) (expr_text netlist k) (expr_text netlist b) e)
+  same_transfer id (write_at k a) (write b) p q f g e = absurd (never_both (name_of netlist id) (expr_text netlist b) (expr_text netlist k) (expr_text netlist a) (sym e))
+  same_transfer id (write_at k a) (write_at l b) p q f g e =
+      let behind = addresses_same (name_of netlist id) (expr_text netlist k) (expr_text netlist l) (expr_text netlist a) (expr_text netlist b) e in
+      let first = differ netlist plain kept.formed.names kept.roles.code k l f.0 g.0 (codes "] := " ++ (expr_text netlist a ++ [])) (codes "] := " ++ (expr_text netlist b ++ [])) refl refl behind in
+      let second = differ netlist plain kept.formed.names kept.roles.code a b f.1 g.1 [] [] tt tt (append_cancel_left (codes "] := ") (expr_text netlist a ++ []) (expr_text netlist b ++ []) first.1) in
       (λ j. write_at (first.0 j) (second.0 j))

@@ -6,7 +6,7 @@ use Rattle.bit_bdd.specs.Diagrams.{Diagrams, has_word}
 use Rattle.text_lines.specs.Digits.{bytes_of, hex_of}
 use Rattle.net_model.specs.declared.hardware.Netlist.{Netlist}
 use Rattle.net_model.specs.Patterns.{IsWordOf, Pattern}
-use Rattle.net_model.specs.Texts.{move_text}
+use Rattle.net_model.specs.Texts.{text_of_transfer}
 use Rattle.net_model.specs.Nets.{word_width}
 
 -- ---- the lines
@@ -19,7 +19,7 @@ line_text number transfer bytes word =
 -- the line of a pattern with its number and a word
 abbrev pub pattern_line : Netlist → ℕ → Pattern → ℕ → List ℕ
 pattern_line netlist number pattern word =
-    line_text number (move_text netlist pattern.storage pattern.move) (bytes_of (word_width netlist)) word
+    line_text number (text_of_transfer netlist pattern.storage pattern.move) (bytes_of (word_width netlist)) word
 
 -- the lines of patterns with their words, numbered from a number on
 abbrev pub pattern_lines : Netlist → ℕ → List (Pattern × ℕ) → List ℕ

@@ -1,12 +1,16 @@
--- The routes of a net: its symbolic values, each with the words that give it.
+-- The routes of a net: its symbolic values, each with the words that give it. A route is an
+-- expression with a set of words. The routes of a net *give* each word without a clash its
+-- symbolic value: for each such word the list of the routes that hold it has one element, with
+-- that expression, and for each other word it is empty. No set is empty, no two routes of a net
+-- have one expression.
 use Rattle.std.specs.Prelude.{◌≡◌, ◌≢◌, ◌↔◌, ℕ, ◌^◌, ◌<◌, true, if◌then◌else◌, List, [], ◌∷◌, ◌++◌, map, length, Option, None, Some}
 use Rattle.std.specs.Prelude.{slice_get}
 use Rattle.bit_bdd.specs.Diagrams.{Diagrams, has_word}
 use Rattle.net_model.specs.declared.hardware.Netlist.{Netlist}
 use Rattle.net_model.specs.Symbolic.{sym_of}
-use Rattle.net_model.specs.Terms.{Term}
+use Rattle.net_model.specs.Exprs.{ExprModel}
 use Rattle.sym_expr.specs.declared.pool.Node.{Node}
-use Rattle.sym_expr.specs.Pools.{term_at}
+use Rattle.sym_expr.specs.Pools.{expr_of_id}
 use Rattle.transfer_set.specs.declared.route.Route.{Route}
 
 -- ---- lists of routes
@@ -20,8 +24,8 @@ abbrev pub exprs_under : Diagrams → List Route → ℕ → List ℕ
 exprs_under book [] word = []
 exprs_under book (route ∷ routes) word = row book route word ++ exprs_under book routes word
 
-abbrev pub terms_under : Diagrams → List Node → List Route → ℕ → List Term
-terms_under book pool routes word = map (term_at pool) (exprs_under book routes word)
+abbrev pub models_under : Diagrams → List Node → List Route → ℕ → List ExprModel
+models_under book pool routes word = map (expr_of_id pool) (exprs_under book routes word)
 
 -- an expression that no route has
 abbrev pub Fresh : ℕ → List Route → Type 0
@@ -62,20 +66,20 @@ pub record IsRouteTable (book : Diagrams) (pool : List Node) (routes : List Rout
 -- ---- what they say
 
 -- one expression at the words of a set, and none at others
-abbrev pub only : Diagrams → ℕ → ℕ → Term → List Term
+abbrev pub only : Diagrams → ℕ → ℕ → ExprModel → List ExprModel
 only book legal word term = if has_word book legal word then term ∷ [] else []
 
 -- the routes give each word of a set its expression, by just one of them, and no other word any
-abbrev pub GivesTerm : Diagrams → List Node → ℕ → (ℕ → Term) → List Route → Type 0
-GivesTerm book pool legal f routes =
+abbrev pub GivesExpr : Diagrams → List Node → ℕ → (ℕ → ExprModel) → List Route → Type 0
+GivesExpr book pool legal f routes =
     (word : ℕ) → word < 2 ^ book.bits →
-    terms_under book pool routes word ≡ only book legal word (f word)
+    models_under book pool routes word ≡ only book legal word (f word)
 
 -- the set of a route is all words of the set with its expression
-abbrev pub RouteIs : Diagrams → List Node → ℕ → (ℕ → Term) → Route → Type 0
+abbrev pub RouteIs : Diagrams → List Node → ℕ → (ℕ → ExprModel) → Route → Type 0
 RouteIs book pool legal f route =
     (word : ℕ) → word < 2 ^ book.bits →
-    (has_word book route.set word ≡ true) ↔ ((has_word book legal word ≡ true) × (term_at pool route.expr ≡ f word))
+    (has_word book route.set word ≡ true) ↔ ((has_word book legal word ≡ true) × (expr_of_id pool route.expr ≡ f word))
 
 -- the routes of a net
 abbrev pub routes_or_none : Option (List Route) → List Route
@@ -92,4 +96,4 @@ pub record AreRoutes (netlist : Netlist) (book : Diagrams) (pool : List Node) (l
   pub long : length nets ≡ length netlist.nets
   pub tables : (n : ℕ) → IsRouteTable book pool (routes_at nets n)
   pub gives : (n : ℕ) → n < length netlist.nets →
-      GivesTerm book pool legal (λ word. sym_of netlist word n) (routes_at nets n)
+      GivesExpr book pool legal (λ word. sym_of netlist word n) (routes_at nets n)

@@ -7,14 +7,14 @@ use Rattle.net_model.specs.Patterns.{ArePatterns, IsPattern, Pattern}
 use Rattle.sym_expr.specs.declared.pool.Node.{Node}
 use Rattle.transfer_set.specs.Entries.{IsAddrKnown, IsWordsOf}
 use Rattle.transfer_set.specs.Routes.{IsSet}
-use Rattle.transfer_set.specs.Rows.{AreSorted, ShowsMove, row_move, row_patterns}
+use Rattle.transfer_set.specs.Rows.{AreSorted, ShowsMove, row_transfer, row_patterns}
 use Rattle.transfer_set.specs.Sets.{IsKeepSet, IsStepSet}
 use Rattle.transfer_set.specs.TextMarks.{HasPlainNames}
 use Rattle.transfer_set.specs.declared.row.Row.{Row}
 
 -- the patterns, for each storage the words that keep it, the words that step, and the numbers of
 -- the memory and of the file
-pub record Table : Type 0 where
+pub record PatternTable : Type 0 where
   pub rows : List Row
   pub keeps : List ℕ
   pub step : ℕ
@@ -28,12 +28,12 @@ pub record IsRow (netlist : Netlist) (book : Diagrams) (pool : List Node) (row :
   pub addr : IsAddrKnown (length pool) row.addr
   pub value : row.value < length pool
   pub set : IsSet book row.set
-  pub whole : IsWordsOf netlist book.bits row.storage (row_move pool row) (λ word. has_word book row.set word)
+  pub whole : IsWordsOf netlist book.bits row.storage (row_transfer pool row) (λ word. has_word book row.set word)
 
 -- exactly the patterns of the netlist, none of them twice, in their order, with what is told of
 -- them; the order leaves no choice where no name has a mark in it, as no name of a netlist's text
 -- has
-pub record IsPatternTable (netlist : Netlist) (book : Diagrams) (pool : List Node) (table : Table) : Type 0 where
+pub record IsPatternTable (netlist : Netlist) (book : Diagrams) (pool : List Node) (table : PatternTable) : Type 0 where
   pub rows : All (IsRow netlist book pool) table.rows
   pub each : All (IsPattern netlist) (row_patterns pool table.rows)
   pub every : (pattern : Pattern) → IsPattern netlist pattern → Contains (row_patterns pool table.rows) pattern

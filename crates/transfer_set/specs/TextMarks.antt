@@ -2,7 +2,7 @@
 use Rattle.std.specs.Prelude.{◌≡◌, ℕ, ◌^◌, ◌<◌, ◌==◌, ◌||◌, Bool, true, false, List, [], ◌∷◌, length, slice_get}
 use Rattle.net_model.specs.declared.hardware.Netlist.{Netlist}
 use Rattle.net_model.specs.Nets.{width_in, place_in, storage_bits, word_width}
-use Rattle.net_model.specs.Terms.{Term, word, reg, const, read, un, bin, slice, cat, zext, sext, select, Move, keep, write, write_at}
+use Rattle.net_model.specs.Exprs.{ExprModel, word, reg, const, read, un, bin, slice, cat, zext, sext, select, TransferModel, keep, write, write_at}
 use Rattle.net_model.specs.Texts.{first_name, name_of}
 
 -- a comma, or a bracket that closes
@@ -34,22 +34,22 @@ pub record HasPlainNames (netlist : Netlist) : Type 0 where
   pub code : Plain (first_name netlist.codes)
 
 -- what an expression names is the netlist's, with its width, and its numbers are below 2 to the 64
-abbrev pub IsTermOf : Netlist → Term → Type 0
-IsTermOf netlist (word w) = w ≡ word_width netlist
-IsTermOf netlist (reg r w) = (r < length netlist.storages) × (w ≡ storage_bits (slice_get netlist.storages r))
-IsTermOf netlist (const w v) = (w < 2 ^ 64) × (v < 2 ^ 64)
-IsTermOf netlist (read space a w) =
-    IsTermOf netlist a × (w ≡ width_in space netlist.storages) × (place_in space netlist.storages < length netlist.storages)
-IsTermOf netlist (un o a) = IsTermOf netlist a
-IsTermOf netlist (bin o a b) = IsTermOf netlist a × IsTermOf netlist b
-IsTermOf netlist (slice a hi lo) = IsTermOf netlist a × (hi < 2 ^ 64) × (lo < 2 ^ 64)
-IsTermOf netlist (cat a b) = IsTermOf netlist a × IsTermOf netlist b
-IsTermOf netlist (zext a w) = IsTermOf netlist a × (w < 2 ^ 64)
-IsTermOf netlist (sext a w) = IsTermOf netlist a × (w < 2 ^ 64)
-IsTermOf netlist (select c a b) = IsTermOf netlist c × IsTermOf netlist a × IsTermOf netlist b
+abbrev pub IsExprOf : Netlist → ExprModel → Type 0
+IsExprOf netlist (word w) = w ≡ word_width netlist
+IsExprOf netlist (reg r w) = (r < length netlist.storages) × (w ≡ storage_bits (slice_get netlist.storages r))
+IsExprOf netlist (const w v) = (w < 2 ^ 64) × (v < 2 ^ 64)
+IsExprOf netlist (read space a w) =
+    IsExprOf netlist a × (w ≡ width_in space netlist.storages) × (place_in space netlist.storages < length netlist.storages)
+IsExprOf netlist (un o a) = IsExprOf netlist a
+IsExprOf netlist (bin o a b) = IsExprOf netlist a × IsExprOf netlist b
+IsExprOf netlist (slice a hi lo) = IsExprOf netlist a × (hi < 2 ^ 64) × (lo < 2 ^ 64)
+IsExprOf netlist (cat a b) = IsExprOf netlist a × IsExprOf netlist b
+IsExprOf netlist (zext a w) = IsExprOf netlist a × (w < 2 ^ 64)
+IsExprOf netlist (sext a w) = IsExprOf netlist a × (w < 2 ^ 64)
+IsExprOf netlist (select c a b) = IsExprOf netlist c × IsExprOf netlist a × IsExprOf netlist b
 
 -- so are the expressions of a transfer
-abbrev pub IsMoveOf : Netlist → Move → Type 0
-IsMoveOf netlist keep = Unit {0}
-IsMoveOf netlist (write e) = IsTermOf netlist e
-IsMoveOf netlist (write_at a e) = IsTermOf netlist a × IsTermOf netlist e
+abbrev pub IsTransferOf : Netlist → TransferModel → Type 0
+IsTransferOf netlist keep = Unit {0}
+IsTransferOf netlist (write e) = IsExprOf netlist e
+IsTransferOf netlist (write_at a e) = IsExprOf netlist a × IsExprOf netlist e

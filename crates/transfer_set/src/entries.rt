@@ -4,13 +4,13 @@
 ghost use Rattle.std.specs.Prelude.{◌≡◌, ℕ, ◌^◌, ◌==◌, ◌<◌, ◌≤◌, ◌&&◌, [], ◌∷◌, ◌++◌, map, length, IfOk, OnOk, List, Some, None, false, slice_get};
 ghost use Rattle.bit_bdd.specs.Diagrams.{Extends, has_word};
 ghost use Rattle.net_model.specs.declared.hardware.Netlist.{Netlist};
-ghost use Rattle.net_model.specs.Terms.{Term, write};
+ghost use Rattle.net_model.specs.Exprs.{ExprModel, write};
 ghost use Rattle.net_model.specs.Transfers.{same_reg};
 ghost use Rattle.sym_expr.specs.declared.pool.Node.{Node as TheNode};
-ghost use Rattle.sym_expr.specs.Pools.{term_at};
-ghost use Rattle.transfer_set.specs.Routes.{AllExprs, AllSets, terms_under};
-ghost use Rattle.transfer_set.specs.Entries.{IsAddrKnown, IsWordsOf, ids_move};
-ghost use Rattle.transfer_set.specs.Inner.Entries.{HaveWords, AreKnown, AreWhole, ArePairs, AreValues, AreWrites, each, list_if, memory_moves, moves_under, register_moves};
+ghost use Rattle.sym_expr.specs.Pools.{expr_of_id};
+ghost use Rattle.transfer_set.specs.Routes.{AllExprs, AllSets, models_under};
+ghost use Rattle.transfer_set.specs.Entries.{IsAddrKnown, IsWordsOf, ids_transfer};
+ghost use Rattle.transfer_set.specs.Inner.Entries.{HaveWords, AreKnown, AreWhole, ArePairs, AreValues, AreWrites, each, list_if, memory_transfers, transfers_under, register_transfers};
 
 use crate::route::Route;
 use bit_bdd::{Book, SetId};
@@ -45,13 +45,13 @@ fn add_entry(
     ensures grows { Extends book.old book.new }
     ensures words { OnOk result (HaveWords book.new out.new) }
     ensures moves { OnOk result ((pool : List TheNode) (id word : ℕ) →
-        moves_under book.new pool out.new id word
-        ≡ moves_under book.old pool out.old id word
+        transfers_under book.new pool out.new id word
+        ≡ transfers_under book.old pool out.old id word
         ++ list_if ((storage == id) && (has_word book.old a word && has_word book.old b word))
-        (ids_move pool addr value ∷ [])) }
+        (ids_transfer pool addr value ∷ [])) }
     ensures whole { OnOk result ((netlist : Netlist) (pool : List TheNode) →
         AreWhole netlist pool book.old out.old →
-        IsWordsOf netlist book.old.bits storage (ids_move pool addr value)
+        IsWordsOf netlist book.old.bits storage (ids_transfer pool addr value)
         (λ word. has_word book.old a word && has_word book.old b word) →
         AreWhole netlist pool book.new out.new) }
     ensures known { OnOk result ((size : ℕ) → AreKnown size out.old → IsAddrKnown size addr →
@@ -75,7 +75,7 @@ fn add_entry(
 // Whether an expression is a register as it stands.
 fn is_own(pool: &Pool, expr: ExprId, storage: u32) -> bool
     requires { expr < length pool.now }
-    ensures { result ≡ same_reg (term_at pool.now expr) storage }
+    ensures { result ≡ same_reg (expr_of_id pool.now expr) storage }
 {
     match pool.node(expr) {
         Node::Reg(id, _) => id == storage,
@@ -101,14 +101,14 @@ fn add_write(
     ensures grows { Extends book.old book.new }
     ensures words { OnOk result (HaveWords book.new out.new) }
     ensures moves { OnOk result ((id word : ℕ) →
-        moves_under book.new pool.now out.new id word
-        ≡ moves_under book.old pool.now out.old id word
+        transfers_under book.new pool.now out.new id word
+        ≡ transfers_under book.old pool.now out.old id word
         ++ list_if
         ((storage == id) && (has_word book.old on word && has_word book.old route.set word))
-        (register_moves storage (term_at pool.now route.expr))) }
+        (register_transfers storage (expr_of_id pool.now route.expr))) }
     ensures whole { OnOk result ((netlist : Netlist) → AreWhole netlist pool.now book.old out.old →
-        (same_reg (term_at pool.now route.expr) storage ≡ false →
-        IsWordsOf netlist book.old.bits storage (write (term_at pool.now route.expr))
+        (same_reg (expr_of_id pool.now route.expr) storage ≡ false →
+        IsWordsOf netlist book.old.bits storage (write (expr_of_id pool.now route.expr))
         (λ word. has_word book.old on word && has_word book.old route.set word)) →
         AreWhole netlist pool.now book.new out.new) }
     ensures known { OnOk result (AreKnown (length pool.now) out.old → AreKnown (length pool.now) out.new) }
@@ -136,10 +136,10 @@ pub(crate) fn add_register(
     ensures grows { Extends book.old book.new }
     ensures words { OnOk result (HaveWords book.new out.new) }
     ensures moves { OnOk result ((id word : ℕ) →
-        moves_under book.new pool.now out.new id word
-        ≡ moves_under book.old pool.now out.old id word
+        transfers_under book.new pool.now out.new id word
+        ≡ transfers_under book.old pool.now out.old id word
         ++ list_if ((storage == id) && has_word book.old on word)
-        (each (register_moves storage) (terms_under book.old pool.now routes.now word))) }
+        (each (register_transfers storage) (models_under book.old pool.now routes.now word))) }
     ensures whole { OnOk result ((netlist : Netlist) →
         AreWhole netlist pool.now book.old out.old →
         AreWrites netlist pool.now book.old storage on routes.now →
@@ -169,10 +169,10 @@ fn add_values(
     ensures grows { Extends book.old book.new }
     ensures words { OnOk result (HaveWords book.new out.new) }
     ensures moves { OnOk result ((pool : List TheNode) (id word : ℕ) →
-        moves_under book.new pool out.new id word
-        ≡ moves_under book.old pool out.old id word
+        transfers_under book.new pool out.new id word
+        ≡ transfers_under book.old pool out.old id word
         ++ list_if ((storage == id) && has_word book.old on word)
-        (each (memory_moves (term_at pool addr)) (terms_under book.old pool values.now word))) }
+        (each (memory_transfers (expr_of_id pool addr)) (models_under book.old pool values.now word))) }
     ensures whole { OnOk result ((netlist : Netlist) (pool : List TheNode) →
         AreWhole netlist pool book.old out.old →
         AreValues netlist pool book.old storage addr on values.now →
@@ -213,11 +213,11 @@ pub(crate) fn add_memory(
     ensures grows { Extends book.old book.new }
     ensures words { OnOk result (HaveWords book.new out.new) }
     ensures moves { OnOk result ((pool : List TheNode) (id word : ℕ) →
-        moves_under book.new pool out.new id word
-        ≡ moves_under book.old pool out.old id word
+        transfers_under book.new pool out.new id word
+        ≡ transfers_under book.old pool out.old id word
         ++ list_if ((storage == id) && has_word book.old on word)
-        (each (λ a. each (memory_moves a) (terms_under book.old pool values.now word))
-        (terms_under book.old pool addrs.now word))) }
+        (each (λ a. each (memory_transfers a) (models_under book.old pool values.now word))
+        (models_under book.old pool addrs.now word))) }
     ensures whole { OnOk result ((netlist : Netlist) (pool : List TheNode) →
         AreWhole netlist pool book.old out.old →
         ArePairs netlist pool book.old storage on addrs.now values.now →

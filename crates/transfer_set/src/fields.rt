@@ -1,7 +1,7 @@
 //! The instruction bits that occur in an expression.
 
 ghost use Rattle.std.specs.Prelude.{◌≡◌, ◌<◌, ◌≤◌, length};
-ghost use Rattle.sym_expr.specs.Pools.{term_at};
+ghost use Rattle.sym_expr.specs.Pools.{expr_of_id};
 ghost use Rattle.net_model.specs.Fields.{bits_between, fields as fields_in};
 
 use rec_bits::mask;
@@ -23,7 +23,7 @@ pub fn span(hi: u8, lo: u8) -> u64
 /// The instruction bits that occur in an expression, as a mask.
 pub fn expr_fields(pool: &Pool, expr: ExprId) -> u64
     requires { expr < length pool.now }
-    ensures { result ≡ fields_in (term_at pool.now expr) }
+    ensures { result ≡ fields_in (expr_of_id pool.now expr) }
 {
     match pool.node(expr) {
         Node::Word(width) => mask(width),

@@ -39,9 +39,9 @@ pub struct Patterns {
 
 impl Model for Patterns {
     ghost use Rattle.std.specs.Prelude.{◌^◌, ◌<◌, length};
-    ghost use Rattle.transfer_set.specs.Tables.{Table};
+    ghost use Rattle.transfer_set.specs.Tables.{PatternTable};
 
-    ghost Value = { Table };
+    ghost Value = { PatternTable };
 
     ghost view = { λ patterns. record {
       rows = patterns.rows.items;

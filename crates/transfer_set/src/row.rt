@@ -1,9 +1,9 @@
 //! Patterns in the order in which they are told.
 
 ghost use Rattle.std.specs.Prelude.{◌≡◌, ◌^◌, ◌<◌, All, length, IfOk};
-ghost use Rattle.transfer_set.specs.Entries.{IsAddrKnown, ids_move};
+ghost use Rattle.transfer_set.specs.Entries.{IsAddrKnown, ids_transfer};
 ghost use Rattle.transfer_set.specs.Inner.Entries.{AreKnown};
-ghost use Rattle.net_model.specs.Fields.{move_fields};
+ghost use Rattle.net_model.specs.Fields.{transfer_fields};
 ghost use Rattle.transfer_set.specs.Rows.{AreSorted, AreRowsOf, ShowsMove, entries_of, entry_of};
 
 use crate::entries::Entry;
@@ -32,7 +32,7 @@ pub struct Row {
 fn transfer_fields(pool: &Pool, addr: Option<ExprId>, value: ExprId) -> u64
     requires addr { IsAddrKnown (length pool.now) addr }
     requires value { value < length pool.now }
-    ensures { result ≡ move_fields (ids_move pool.now addr value) }
+    ensures { result ≡ transfer_fields (ids_transfer pool.now addr value) }
 {
     match addr {
         None => expr_fields(pool, value),

@@ -4,10 +4,10 @@ ghost use Rattle.std.specs.Prelude.{◌≡◌, ℕ, ◌^◌, ◌==◌, ◌<◌, 
 ghost use Rattle.std.specs.List.{AllByRecursion};
 ghost use Rattle.bit_bdd.specs.Diagrams.{Extends, has_word};
 ghost use Rattle.net_model.specs.Patterns.{IsPattern, Pattern};
-ghost use Rattle.net_model.specs.Transfers.{move_at};
+ghost use Rattle.net_model.specs.Transfers.{transfer_at};
 ghost use Rattle.net_model.specs.Nets.{word_width};
 ghost use Rattle.transfer_set.specs.Routes.{routes_at};
-ghost use Rattle.transfer_set.specs.Inner.Entries.{HaveWords, AreKnown, AreWhole, list_if, moves_under, patterns_of};
+ghost use Rattle.transfer_set.specs.Inner.Entries.{HaveWords, AreKnown, AreWhole, list_if, transfers_under, patterns_of};
 ghost use Rattle.transfer_set.specs.Inner.Sources.{HasSet, IsArrayAt, IsSource, changes, when_set as set_of_when};
 
 use crate::entries::{Entry, add_memory, add_register};
@@ -62,10 +62,10 @@ fn add_array(
     ensures grows { Extends book.old book.new }
     ensures words { OnOk result (HaveWords book.new out.new) }
     ensures moves { OnOk result ((n word : ℕ) → word < 2 ^ book.old.bits →
-        moves_under book.new pool.now out.new n word
-        ≡ moves_under book.old pool.now out.old n word
+        transfers_under book.new pool.now out.new n word
+        ≡ transfers_under book.old pool.now out.old n word
         ++ list_if ((id == n) && has_word book.old controls.now.legal word)
-        (changes (move_at checked.now.netlist word id))) }
+        (changes (transfer_at checked.now.netlist word id))) }
     ensures whole { OnOk result (AreWhole checked.now.netlist pool.now book.old out.old →
         AreWhole checked.now.netlist pool.now book.new out.new) }
     ensures known { OnOk result (AreKnown (length pool.now) out.old → AreKnown (length pool.now) out.new) }
@@ -95,10 +95,10 @@ fn add_storage(
     ensures grows { Extends book.old book.new }
     ensures words { OnOk result (HaveWords book.new out.new) }
     ensures moves { OnOk result ((n word : ℕ) → word < 2 ^ book.old.bits →
-        moves_under book.new pool.now out.new n word
-        ≡ moves_under book.old pool.now out.old n word
+        transfers_under book.new pool.now out.new n word
+        ≡ transfers_under book.old pool.now out.old n word
         ++ list_if ((id == n) && has_word book.old controls.now.legal word)
-        (changes (move_at checked.now.netlist word id))) }
+        (changes (transfer_at checked.now.netlist word id))) }
     ensures whole { OnOk result (AreWhole checked.now.netlist pool.now book.old out.old →
         AreWhole checked.now.netlist pool.now book.new out.new) }
     ensures known { OnOk result (AreKnown (length pool.now) out.old → AreKnown (length pool.now) out.new) }
@@ -134,8 +134,8 @@ pub(crate) fn collect_entries(
     ensures grows { Extends book.old book.new }
     ensures words { IfOk result (HaveWords book.new) }
     ensures moves { IfOk result (λ out. (n word : ℕ) → word < 2 ^ book.old.bits →
-        moves_under book.new pool.now out n word ≡
-        list_if (has_word book.old controls.now.legal word) (changes (move_at checked.now.netlist word n))) }
+        transfers_under book.new pool.now out n word ≡
+        list_if (has_word book.old controls.now.legal word) (changes (transfer_at checked.now.netlist word n))) }
     ensures whole { IfOk result (AreWhole checked.now.netlist pool.now book.new) }
     ensures known { IfOk result (AreKnown (length pool.now)) }
     ensures each { IfOk result (λ out. AllByRecursion (IsPattern checked.now.netlist) (patterns_of pool.now out)) }

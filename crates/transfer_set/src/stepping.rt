@@ -3,7 +3,7 @@
 ghost use Rattle.std.specs.Prelude.{◌≡◌, ℕ, ◌==◌, ◌<◌, ◌&&◌, ◌||◌, length, IfOk};
 ghost use Rattle.bit_bdd.specs.Diagrams.{Extends, has_word};
 ghost use Rattle.net_model.specs.Nets.{counter_of, counter_width};
-ghost use Rattle.sym_expr.specs.Pools.{term_at};
+ghost use Rattle.sym_expr.specs.Pools.{expr_of_id};
 ghost use Rattle.transfer_set.specs.Inner.Entries.{HaveWords, AreKnown};
 ghost use Rattle.transfer_set.specs.Stepping.{is_next, is_one, is_reg};
 ghost use Rattle.transfer_set.specs.Inner.Stepping.{any_step, entry_steps};
@@ -41,7 +41,7 @@ impl Counter {
 /// Whether an expression is the program counter as it stands.
 pub fn is_register(pool: &Pool, expr: ExprId, counter: Counter) -> bool
     requires { expr < length pool.now }
-    ensures { result ≡ is_reg counter (term_at pool.now expr) }
+    ensures { result ≡ is_reg counter (expr_of_id pool.now expr) }
 {
     match pool.node(expr) {
         Node::Reg(id, width) => id == counter.storage && width == counter.width,
@@ -52,7 +52,7 @@ pub fn is_register(pool: &Pool, expr: ExprId, counter: Counter) -> bool
 // Whether an expression is the constant 1 of this width.
 fn is_unit(pool: &Pool, expr: ExprId, bits: u8) -> bool
     requires { expr < length pool.now }
-    ensures { result ≡ is_one bits (term_at pool.now expr) }
+    ensures { result ≡ is_one bits (expr_of_id pool.now expr) }
 {
     match pool.node(expr) {
         Node::Const { width, value } => width == bits && value == 1,
@@ -63,7 +63,7 @@ fn is_unit(pool: &Pool, expr: ExprId, bits: u8) -> bool
 /// Whether an expression is the program counter plus 1, in one of the two ways to write it.
 pub fn is_step(pool: &Pool, expr: ExprId, counter: Counter) -> bool
     requires { expr < length pool.now }
-    ensures { result ≡ is_next counter (term_at pool.now expr) }
+    ensures { result ≡ is_next counter (expr_of_id pool.now expr) }
 {
     match pool.node(expr) {
         Node::Bin(Op2::Add, a, b) => {

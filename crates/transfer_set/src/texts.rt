@@ -3,9 +3,9 @@
 ghost use Rattle.std.specs.Prelude.{◌≡◌, ◌<◌, ◌∷◌, [], ◌++◌, codes, length, IfOk, OnOk};
 ghost use Rattle.std.specs.Fmt.{decimal};
 ghost use Rattle.std.specs.List.{concat};
-ghost use Rattle.net_model.specs.Texts.{first_name, space_name, move_text, name_of, op1_text, op2_text, term_text};
-ghost use Rattle.sym_expr.specs.Pools.{term_at};
-ghost use Rattle.transfer_set.specs.Entries.{IsAddrKnown, ids_move};
+ghost use Rattle.net_model.specs.Texts.{first_name, space_name, text_of_transfer, name_of, op1_text, op2_text, expr_text};
+ghost use Rattle.sym_expr.specs.Pools.{expr_of_id};
+ghost use Rattle.transfer_set.specs.Entries.{IsAddrKnown, ids_transfer};
 
 use itoa::Buffer;
 use net_model::{Checked, Space};
@@ -134,7 +134,7 @@ fn add_first(
 ) -> Result<(), NoMemory>
     requires { a < length pool.now }
     ensures { OnOk result (text.new.items ≡ text.old.items
-        ++ concat (word.now ∷ codes "(" ∷ term_text checked.now.netlist (term_at pool.now a) ∷ [])) }
+        ++ concat (word.now ∷ codes "(" ∷ expr_text checked.now.netlist (expr_of_id pool.now a) ∷ [])) }
 {
     add_bytes(text, word)?;
     add_bytes(text, b"(")?;
@@ -146,7 +146,7 @@ fn add_first(
 fn add_next(text: &mut Vec<u8>, checked: &Checked, pool: &Pool, b: ExprId) -> Result<(), NoMemory>
     requires { b < length pool.now }
     ensures { OnOk result (text.new.items ≡ text.old.items
-        ++ concat (codes "," ∷ term_text checked.now.netlist (term_at pool.now b) ∷ [])) }
+        ++ concat (codes "," ∷ expr_text checked.now.netlist (expr_of_id pool.now b) ∷ [])) }
 {
     add_bytes(text, b",")?;
     add_term(text, checked, pool, b)
@@ -164,7 +164,7 @@ fn add_read(
     requires { addr < length pool.now }
     ensures { OnOk result (text.new.items ≡ text.old.items ++ concat
         (codes "read(" ∷ space_name checked.now.netlist space ∷ codes ","
-        ∷ term_text checked.now.netlist (term_at pool.now addr) ∷ codes ")" ∷ [])) }
+        ∷ expr_text checked.now.netlist (expr_of_id pool.now addr) ∷ codes ")" ∷ [])) }
 {
     add_memory(text, checked, space)?;
     add_next(text, checked, pool, addr)?;
@@ -182,7 +182,7 @@ fn add_one(
 ) -> Result<(), NoMemory>
     requires { a < length pool.now }
     ensures { OnOk result (text.new.items ≡ text.old.items
-        ++ concat (word.now ∷ codes "(" ∷ term_text checked.now.netlist (term_at pool.now a) ∷ codes ")" ∷ [])) }
+        ++ concat (word.now ∷ codes "(" ∷ expr_text checked.now.netlist (expr_of_id pool.now a) ∷ codes ")" ∷ [])) }
 {
     add_first(text, checked, pool, word, a)?;
     add_bytes(text, b")")
@@ -201,8 +201,8 @@ fn add_two(
     requires a { a < length pool.now }
     requires b { b < length pool.now }
     ensures { OnOk result (text.new.items ≡ text.old.items
-        ++ concat (word.now ∷ codes "(" ∷ term_text checked.now.netlist (term_at pool.now a) ∷ codes ","
-        ∷ term_text checked.now.netlist (term_at pool.now b) ∷ codes ")" ∷ [])) }
+        ++ concat (word.now ∷ codes "(" ∷ expr_text checked.now.netlist (expr_of_id pool.now a) ∷ codes ","
+        ∷ expr_text checked.now.netlist (expr_of_id pool.now b) ∷ codes ")" ∷ [])) }
 {
     add_first(text, checked, pool, word, a)?;
     add_next(text, checked, pool, b)?;
@@ -221,7 +221,7 @@ fn add_slice(
 ) -> Result<(), NoMemory>
     requires { a < length pool.now }
     ensures { OnOk result (text.new.items ≡ text.old.items ++ concat
-        (codes "slice(" ∷ term_text checked.now.netlist (term_at pool.now a) ∷ codes ","
+        (codes "slice(" ∷ expr_text checked.now.netlist (expr_of_id pool.now a) ∷ codes ","
         ∷ decimal hi ∷ codes "," ∷ decimal lo ∷ codes ")" ∷ [])) }
 {
     add_first(text, checked, pool, b"slice", a)?;
@@ -240,7 +240,7 @@ fn add_extension(
 ) -> Result<(), NoMemory>
     requires { a < length pool.now }
     ensures { OnOk result (text.new.items ≡ text.old.items ++ concat
-        (word.now ∷ codes "(" ∷ term_text checked.now.netlist (term_at pool.now a) ∷ codes ","
+        (word.now ∷ codes "(" ∷ expr_text checked.now.netlist (expr_of_id pool.now a) ∷ codes ","
         ∷ decimal width ∷ codes ")" ∷ [])) }
 {
     add_first(text, checked, pool, word, a)?;
@@ -261,9 +261,9 @@ fn add_select(
     requires a { a < length pool.now }
     requires b { b < length pool.now }
     ensures { OnOk result (text.new.items ≡ text.old.items ++ concat
-        (codes "select(" ∷ term_text checked.now.netlist (term_at pool.now c) ∷ codes ","
-        ∷ term_text checked.now.netlist (term_at pool.now a) ∷ codes ","
-        ∷ term_text checked.now.netlist (term_at pool.now b) ∷ codes ")" ∷ [])) }
+        (codes "select(" ∷ expr_text checked.now.netlist (expr_of_id pool.now c) ∷ codes ","
+        ∷ expr_text checked.now.netlist (expr_of_id pool.now a) ∷ codes ","
+        ∷ expr_text checked.now.netlist (expr_of_id pool.now b) ∷ codes ")" ∷ [])) }
 {
     add_first(text, checked, pool, b"select", c)?;
     add_next(text, checked, pool, a)?;
@@ -280,7 +280,7 @@ fn add_term(
     expr: ExprId,
 ) -> Result<(), NoMemory>
     requires { expr < length pool.now }
-    ensures { OnOk result (text.new.items ≡ text.old.items ++ term_text checked.now.netlist (term_at pool.now expr)) }
+    ensures { OnOk result (text.new.items ≡ text.old.items ++ expr_text checked.now.netlist (expr_of_id pool.now expr)) }
 {
     match pool.node(expr) {
         Node::Word(_) => add_bytes(text, word_name(checked)),
@@ -307,7 +307,7 @@ fn add_place(
 ) -> Result<(), NoMemory>
     requires { addr < length pool.now }
     ensures { OnOk result (text.new.items ≡ text.old.items
-        ++ concat (codes "[" ∷ term_text checked.now.netlist (term_at pool.now addr) ∷ codes "]" ∷ [])) }
+        ++ concat (codes "[" ∷ expr_text checked.now.netlist (expr_of_id pool.now addr) ∷ codes "]" ∷ [])) }
 {
     add_bytes(text, b"[")?;
     add_term(text, checked, pool, addr)?;
@@ -326,7 +326,7 @@ fn add_transfer(
     requires addr { IsAddrKnown (length pool.now) addr }
     requires value { value < length pool.now }
     ensures { OnOk result (text.new.items
-        ≡ text.old.items ++ move_text checked.now.netlist storage (ids_move pool.now addr value)) }
+        ≡ text.old.items ++ text_of_transfer checked.now.netlist storage (ids_transfer pool.now addr value)) }
 {
     add_bytes(text, storage_name(checked, storage))?;
     if let Some(addr) = addr {
@@ -348,7 +348,7 @@ pub(crate) fn transfer_text(
 ) -> Result<Vec<u8>, NoMemory>
     requires addr { IsAddrKnown (length pool.now) addr }
     requires value { value < length pool.now }
-    ensures { IfOk result (λ text. text.items ≡ move_text checked.now.netlist storage (ids_move pool.now addr value)) }
+    ensures { IfOk result (λ text. text.items ≡ text_of_transfer checked.now.netlist storage (ids_transfer pool.now addr value)) }
 {
     let mut text = Vec::new(alloc);
     add_transfer(&mut text, checked, pool, storage, addr, value)?;

@@ -7,7 +7,7 @@ use Rattle.std.proofs.lemmas.Nat.{pow_pos, pow-add, mod_below}
 use Rattle.std.proofs.Math.Nat.{mod-eq_of_lt}
 use Rattle.std.proofs.Math.Pow.{pow_mono}
 use Rattle.rec_bits.specs.Operators.{sext_of, is_negative_of}
-use Rattle.net_model.specs.Terms.{Term, word, slice, zext, sext, term_width}
+use Rattle.net_model.specs.Exprs.{ExprModel, word, slice, zext, sext, expr_width}
 use Rattle.form_model.specs.Shapes.{field_setting, is_field, plain_setting, then_some}
 use Rattle.form_model.proofs.FieldLaws.{less_true, true_less}
 use Rattle.form_model.proofs.PlainLaws.{sext_plain}
@@ -83,7 +83,7 @@ some_then : (b : Bool) (n : ℕ) → is_some (then_some b n) ≡ b
 some_then true n = refl
 some_then false n = refl
 
-slice_shows : (a : Term) (hi lo v : ℕ) → (is_word a && nat_lt v (2 ^ (hi + 1 - lo))) ≡ is_some (field_setting (slice a hi lo) v)
+slice_shows : (a : ExprModel) (hi lo v : ℕ) → (is_word a && nat_lt v (2 ^ (hi + 1 - lo))) ≡ is_some (field_setting (slice a hi lo) v)
 slice_shows (word w) hi lo v = sym (some_then (nat_lt v (2 ^ (hi + 1 - lo))) (v * 2 ^ lo))
 slice_shows _ hi lo v = refl
 
@@ -93,47 +93,47 @@ word_shows w v = sym (some_then (nat_lt v (2 ^ w)) v)
 -- ---- the bits of the word for a value that a field shows
 
 -- what shows a value is a field, as wide as the value
-shown_field : (a : Term) (v : ℕ) → is_some (field_setting a v) ≡ true → (is_field a ≡ true) × (v < 2 ^ term_width a)
+shown_field : (a : ExprModel) (v : ℕ) → is_some (field_setting a v) ≡ true → (is_field a ≡ true) × (v < 2 ^ expr_width a)
 shown_field (word w) v h = (refl, less_true v (2 ^ w) (word_shows w v ∙ h))
 shown_field (slice (word w) hi lo) v h = (refl, less_true v (2 ^ (hi + 1 - lo)) (slice_shows (word w) hi lo v ∙ h))
 shown_field (slice _ hi lo) v h = absurd (true≢false (sym h))
 shown_field _ v h = absurd (true≢false (sym h))
 
-low_setting : (a : Term) (v b : ℕ) → is_some (field_setting a v) ≡ true → field_setting a (v % 2 ^ term_width a) ≡ Some b → field_setting a v ≡ Some b
+low_setting : (a : ExprModel) (v b : ℕ) → is_some (field_setting a v) ≡ true → field_setting a (v % 2 ^ expr_width a) ≡ Some b → field_setting a v ≡ Some b
 low_setting a v b h e = subst (λ x. field_setting a x ≡ Some b) (mod-eq_of_lt (shown_field a v h).1) e
 
-pub extended_field : (a : Term) (w v : ℕ) → is_some (extension_setting a w v) ≡ true → is_field a ≡ true
-extended_field a w v = by (sext_of (v % 2 ^ term_width a) (term_width a) w == v)
+pub extended_field : (a : ExprModel) (w v : ℕ) → is_some (extension_setting a w v) ≡ true → is_field a ≡ true
+extended_field a w v = by (sext_of (v % 2 ^ expr_width a) (expr_width a) w == v)
   where
-    by : (t : Bool) → is_some (cond t (field_setting a (v % 2 ^ term_width a)) None) ≡ true → is_field a ≡ true
-    by true h = (shown_field a (v % 2 ^ term_width a) h).0
+    by : (t : Bool) → is_some (cond t (field_setting a (v % 2 ^ expr_width a)) None) ≡ true → is_field a ≡ true
+    by true h = (shown_field a (v % 2 ^ expr_width a) h).0
     by false h = absurd (true≢false (sym h))
 
-extended_setting : (a : Term) (w v b : ℕ) → is_some (extension_setting a w v) ≡ true → field_setting a (v % 2 ^ term_width a) ≡ Some b → extension_setting a w v ≡ Some b
-extended_setting a w v b = by (sext_of (v % 2 ^ term_width a) (term_width a) w == v)
+extended_setting : (a : ExprModel) (w v b : ℕ) → is_some (extension_setting a w v) ≡ true → field_setting a (v % 2 ^ expr_width a) ≡ Some b → extension_setting a w v ≡ Some b
+extended_setting a w v b = by (sext_of (v % 2 ^ expr_width a) (expr_width a) w == v)
   where
-    by : (t : Bool) → is_some (cond t (field_setting a (v % 2 ^ term_width a)) None) ≡ true → field_setting a (v % 2 ^ term_width a) ≡ Some b → cond t (field_setting a (v % 2 ^ term_width a)) None ≡ Some b
+    by : (t : Bool) → is_some (cond t (field_setting a (v % 2 ^ expr_width a)) None) ≡ true → field_setting a (v % 2 ^ expr_width a) ≡ Some b → cond t (field_setting a (v % 2 ^ expr_width a)) None ≡ Some b
     by true h e = e
     by false h e = absurd (true≢false (sym h))
 
 -- the bits of a field's low value are those of the shape that shows the value
-shape_of_field : {E : Type 0} (r : Result ℕ E) (t : Term) (v : ℕ) → is_some (field_setting t v) ≡ true → IfOk r (λ b. field_setting t (v % 2 ^ term_width t) ≡ Some b) → IfOk r (λ b. field_setting t v ≡ Some b)
+shape_of_field : {E : Type 0} (r : Result ℕ E) (t : ExprModel) (v : ℕ) → is_some (field_setting t v) ≡ true → IfOk r (λ b. field_setting t (v % 2 ^ expr_width t) ≡ Some b) → IfOk r (λ b. field_setting t v ≡ Some b)
 shape_of_field r t v h = IfOk-weaker r _ _ (λ b e. low_setting t v b h e)
 
-pub shape_of_zext : {E : Type 0} (r : Result ℕ E) (t a b : Term) (w v : ℕ) → t ≡ zext a w → b ≡ a → is_some (plain_setting t v) ≡ true → IfOk r (λ n. field_setting b (v % 2 ^ term_width b) ≡ Some n) → IfOk r (λ n. plain_setting t v ≡ Some n)
+pub shape_of_zext : {E : Type 0} (r : Result ℕ E) (t a b : ExprModel) (w v : ℕ) → t ≡ zext a w → b ≡ a → is_some (plain_setting t v) ≡ true → IfOk r (λ n. field_setting b (v % 2 ^ expr_width b) ≡ Some n) → IfOk r (λ n. plain_setting t v ≡ Some n)
 shape_of_zext r t a b w v e same h =
-    rw e (IfOk-weaker r _ _ (λ n q. low_setting a v n (subst (λ x. is_some (plain_setting x v) ≡ true) e h) (subst (λ x. field_setting x (v % 2 ^ term_width x) ≡ Some n) same q)))
+    rw e (IfOk-weaker r _ _ (λ n q. low_setting a v n (subst (λ x. is_some (plain_setting x v) ≡ true) e h) (subst (λ x. field_setting x (v % 2 ^ expr_width x) ≡ Some n) same q)))
 
-pub shape_of_sext : {E : Type 0} (r : Result ℕ E) (t a b : Term) (w v : ℕ) → t ≡ sext a w → b ≡ a → is_some (plain_setting t v) ≡ true → IfOk r (λ n. field_setting b (v % 2 ^ term_width b) ≡ Some n) → IfOk r (λ n. plain_setting t v ≡ Some n)
+pub shape_of_sext : {E : Type 0} (r : Result ℕ E) (t a b : ExprModel) (w v : ℕ) → t ≡ sext a w → b ≡ a → is_some (plain_setting t v) ≡ true → IfOk r (λ n. field_setting b (v % 2 ^ expr_width b) ≡ Some n) → IfOk r (λ n. plain_setting t v ≡ Some n)
 shape_of_sext r t a b w v e same h =
-    rw e (IfOk-weaker r _ _ (λ n q. extended_setting a w v n (subst (λ x. is_some (plain_setting x v) ≡ true) e h) (subst (λ x. field_setting x (v % 2 ^ term_width x) ≡ Some n) same q)))
+    rw e (IfOk-weaker r _ _ (λ n q. extended_setting a w v n (subst (λ x. is_some (plain_setting x v) ≡ true) e h) (subst (λ x. field_setting x (v % 2 ^ expr_width x) ≡ Some n) same q)))
 
-pub shape_of_word : {E : Type 0} (r : Result ℕ E) (t : Term) (w v : ℕ) → t ≡ word w → is_some (plain_setting t v) ≡ true → IfOk r (λ n. field_setting t (v % 2 ^ term_width t) ≡ Some n) → IfOk r (λ n. plain_setting t v ≡ Some n)
+pub shape_of_word : {E : Type 0} (r : Result ℕ E) (t : ExprModel) (w v : ℕ) → t ≡ word w → is_some (plain_setting t v) ≡ true → IfOk r (λ n. field_setting t (v % 2 ^ expr_width t) ≡ Some n) → IfOk r (λ n. plain_setting t v ≡ Some n)
 shape_of_word r t w v e h q =
     subst (λ x. IfOk r (λ n. plain_setting x v ≡ Some n)) (sym e)
-    (shape_of_field r (word w) v (subst (λ x. is_some (plain_setting x v) ≡ true) e h) (subst (λ x. IfOk r (λ n. field_setting x (v % 2 ^ term_width x) ≡ Some n)) e q))
+    (shape_of_field r (word w) v (subst (λ x. is_some (plain_setting x v) ≡ true) e h) (subst (λ x. IfOk r (λ n. field_setting x (v % 2 ^ expr_width x) ≡ Some n)) e q))
 
-pub shape_of_slice : {E : Type 0} (r : Result ℕ E) (t a : Term) (hi lo v : ℕ) → t ≡ slice a hi lo → is_some (plain_setting t v) ≡ true → IfOk r (λ n. field_setting t (v % 2 ^ term_width t) ≡ Some n) → IfOk r (λ n. plain_setting t v ≡ Some n)
+pub shape_of_slice : {E : Type 0} (r : Result ℕ E) (t a : ExprModel) (hi lo v : ℕ) → t ≡ slice a hi lo → is_some (plain_setting t v) ≡ true → IfOk r (λ n. field_setting t (v % 2 ^ expr_width t) ≡ Some n) → IfOk r (λ n. plain_setting t v ≡ Some n)
 shape_of_slice r t a hi lo v e h q =
     subst (λ x. IfOk r (λ n. plain_setting x v ≡ Some n)) (sym e)
-    (shape_of_field r (slice a hi lo) v (subst (λ x. is_some (plain_setting x v) ≡ true) e h) (subst (λ x. IfOk r (λ n. field_setting x (v % 2 ^ term_width x) ≡ Some n)) e q))
+    (shape_of_field r (slice a hi lo) v (subst (λ x. is_some (plain_setting x v) ≡ true) e h) (subst (λ x. IfOk r (λ n. field_setting x (v % 2 ^ expr_width x) ≡ Some n)) e q))

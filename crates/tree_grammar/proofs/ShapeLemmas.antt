@@ -5,7 +5,7 @@ use Rattle.std.proofs.lemmas.Bool.{cases_eq}
 use Rattle.std.proofs.lemmas.Bool.Decides.{nat_tests}
 use Rattle.std.proofs.Math.Pow.{pow_mono}
 use Rattle.std.proofs.Math.Nat.{mod-eq_of_lt}
-use Rattle.net_model.specs.Terms.{Term, word, slice, zext}
+use Rattle.net_model.specs.Exprs.{ExprModel, word, slice, zext}
 use Rattle.form_model.specs.Shapes.{then_some, field_setting, shows, shows_below}
 use Rattle.tree_grammar.specs.Inner.Settings.{IsSteady}
 
@@ -13,7 +13,7 @@ and_false : (b : Bool) → (b && false) ≡ false
 and_false true = refl
 and_false false = refl
 
-pub never_below : (t : Term) (n v : ℕ) → v < n → shows t v ≡ false → shows_below t n ≡ false
+pub never_below : (t : ExprModel) (n v : ℕ) → v < n → shows t v ≡ false → shows_below t n ≡ false
 never_below t zero v lt e = absurd (omega arith)
 never_below t (suc n) v lt e = elim (cases_eq v n) [
   | inl same ↦ ap (λ b. b && shows_below t n) (sym (ap (shows t) same) ∙ e)
@@ -36,11 +36,11 @@ lt_steady v u w le h = grind (arith, nat_tests, le, h)
 given_steady : (v u w m n : ℕ) → u ≤ v → is_some (then_some (nat_lt v w) m) ≡ true → is_some (then_some (nat_lt u w) n) ≡ true
 given_steady v u w m n le h = some_given (nat_lt u w) n ∙ lt_steady v u w le (sym (some_given (nat_lt v w) m) ∙ h)
 
-slice_steady : (a : Term) (hi lo v u : ℕ) → u ≤ v → is_some (field_setting (slice a hi lo) v) ≡ true → is_some (field_setting (slice a hi lo) u) ≡ true
+slice_steady : (a : ExprModel) (hi lo v u : ℕ) → u ≤ v → is_some (field_setting (slice a hi lo) v) ≡ true → is_some (field_setting (slice a hi lo) u) ≡ true
 slice_steady (word w) hi lo v u le h = given_steady v u (2 ^ (hi + 1 - lo)) (v * 2 ^ lo) (u * 2 ^ lo) le h
 slice_steady _ hi lo v u le h = absurd (cc)
 
-field_steady : (t : Term) (v u : ℕ) → u ≤ v → is_some (field_setting t v) ≡ true → is_some (field_setting t u) ≡ true
+field_steady : (t : ExprModel) (v u : ℕ) → u ≤ v → is_some (field_setting t v) ≡ true → is_some (field_setting t u) ≡ true
 field_steady (word w) v u le h = given_steady v u (2 ^ w) v u le h
 field_steady (slice a hi lo) v u le h = slice_steady a hi lo v u le h
 field_steady _ v u le h = absurd (cc)
@@ -48,20 +48,20 @@ field_steady _ v u le h = absurd (cc)
 pub word_steady : (w : ℕ) → IsSteady (word w)
 word_steady w v u le h = field_steady (word w) v u le h
 
-pub part_steady : (a : Term) (hi lo : ℕ) → IsSteady (slice a hi lo)
+pub part_steady : (a : ExprModel) (hi lo : ℕ) → IsSteady (slice a hi lo)
 part_steady a hi lo v u le h = field_steady (slice a hi lo) v u le h
 
-pub zext_steady : (a : Term) (w : ℕ) → IsSteady (zext a w)
+pub zext_steady : (a : ExprModel) (w : ℕ) → IsSteady (zext a w)
 zext_steady a w v u le h = field_steady a v u le h
 
-all_below : (t : Term) (n : ℕ) → IsSteady t → shows t n ≡ true → shows_below t n ≡ true
+all_below : (t : ExprModel) (n : ℕ) → IsSteady t → shows t n ≡ true → shows_below t n ≡ true
 all_below t zero s h = refl
 all_below t (suc n) s h =
     let k : shows t n ≡ true = s (suc n) n (omega arith) h in
     ap (λ b. b && shows_below t n) k ∙ all_below t n s k
 
 -- the greatest number decides
-pub last_decides : (t : Term) (count last : ℕ) → 0 < count → last ≡ count - 1 → IsSteady t → shows t last ≡ shows_below t count
+pub last_decides : (t : ExprModel) (count last : ℕ) → 0 < count → last ≡ count - 1 → IsSteady t → shows t last ≡ shows_below t count
 last_decides t count last some is s =
     let c : count ≡ suc last = omega (arith, some, is) in
     go (shows t last) refl ∙ ap (shows_below t) (sym c)

@@ -1,3 +1,3 @@
 pub mod Numbers
-pub mod Parts
+pub mod Leaves
 pub mod Inner

@@ -2,13 +2,13 @@
 
 ghost use Rattle.std.specs.Prelude.{◌≡◌, ℕ, Some, IfOk, IfSome, OnOk, List};
 ghost use Rattle.std.specs.Option.{option_map};
-ghost use Rattle.net_model.specs.Terms.{Term, term_of};
-ghost use Rattle.form_model.specs.Trees.{tree_term};
-ghost use Rattle.form_model.specs.Rules.{rule_of};
+ghost use Rattle.net_model.specs.Exprs.{ExprModel, model_of_expr};
+ghost use Rattle.form_model.specs.Trees.{model_of_tree};
+ghost use Rattle.form_model.specs.Forms.{model_of_form};
 ghost use Rattle.form_model.specs.Matches.{address_match, both, matched, taken};
-ghost use Rattle.tree_grammar.specs.Parts.{AddressStands, AreAt, Stands, Taken, destination_at, found_of, is_whole, sites_of, value_at};
+ghost use Rattle.tree_grammar.specs.Leaves.{AddressStands, AreAt, Stands, Taken, model_of_destination, model_of_match, is_whole, models_of_leaves, value_at};
 
-use crate::parts::{Destination, Match, Part};
+use crate::parts::{Destination, Leaf, Match};
 use crate::shapes::{is_field_shape, setting_of, shows_all};
 use crate::terms::{past, take};
 use form_model::{Form, Goal, Tree};
@@ -18,7 +18,7 @@ use std::alloc::Global;
 
 // The number of the value's tree, which comes behind a store's address.
 fn value_number(destination: Destination, at: u64) -> Result<u64, NoMemory>
-    ensures { IfOk result (λ n. n ≡ value_at (destination_at destination.entry) at) }
+    ensures { IfOk result (λ n. n ≡ value_at (model_of_destination destination.entry) at) }
 {
     match destination {
         Destination::Store(address) => past(at, address),
@@ -28,7 +28,7 @@ fn value_number(destination: Destination, at: u64) -> Result<u64, NoMemory>
 
 // Whether the tree is the root of its job, so that it can't be a cut.
 fn is_root(destination: Destination) -> bool
-    ensures { result ≡ is_whole (destination_at destination.entry) }
+    ensures { result ≡ is_whole (model_of_destination destination.entry) }
 {
     match destination {
         Destination::Cell(_) => true,
@@ -39,15 +39,15 @@ fn is_root(destination: Destination) -> bool
 
 // What the address of a memory form takes.
 fn take_address<'a>(
-    parts: &mut Vec<Part<'a>>,
+    parts: &mut Vec<Leaf<'a>>,
     temps: u32,
     addr: &'a Expr,
     destination: Destination<'a>,
     at: u64,
 ) -> Result<Option<u64>, NoMemory>
-    ensures found { IfOk result (λ o. Taken (sites_of parts.old.items) (sites_of parts.new.items)
-        (address_match temps (Some (term_of addr.now)) (destination_at destination.entry)) o) }
-    ensures at { OnOk result ((nodes : List Term) → AddressStands nodes at (destination_at destination.entry) →
+    ensures found { IfOk result (λ o. Taken (models_of_leaves parts.old.items) (models_of_leaves parts.new.items)
+        (address_match temps (Some (model_of_expr addr.now)) (model_of_destination destination.entry)) o) }
+    ensures at { OnOk result ((nodes : List ExprModel) → AddressStands nodes at (model_of_destination destination.entry) →
         AreAt nodes parts.old.items → AreAt nodes parts.new.items) }
 {
     match destination {
@@ -76,19 +76,19 @@ fn take_address<'a>(
 
 // What a memory form takes.
 fn take_memory<'a>(
-    parts: &mut Vec<Part<'a>>,
+    parts: &mut Vec<Leaf<'a>>,
     temps: u32,
     form: &'a Form,
     destination: Destination<'a>,
     tree: &'a Tree,
     at: u64,
 ) -> Result<Option<u64>, NoMemory>
-    ensures found { IfOk result (λ o. Taken (sites_of parts.old.items) (sites_of parts.new.items)
-        (both (address_match temps (rule_of form.now).addr (destination_at destination.entry))
-        (matched temps (rule_of form.now).value (tree_term tree.now) (is_whole (destination_at destination.entry))))
+    ensures found { IfOk result (λ o. Taken (models_of_leaves parts.old.items) (models_of_leaves parts.new.items)
+        (both (address_match temps (model_of_form form.now).addr (model_of_destination destination.entry))
+        (matched temps (model_of_form form.now).value (model_of_tree tree.now) (is_whole (model_of_destination destination.entry))))
         o) }
-    ensures at { OnOk result ((nodes : List Term) →
-        Stands nodes at (destination_at destination.entry) (tree_term tree.now) →
+    ensures at { OnOk result ((nodes : List ExprModel) →
+        Stands nodes at (model_of_destination destination.entry) (model_of_tree tree.now) →
         AreAt nodes parts.old.items → AreAt nodes parts.new.items) }
 {
     let Some(addr) = &form.addr else {
@@ -108,7 +108,7 @@ fn take_memory<'a>(
 // Adds the parts that a form leaves open, and gives the bits that it settles, or none where it
 // doesn't match.
 fn take_form<'a>(
-    parts: &mut Vec<Part<'a>>,
+    parts: &mut Vec<Leaf<'a>>,
     temps: u32,
     form: &'a Form,
     destination: Destination<'a>,
@@ -116,10 +116,10 @@ fn take_form<'a>(
     whole: bool,
     at: u64,
 ) -> Result<Option<u64>, NoMemory>
-    ensures found { IfOk result (λ o. Taken (sites_of parts.old.items) (sites_of parts.new.items)
-        (taken temps (rule_of form.now) (destination_at destination.entry) (tree_term tree.now) whole) o) }
-    ensures at { OnOk result ((nodes : List Term) →
-        Stands nodes at (destination_at destination.entry) (tree_term tree.now) →
+    ensures found { IfOk result (λ o. Taken (models_of_leaves parts.old.items) (models_of_leaves parts.new.items)
+        (taken temps (model_of_form form.now) (model_of_destination destination.entry) (model_of_tree tree.now) whole) o) }
+    ensures at { OnOk result ((nodes : List ExprModel) →
+        Stands nodes at (model_of_destination destination.entry) (model_of_tree tree.now) →
         AreAt nodes parts.old.items → AreAt nodes parts.new.items) }
 {
     match &form.goal {
@@ -164,10 +164,10 @@ pub fn match_at<'a>(
     temps: u32,
     at: u64,
 ) -> Result<Option<Match<'a>>, NoMemory>
-    ensures found { IfOk result (λ o. option_map found_of o
-        ≡ taken temps (rule_of form.now) (destination_at destination.entry) (tree_term tree.now) whole) }
-    ensures at { IfOk result (λ o. IfSome o (λ m. (nodes : List Term) →
-        Stands nodes at (destination_at destination.entry) (tree_term tree.now) →
+    ensures found { IfOk result (λ o. option_map model_of_match o
+        ≡ taken temps (model_of_form form.now) (model_of_destination destination.entry) (model_of_tree tree.now) whole) }
+    ensures at { IfOk result (λ o. IfSome o (λ m. (nodes : List ExprModel) →
+        Stands nodes at (model_of_destination destination.entry) (model_of_tree tree.now) →
         AreAt nodes m.parts.items)) }
 {
     let mut parts = Vec::new(alloc);

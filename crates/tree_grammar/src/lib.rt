@@ -17,7 +17,7 @@
 //! - `shapes`: field shapes: which numbers they show, and under which bits of the word.
 //! - `terms`: what an expression of a form takes of a tree.
 //! - `forms`: what a form takes of a tree with its destination: `match_at`.
-//! - `specs/`: `Numbers` and `Parts`, cited by public contracts. `specs/Inner/`: `Settings` and
+//! - `specs/`: `Numbers` and `Leaves`, cited by public contracts. `specs/Inner/`: `Settings` and
 //!   `Unary`, parts of definitions that proofs name.
 //! - `proofs/`: `NumberLemmas` for subtrees, `ShapeLemmas` and `ExtensionLemmas` for shapes,
 //!   `UnaryLemmas`.
@@ -30,7 +30,7 @@ mod sizes;
 mod terms;
 
 pub use forms::match_at;
-pub use parts::{Destination, Home, Match, Part};
+pub use parts::{Destination, Home, Leaf, Match};
 pub use shapes::{fits_field, is_field_shape, low_bits, plain_setting_of, setting_of, shows_all};
 pub use sizes::{expr_width, plus, tree_size, tree_width};
 pub use terms::is_number_tree;

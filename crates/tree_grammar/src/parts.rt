@@ -1,8 +1,8 @@
 //! Matches, and where trees go.
 
 ghost use Rattle.std.specs.Prelude.{◌≡◌};
-ghost use Rattle.form_model.specs.Rules.{destination_of};
-ghost use Rattle.tree_grammar.specs.Parts.{destination_at};
+ghost use Rattle.form_model.specs.Forms.{aim_destination};
+ghost use Rattle.tree_grammar.specs.Leaves.{model_of_destination};
 
 use form_model::{Aim, Tree};
 use net_model::Expr;
@@ -18,7 +18,7 @@ pub enum Home<'a> {
 
 /// What a match leaves open, with the number of its tree among the subtrees.
 #[derive(Clone, Copy)]
-pub enum Part<'a> {
+pub enum Leaf<'a> {
     /// A tree that another form has to put into its home first. A whole tree can't be a cut.
     Operand {
         home: Home<'a>,
@@ -41,7 +41,7 @@ pub struct Match<'a> {
     /// a temporary cell or a cell of the file.
     pub setting: u64,
     /// Its parts from left to right, those of a store's address before those of its value.
-    pub parts: Vec<Part<'a>>,
+    pub parts: Vec<Leaf<'a>>,
 }
 
 /// Where a tree's value goes: an aim, or a register or the file as an operand.
@@ -64,7 +64,7 @@ pub enum Destination<'a> {
 impl<'a> Destination<'a> {
     /// Where a tree with this aim goes.
     pub fn of(aim: &'a Aim) -> Destination<'a>
-        ensures { destination_at result ≡ destination_of aim.now }
+        ensures { model_of_destination result ≡ aim_destination aim.now }
     {
         match aim {
             Aim::Cell(address) => Destination::Cell(*address),

@@ -4,7 +4,7 @@ ghost use Rattle.std.specs.Prelude.{◌≡◌, ◌+◌, ◌-◌, ◌*◌, ◌%�
 ghost use Rattle.std.specs.Bool.{OnTrue};
 ghost use Rattle.std.specs.Option.{option_map};
 ghost use Rattle.rec_bits.specs.Operators.{sext_of};
-ghost use Rattle.net_model.specs.Terms.{term_of, term_width};
+ghost use Rattle.net_model.specs.Exprs.{model_of_expr, expr_width};
 ghost use Rattle.form_model.specs.Shapes.{field_setting, is_field, is_plain, is_shape, less_by as less_by_of, plain_setting, shape_setting, shows, shows_below, sum_of as sum_of_terms, sum_setting, sum_with as sum_with_of, summands as summands_of};
 ghost use Rattle.tree_grammar.specs.Inner.Settings.{IsSmall, IsSteady, extension_setting, is_word, sum_at};
 
@@ -16,7 +16,7 @@ use rec_bits::{NoMemory, Op2, mask, sext, slice};
 
 // Whether the expression is the instruction word.
 fn is_whole_word(e: &Expr) -> bool
-    ensures { result ≡ is_word (term_of e.now) }
+    ensures { result ≡ is_word (model_of_expr e.now) }
 {
     match e {
         Expr::Word(_) => true,
@@ -26,7 +26,7 @@ fn is_whole_word(e: &Expr) -> bool
 
 // Whether the expression is the instruction word, or a slice of it.
 fn is_field_of_word(e: &Expr) -> bool
-    ensures { result ≡ is_field (term_of e.now) }
+    ensures { result ≡ is_field (model_of_expr e.now) }
 {
     match e {
         Expr::Word(_) => true,
@@ -38,7 +38,7 @@ fn is_field_of_word(e: &Expr) -> bool
 // Whether the expression is the instruction word, a slice of it, a zext or sext of one of these, or
 // a constant.
 fn is_plain_shape(e: &Expr) -> bool
-    ensures { result ≡ is_plain (term_of e.now) }
+    ensures { result ≡ is_plain (model_of_expr e.now) }
 {
     match e {
         Expr::Const { .. } => true,
@@ -51,7 +51,7 @@ fn is_plain_shape(e: &Expr) -> bool
 /// Whether the expression is a field shape: the instruction word, a slice of it, a zext or sext of
 /// one of these, a constant, or the sum of a constant and one of these.
 pub fn is_field_shape(e: &Expr) -> bool
-    ensures { result ≡ is_shape (term_of e.now) }
+    ensures { result ≡ is_shape (model_of_expr e.now) }
 {
     match e {
         Expr::Bin(op, a, b) => match sum_of(*op, a, b) {
@@ -75,7 +75,7 @@ struct Sum<'a> {
 // The constant of this width with what it is added to, where it is of its width and the other as
 // wide.
 fn sum_with<'a>(width: u8, added: u64, to: &'a Expr) -> Option<Sum<'a>>
-    ensures is { option_map sum_at result ≡ sum_with_of width added (term_of to.now) }
+    ensures is { option_map sum_at result ≡ sum_with_of width added (model_of_expr to.now) }
     ensures small { IfSome result IsSmall }
 {
     if width <= 64 && is_within(added, u64::from(width)) && expr_width(to) == u64::from(width) {
@@ -87,7 +87,7 @@ fn sum_with<'a>(width: u8, added: u64, to: &'a Expr) -> Option<Sum<'a>>
 
 // The two expressions as a sum, where one of them is a constant.
 fn summands<'a>(a: &'a Expr, b: &'a Expr) -> Option<Sum<'a>>
-    ensures is { option_map sum_at result ≡ summands_of (term_of a.now) (term_of b.now) }
+    ensures is { option_map sum_at result ≡ summands_of (model_of_expr a.now) (model_of_expr b.now) }
     ensures small { IfSome result IsSmall }
 {
     match a {
@@ -101,7 +101,7 @@ fn summands<'a>(a: &'a Expr, b: &'a Expr) -> Option<Sum<'a>>
 
 // The sum that an operator with its operands is.
 fn sum_of<'a>(op: Op2, a: &'a Expr, b: &'a Expr) -> Option<Sum<'a>>
-    ensures is { option_map sum_at result ≡ sum_of_terms op (term_of a.now) (term_of b.now) }
+    ensures is { option_map sum_at result ≡ sum_of_terms op (model_of_expr a.now) (model_of_expr b.now) }
     ensures small { IfSome result IsSmall }
 {
     match op {
@@ -169,7 +169,7 @@ fn is_extension(value: u64, from: u64, to: u8) -> bool
 
 // Whether some word gives the field this value.
 fn field_shows(field: &Expr, value: u64) -> bool
-    ensures { result ≡ is_some (field_setting (term_of field.now) value) }
+    ensures { result ≡ is_some (field_setting (model_of_expr field.now) value) }
 {
     match field {
         Expr::Word(width) => is_within(value, u64::from(*width)),
@@ -180,7 +180,7 @@ fn field_shows(field: &Expr, value: u64) -> bool
 
 // Whether some word gives the field, with copies of its top bit, this value.
 fn extension_shows(field: &Expr, to: u8, value: u64) -> bool
-    ensures { result ≡ is_some (extension_setting (term_of field.now) to value) }
+    ensures { result ≡ is_some (extension_setting (model_of_expr field.now) to value) }
 {
     match field {
         Expr::Word(width) => is_extension(value, u64::from(*width), to),
@@ -192,7 +192,7 @@ fn extension_shows(field: &Expr, to: u8, value: u64) -> bool
 
 // Whether some word gives the constant, or the field as it is extended, this value.
 fn plain_shows(shape: &Expr, value: u64) -> bool
-    ensures { result ≡ is_some (plain_setting (term_of shape.now) value) }
+    ensures { result ≡ is_some (plain_setting (model_of_expr shape.now) value) }
 {
     match shape {
         Expr::Const { value: c, .. } => *c == value,
@@ -212,7 +212,7 @@ fn sum_shows(sum: Sum, value: u64) -> bool
 
 // Whether some word gives the field shape this value.
 fn shows_value(shape: &Expr, value: u64) -> bool
-    ensures { result ≡ shows (term_of shape.now) value }
+    ensures { result ≡ shows (model_of_expr shape.now) value }
 {
     match shape {
         Expr::Bin(op, a, b) => match sum_of(*op, a, b) {
@@ -226,15 +226,15 @@ fn shows_value(shape: &Expr, value: u64) -> bool
 /// Whether the field shape takes the number of this width, in bits: it is as wide, and some word
 /// gives it this value.
 pub fn fits_field(shape: &Expr, width: u8, value: u64) -> bool
-    ensures { result ≡ (is_shape (term_of shape.now)
-        && ((width == term_width (term_of shape.now)) && shows (term_of shape.now) value)) }
+    ensures { result ≡ (is_shape (model_of_expr shape.now)
+        && ((width == expr_width (model_of_expr shape.now)) && shows (model_of_expr shape.now) value)) }
 {
     is_field_shape(shape) && u64::from(width) == expr_width(shape) && shows_value(shape, value)
 }
 
 // Whether the shape shows with a number all that are less.
 fn is_steady(shape: &Expr) -> bool
-    ensures { OnTrue result (IsSteady (term_of shape.now)) }
+    ensures { OnTrue result (IsSteady (model_of_expr shape.now)) }
 {
     match shape {
         Expr::Word(_) => true,
@@ -246,7 +246,7 @@ fn is_steady(shape: &Expr) -> bool
 
 /// Whether the field shape shows each number below this one.
 pub fn shows_all(shape: &Expr, count: u32) -> bool
-    ensures { result ≡ shows_below (term_of shape.now) count }
+    ensures { result ≡ shows_below (model_of_expr shape.now) count }
 {
     if count == 0 {
         return true;
@@ -258,7 +258,7 @@ pub fn shows_all(shape: &Expr, count: u32) -> bool
 }
 
 fn shows_each(shape: &Expr, count: u32) -> bool
-    ensures { result ≡ shows_below (term_of shape.now) count }
+    ensures { result ≡ shows_below (model_of_expr shape.now) count }
 {
     for value in 0..count {
         if !shows_value(shape, u64::from(value)) {
@@ -289,9 +289,9 @@ fn shifted(value: u64, places: u8) -> Result<u64, NoMemory>
 // The bits of the word, in their places, that give the field the low bits of this value, in the
 // field's width.
 fn field_bits(field: &Expr, value: u64) -> Result<u64, NoMemory>
-    requires { is_field (term_of field.now) ≡ true }
+    requires { is_field (model_of_expr field.now) ≡ true }
     ensures { IfOk result (λ bits.
-        field_setting (term_of field.now) (value % 2 ^ term_width (term_of field.now)) ≡ Some bits) }
+        field_setting (model_of_expr field.now) (value % 2 ^ expr_width (model_of_expr field.now)) ≡ Some bits) }
 {
     match field {
         Expr::Word(width) => Ok(low_bits(value, u64::from(*width))),
@@ -302,8 +302,8 @@ fn field_bits(field: &Expr, value: u64) -> Result<u64, NoMemory>
 
 // The same for a constant, or a field as it is extended, that has the value under some word.
 fn plain_bits(shape: &Expr, value: u64) -> Result<u64, NoMemory>
-    requires { is_some (plain_setting (term_of shape.now) value) ≡ true }
-    ensures { IfOk result (λ bits. plain_setting (term_of shape.now) value ≡ Some bits) }
+    requires { is_some (plain_setting (model_of_expr shape.now) value) ≡ true }
+    ensures { IfOk result (λ bits. plain_setting (model_of_expr shape.now) value ≡ Some bits) }
 {
     match shape {
         Expr::Zext(a, _) => field_bits(a, value),
@@ -318,7 +318,7 @@ fn plain_bits(shape: &Expr, value: u64) -> Result<u64, NoMemory>
 /// value, and none exactly where it doesn't show it or is a sum. A field that lies above bit 63 is
 /// answered as want of memory.
 pub fn plain_setting_of(shape: &Expr, value: u64) -> Result<Option<u64>, NoMemory>
-    ensures { IfOk result (λ o. o ≡ plain_setting (term_of shape.now) value) }
+    ensures { IfOk result (λ o. o ≡ plain_setting (model_of_expr shape.now) value) }
 {
     if !plain_shows(shape, value) {
         return Ok(None);
@@ -342,7 +342,7 @@ fn sum_setting_of(sum: Sum, value: u64) -> Result<Option<u64>, NoMemory>
 /// none exactly where it doesn't show it. A word has at most 64 bits, so a field that lies above
 /// bit 63 is answered as want of memory.
 pub fn setting_of(shape: &Expr, value: u64) -> Result<Option<u64>, NoMemory>
-    ensures { IfOk result (λ o. o ≡ shape_setting (term_of shape.now) value) }
+    ensures { IfOk result (λ o. o ≡ shape_setting (model_of_expr shape.now) value) }
 {
     match shape {
         Expr::Bin(op, a, b) => match sum_of(*op, a, b) {

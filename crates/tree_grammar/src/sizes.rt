@@ -1,8 +1,8 @@
 //! Widths of trees and expressions, and how many nodes a tree has.
 
 ghost use Rattle.std.specs.Prelude.{◌≡◌, ◌+◌, ◌-◌, ◌<◌, ◌≤◌, ◌^◌, ◌==◌, min, IfOk};
-ghost use Rattle.net_model.specs.Terms.{size_of, term_of, term_width};
-ghost use Rattle.form_model.specs.Trees.{tree_term};
+ghost use Rattle.net_model.specs.Exprs.{size_of, model_of_expr, expr_width};
+ghost use Rattle.form_model.specs.Trees.{model_of_tree};
 
 use form_model::Tree;
 use net_model::Expr;
@@ -21,7 +21,7 @@ pub fn plus(a: u64, b: u64) -> Result<u64, NoMemory>
 
 /// How many nodes the tree has. No tree that memory holds has more than can be counted.
 pub fn tree_size(tree: &Tree) -> Result<u64, NoMemory>
-    ensures { IfOk result (λ n. n ≡ size_of (tree_term tree.now)) }
+    ensures { IfOk result (λ n. n ≡ size_of (model_of_tree tree.now)) }
 {
     match tree {
         Tree::Lit { .. } => Ok(1),
@@ -43,7 +43,7 @@ pub(crate) fn slice_width(hi: u8, lo: u8) -> u64
 
 /// The width of a tree's value, in bits.
 pub fn tree_width(tree: &Tree) -> u64
-    ensures width { result ≡ term_width (tree_term tree.now) }
+    ensures width { result ≡ expr_width (model_of_tree tree.now) }
     ensures few { result ≤ 256 }
 {
     match tree {
@@ -59,7 +59,7 @@ pub fn tree_width(tree: &Tree) -> u64
 
 /// The width of an expression's value, or the greatest number where it is more.
 pub fn expr_width(e: &Expr) -> u64
-    ensures { result ≡ min (term_width (term_of e.now)) 18446744073709551615 }
+    ensures { result ≡ min (expr_width (model_of_expr e.now)) 18446744073709551615 }
 {
     match e {
         Expr::Word(w) => u64::from(*w),
@@ -78,7 +78,7 @@ pub fn expr_width(e: &Expr) -> u64
 
 // Whether the tree's value is as wide as the expression's.
 pub(crate) fn is_as_wide(tree: &Tree, e: &Expr) -> bool
-    ensures { result ≡ (term_width (tree_term tree.now) == term_width (term_of e.now)) }
+    ensures { result ≡ (expr_width (model_of_tree tree.now) == expr_width (model_of_expr e.now)) }
 {
     tree_width(tree) == expr_width(e)
 }

@@ -2,14 +2,14 @@
 
 ghost use Rattle.std.specs.Prelude.{◌≡◌, ◌++◌, ℕ, ◌+◌, ◌==◌, true, Some, None, IfOk, OnOk, List, if◌then◌else◌};
 ghost use Rattle.std.specs.Option.{option_map};
-ghost use Rattle.net_model.specs.Terms.{Term, size_of, term_of, term_width};
-ghost use Rattle.form_model.specs.Trees.{is_cell, is_number, tree_term};
+ghost use Rattle.net_model.specs.Exprs.{ExprModel, size_of, model_of_expr, expr_width};
+ghost use Rattle.form_model.specs.Trees.{is_cell, is_number, model_of_tree};
 ghost use Rattle.form_model.specs.Matches.{cell_match, literal_match, matched, open_if, operand, settled, shape_match};
 ghost use Rattle.tree_grammar.specs.Numbers.{HoldsSubtrees};
-ghost use Rattle.tree_grammar.specs.Inner.Unary.{pair_of, unary_operands};
-ghost use Rattle.tree_grammar.specs.Parts.{AreAt, IsPartAt, Taken, home_at, part_of, sites_of};
+ghost use Rattle.tree_grammar.specs.Inner.Unary.{model_of_pair, unary_operands};
+ghost use Rattle.tree_grammar.specs.Leaves.{AreAt, IsPartAt, Taken, model_of_home, model_of_leaf, models_of_leaves};
 
-use crate::parts::{Home, Part};
+use crate::parts::{Home, Leaf};
 use crate::shapes::{is_field_shape, setting_of, shows_all};
 use crate::sizes::{is_as_wide, plus, tree_size, tree_width};
 use form_model::Tree;
@@ -20,7 +20,7 @@ use rec_bits::NoMemory;
 
 /// Whether the tree is a number.
 pub fn is_number_tree(tree: &Tree) -> bool
-    ensures { result ≡ is_number (tree_term tree.now) }
+    ensures { result ≡ is_number (model_of_tree tree.now) }
 {
     match tree {
         Tree::Lit { .. } => true,
@@ -30,7 +30,7 @@ pub fn is_number_tree(tree: &Tree) -> bool
 
 // Whether the tree is a read at a number.
 fn is_cell_tree(tree: &Tree) -> bool
-    ensures { result ≡ is_cell (tree_term tree.now) }
+    ensures { result ≡ is_cell (model_of_tree tree.now) }
 {
     match tree {
         Tree::Read(a, _) => is_number_tree(a),
@@ -40,7 +40,7 @@ fn is_cell_tree(tree: &Tree) -> bool
 
 // The setting under which the field shape takes a number.
 fn take_number(shape: &Expr, tree: &Tree) -> Result<Option<u64>, NoMemory>
-    ensures { IfOk result (λ o. settled o ≡ shape_match (term_of shape.now) (tree_term tree.now)) }
+    ensures { IfOk result (λ o. settled o ≡ shape_match (model_of_expr shape.now) (model_of_tree tree.now)) }
 {
     match tree {
         Tree::Lit { value, .. } => {
@@ -55,7 +55,7 @@ fn take_number(shape: &Expr, tree: &Tree) -> Result<Option<u64>, NoMemory>
 
 // The setting under which the field shape gives the address of a read at a number.
 fn take_literal(shape: &Expr, tree: &Tree) -> Result<Option<u64>, NoMemory>
-    ensures { IfOk result (λ o. settled o ≡ literal_match (term_of shape.now) (tree_term tree.now)) }
+    ensures { IfOk result (λ o. settled o ≡ literal_match (model_of_expr shape.now) (model_of_tree tree.now)) }
 {
     match tree {
         Tree::Read(a, _) => take_number(shape, a),
@@ -66,10 +66,10 @@ fn take_literal(shape: &Expr, tree: &Tree) -> Result<Option<u64>, NoMemory>
 // ---- parts
 
 // Leaves a part open, which settles no bits.
-fn put_part<'a>(parts: &mut Vec<Part<'a>>, part: Part<'a>) -> Result<Option<u64>, NoMemory>
-    ensures found { IfOk result (λ o. Taken (sites_of parts.old.items) (sites_of parts.new.items)
-        (open_if true (part_of part.entry)) o) }
-    ensures at { OnOk result ((nodes : List Term) → AreAt nodes parts.old.items →
+fn put_part<'a>(parts: &mut Vec<Leaf<'a>>, part: Leaf<'a>) -> Result<Option<u64>, NoMemory>
+    ensures found { IfOk result (λ o. Taken (models_of_leaves parts.old.items) (models_of_leaves parts.new.items)
+        (open_if true (model_of_leaf part.entry)) o) }
+    ensures at { OnOk result ((nodes : List ExprModel) → AreAt nodes parts.old.items →
         IsPartAt nodes part.entry → AreAt nodes parts.new.items) }
 {
     parts.push(part)?;
@@ -78,7 +78,7 @@ fn put_part<'a>(parts: &mut Vec<Part<'a>>, part: Part<'a>) -> Result<Option<u64>
 
 // What a read at a field shape takes: a read at a number, or a cut.
 fn take_cell<'a>(
-    parts: &mut Vec<Part<'a>>,
+    parts: &mut Vec<Leaf<'a>>,
     temps: u32,
     shape: &'a Expr,
     width: u8,
@@ -86,9 +86,9 @@ fn take_cell<'a>(
     whole: bool,
     at: u64,
 ) -> Result<Option<u64>, NoMemory>
-    ensures found { IfOk result (λ o. Taken (sites_of parts.old.items) (sites_of parts.new.items)
-        (cell_match temps (term_of shape.now) width (tree_term tree.now) whole) o) }
-    ensures at { OnOk result ((nodes : List Term) → HoldsSubtrees nodes at (tree_term tree.now) →
+    ensures found { IfOk result (λ o. Taken (models_of_leaves parts.old.items) (models_of_leaves parts.new.items)
+        (cell_match temps (model_of_expr shape.now) width (model_of_tree tree.now) whole) o) }
+    ensures at { OnOk result ((nodes : List ExprModel) → HoldsSubtrees nodes at (model_of_tree tree.now) →
         AreAt nodes parts.old.items → AreAt nodes parts.new.items) }
 {
     if u64::from(width) != tree_width(tree) {
@@ -100,12 +100,12 @@ fn take_cell<'a>(
     if whole || !shows_all(shape, temps) {
         return Ok(None);
     }
-    put_part(parts, Part::Cut { shape, tree, at })
+    put_part(parts, Leaf::Cut { shape, tree, at })
 }
 
 // The number of what follows the tree of number `at`.
 pub(crate) fn past(at: u64, tree: &Tree) -> Result<u64, NoMemory>
-    ensures { IfOk result (λ n. n ≡ at + size_of (tree_term tree.now)) }
+    ensures { IfOk result (λ n. n ≡ at + size_of (model_of_tree tree.now)) }
 {
     plus(at, tree_size(tree)?)
 }
@@ -120,8 +120,8 @@ struct Pair<'a> {
 }
 
 fn pair_if<'a>(same: bool, expr: &'a Expr, tree: &'a Tree) -> Option<Pair<'a>>
-    ensures { option_map pair_of result
-        ≡ (if same then Some (record { term = term_of expr.now; tree = tree_term tree.now }) else None) }
+    ensures { option_map model_of_pair result
+        ≡ (if same then Some (record { term = model_of_expr expr.now; tree = model_of_tree tree.now }) else None) }
 {
     if same {
         Some(Pair { expr, tree })
@@ -133,7 +133,7 @@ fn pair_if<'a>(same: bool, expr: &'a Expr, tree: &'a Tree) -> Option<Pair<'a>>
 // The operands of an expression and of a tree, where both have one operator of one operand, and
 // equal widths.
 fn operands<'a>(e: &'a Expr, tree: &'a Tree) -> Option<Pair<'a>>
-    ensures { option_map pair_of result ≡ unary_operands (term_of e.now) (tree_term tree.now) }
+    ensures { option_map model_of_pair result ≡ unary_operands (model_of_expr e.now) (model_of_tree tree.now) }
 {
     match e {
         Expr::Un(op, a) => match tree {
@@ -160,16 +160,16 @@ fn operands<'a>(e: &'a Expr, tree: &'a Tree) -> Option<Pair<'a>>
 
 // A register or a read of the file takes a tree of its width as an operand.
 fn take_operand<'a>(
-    parts: &mut Vec<Part<'a>>,
+    parts: &mut Vec<Leaf<'a>>,
     home: Home<'a>,
     width: u8,
     tree: &'a Tree,
     whole: bool,
     at: u64,
 ) -> Result<Option<u64>, NoMemory>
-    ensures found { IfOk result (λ o. Taken (sites_of parts.old.items) (sites_of parts.new.items)
-        (open_if (width == term_width (tree_term tree.now)) (operand (home_at home.entry) (tree_term tree.now) whole)) o) }
-    ensures at { OnOk result ((nodes : List Term) → HoldsSubtrees nodes at (tree_term tree.now) →
+    ensures found { IfOk result (λ o. Taken (models_of_leaves parts.old.items) (models_of_leaves parts.new.items)
+        (open_if (width == expr_width (model_of_tree tree.now)) (operand (model_of_home home.entry) (model_of_tree tree.now) whole)) o) }
+    ensures at { OnOk result ((nodes : List ExprModel) → HoldsSubtrees nodes at (model_of_tree tree.now) →
         AreAt nodes parts.old.items → AreAt nodes parts.new.items) }
 {
     if u64::from(width) != tree_width(tree) {
@@ -177,7 +177,7 @@ fn take_operand<'a>(
     }
     put_part(
         parts,
-        Part::Operand {
+        Leaf::Operand {
             home,
             tree,
             whole,
@@ -189,16 +189,16 @@ fn take_operand<'a>(
 // Adds the parts that an expression of a form leaves open of a tree, and gives the bits that it
 // settles, or none where it doesn't match.
 pub(crate) fn take<'a>(
-    parts: &mut Vec<Part<'a>>,
+    parts: &mut Vec<Leaf<'a>>,
     temps: u32,
     e: &'a Expr,
     tree: &'a Tree,
     whole: bool,
     at: u64,
 ) -> Result<Option<u64>, NoMemory>
-    ensures found { IfOk result (λ o. Taken (sites_of parts.old.items) (sites_of parts.new.items)
-        (matched temps (term_of e.now) (tree_term tree.now) whole) o) }
-    ensures at { OnOk result ((nodes : List Term) → HoldsSubtrees nodes at (tree_term tree.now) →
+    ensures found { IfOk result (λ o. Taken (models_of_leaves parts.old.items) (models_of_leaves parts.new.items)
+        (matched temps (model_of_expr e.now) (model_of_tree tree.now) whole) o) }
+    ensures at { OnOk result ((nodes : List ExprModel) → HoldsSubtrees nodes at (model_of_tree tree.now) →
         AreAt nodes parts.old.items → AreAt nodes parts.new.items) }
 {
     if is_field_shape(e) {

@@ -8,8 +8,8 @@ use Rattle.std.proofs.Math.Nat.{ℕ_set}
 use Rattle.std.proofs.lemmas.Bool.{cases_lt, ne_eqb}
 use Rattle.std.proofs.lemmas.Option.{get_or_from_slice_get, slice_get_past, slice_get_within}
 use Rattle.std.proofs.lemmas.List.{drop_more}
-use Rattle.net_model.specs.Terms.{term_width}
-use Rattle.form_model.specs.Trees.{tree_term}
+use Rattle.net_model.specs.Exprs.{expr_width}
+use Rattle.form_model.specs.Trees.{model_of_tree}
 use Rattle.form_model.specs.declared.trees.Tree.{Tree}
 use Rattle.form_model.specs.declared.trees.Tree.TheVariants.{Lit, Read', Un', Bin', Slice', Zext', Sext'}
 use Rattle.sym_expr.specs.declared.pool.Node.{Node}
@@ -75,30 +75,30 @@ module _ (table : Classes) where
   pub found_below : (n : Node) (c : ℕ) → found_in table n ≡ Some c → c < class_count table
   found_below n c e = ∥∥₁_elim table.meanings le_prop (λ m. let x = m [] (no_cells table.cell) in (found_of n c e [] x.0 x.1).below)
 
-  pub class_stands_of : (tree : Tree) (c : ℕ) → class_of table tree ≡ Some c → Stands table (tree_term tree) c
+  pub class_stands_of : (tree : Tree) (c : ℕ) → class_of table tree ≡ Some c → Stands table (model_of_tree tree) c
   class_stands_of (Lit w v) c e = found_of (Const w v) c e
   class_stands_of (Read' p a w) c e = and_then_some (λ x. found_in table (Read x w)) (class_of table a) c e
-      (λ x f g. read_node table (tree_term a) x w (class_stands_of a x f) c (found_of (Read x w) c g))
+      (λ x f g. read_node table (model_of_tree a) x w (class_stands_of a x f) c (found_of (Read x w) c g))
   class_stands_of (Un' o p a) c e = and_then_some (λ x. found_in table (Un o x)) (class_of table a) c e
-      (λ x f g. un_node table o (tree_term a) x (class_stands_of a x f) c (found_of (Un o x) c g))
+      (λ x f g. un_node table o (model_of_tree a) x (class_stands_of a x f) c (found_of (Un o x) c g))
   class_stands_of (Bin' o p a q b) c e = and_then_some (λ x. option_and_then (λ y. found_in table (Bin o x y)) (class_of table b)) (class_of table a) c e
       (λ x f k. and_then_some (λ y. found_in table (Bin o x y)) (class_of table b) c k
-      (λ y g h. bin_node table o (tree_term a) (tree_term b) x y (class_stands_of a x f) (class_stands_of b y g) c (found_of (Bin o x y) c h)))
+      (λ y g h. bin_node table o (model_of_tree a) (model_of_tree b) x y (class_stands_of a x f) (class_stands_of b y g) c (found_of (Bin o x y) c h)))
   class_stands_of (Slice' p a hi lo) c e = and_then_some (λ x. found_in table (Slice x hi lo)) (class_of table a) c e
-      (λ x f g. slice_node table (tree_term a) x hi lo (class_stands_of a x f) c (found_of (Slice x hi lo) c g))
+      (λ x f g. slice_node table (model_of_tree a) x hi lo (class_stands_of a x f) c (found_of (Slice x hi lo) c g))
   class_stands_of (Zext' p a w) c e = and_then_some (λ x. found_in table (Zext x w)) (class_of table a) c e
-      (λ x f g. zext_node table (tree_term a) x w (class_stands_of a x f) c (found_of (Zext x w) c g))
+      (λ x f g. zext_node table (model_of_tree a) x w (class_stands_of a x f) c (found_of (Zext x w) c g))
   class_stands_of (Sext' p a w) c e = and_then_some (λ x. found_in table (Sext x w)) (class_of table a) c e
-      (λ x f g. sext_node table (tree_term a) x w (class_stands_of a x f) c (found_of (Sext x w) c g))
+      (λ x f g. sext_node table (model_of_tree a) x w (class_stands_of a x f) c (found_of (Sext x w) c g))
 
-  pub some_stands : (tree : Tree) (o : Option ℕ) → o ≡ class_of table tree → IfSome o (Stands table (tree_term tree))
+  pub some_stands : (tree : Tree) (o : Option ℕ) → o ≡ class_of table tree → IfSome o (Stands table (model_of_tree tree))
   some_stands tree None e = tt
   some_stands tree (Some c) e = class_stands_of tree c (sym e)
 
   pub found_there : (tree : Tree) (c : ℕ) → class_of table tree ≡ Some c → c < class_count table
   found_there tree c e = ∥∥₁_elim table.meanings le_prop (λ m. let x = m [] (no_cells table.cell) in (class_stands_of tree c e [] x.0 x.1).below)
 
-  pub found_width : (tree : Tree) (c : ℕ) → class_of table tree ≡ Some c → width_in table c ≡ term_width (tree_term tree)
+  pub found_width : (tree : Tree) (c : ℕ) → class_of table tree ≡ Some c → width_in table c ≡ expr_width (model_of_tree tree)
   found_width tree c e = ∥∥₁_elim table.meanings (ℕ_set _ _) (λ m. let x = m [] (no_cells table.cell) in sym (class_stands_of tree c e [] x.0 x.1).width)
 
 -- the class that stands for one that is there is there

@@ -8,8 +8,8 @@ use Rattle.std.proofs.Math.Bridge.{le_prop}
 use Rattle.std.proofs.Math.Nat.{ℕ_set}
 use Rattle.std.proofs.lemmas.Option.{none-some, same_Some}
 use Rattle.rec_bits.proofs.Lists.{get_left}
-use Rattle.net_model.specs.Terms.{term_width}
-use Rattle.form_model.specs.Trees.{tree_term}
+use Rattle.net_model.specs.Exprs.{expr_width}
+use Rattle.form_model.specs.Trees.{model_of_tree}
 use Rattle.form_model.specs.declared.trees.Tree.{Tree}
 use Rattle.form_model.specs.declared.trees.Tree.TheVariants.{Lit, Read', Un', Bin', Slice', Zext', Sext', Read as ReadTree, Un as UnTree, Bin as BinTree, Slice as SliceTree, Zext as ZextTree, Sext as SextTree}
 use Rattle.rec_bits.specs.declared.operator.Op1.{Op1}
@@ -105,7 +105,7 @@ module _ (table : Classes) (a : Box Tree Global) (x : ℕ) (e : class_of table a
   below : x < class_count table
   below = found_there table a.value x e
 
-  wide : width_in table x ≡ term_width (tree_term a.value)
+  wide : width_in table x ≡ expr_width (model_of_tree a.value)
   wide = found_width table a.value x e
 
   pub read_root : (w : ℕ) → IsRootOf table (ReadTree a w) (Read x w)
@@ -147,7 +147,7 @@ module _ (table : Classes) (a : Box Tree Global) (x : ℕ) (e : class_of table a
 
 -- the root's class is the tree's
 pub root_stands : {E : Type 0} (old new : Classes) (tree : Tree) (node : Node) (r : Result (Option ℕ) E) → IsRootOf old tree node → Grows old new → IfOk r (λ found. found ≡ found_in new node)
-    → IfOk r (λ found. IfSome found (Stands new (tree_term tree)))
+    → IfOk r (λ found. IfSome found (Stands new (model_of_tree tree)))
 root_stands old new tree node (Err e) root g f = tt
 root_stands old new tree node (Ok None) root g f = tt
 root_stands old new tree node (Ok (Some c)) root g f = class_stands_of new tree c (sym (f ∙ root.later new g))

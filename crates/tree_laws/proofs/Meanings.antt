@@ -5,17 +5,17 @@ use Rattle.std.proofs.Math.ListN.{get_or-append}
 use Rattle.std.proofs.Math.Seq.{get_or-append_seam}
 use Rattle.rec_bits.proofs.Lists.{get_left, get_seam}
 use Rattle.rec_bits.specs.Operators.{IsWidth, slice_of, result_width}
-use Rattle.net_model.specs.Terms.{Term, term_width}
+use Rattle.net_model.specs.Exprs.{ExprModel, expr_width}
 use Rattle.net_model.specs.Meaning.{mean}
 use Rattle.sym_expr.proofs.Fits.{width_fits, value_below}
 use Rattle.sym_expr.proofs.Keys.{exact_node}
 use Rattle.sym_expr.specs.declared.pool.Node.{Node}
 use Rattle.sym_expr.specs.declared.pool.Node.TheVariants.{Word, Reg, Const, Read, Cell, Un, Bin, Slice, Cat, Zext, Sext, Select}
 use Rattle.sym_expr.specs.contracts.pool.NodePartialEq.TheImpl.{ghosts as node_eq}
-use Rattle.sym_expr.specs.Pools.{TermFits, Suits}
+use Rattle.sym_expr.specs.Pools.{ExprFits, Suits}
 use Rattle.tree_laws.specs.declared.classes.Class.{Class}
 use Rattle.tree_laws.specs.declared.classes.Classes.{Classes}
-use Rattle.tree_laws.specs.Meanings.{Entries, HaveMeanings, HeadMeans, Means, NodeFits, NodeMeans, Redirected, canon_of, class_head, class_width, head_of, listed_at, state_of, term_over, width_at}
+use Rattle.tree_laws.specs.Meanings.{Entries, HaveMeanings, HeadMeans, Means, NodeFits, NodeMeans, Redirected, canon_of, class_head, class_width, head_of, listed_at, state_of, expr_over, width_at}
 use Rattle.tree_laws.specs.Classes.{AreOne, IsOfClass, IsSameIn, NodeStands, StandsIn, TableMeans}
 
 -- ---- tables whose old classes have the same widths and values
@@ -26,7 +26,7 @@ record Agrees (old new : List Class) (regs vals : List ℕ) : Type 0 where
   values : (c : ℕ) → c < length old → slice_index vals c ≡ slice_index regs c
 
 module _ (cell : ℕ) (old new : List Class) (cells regs values : List ℕ) (g : Agrees old new regs values) where
-  node_value : (n : Node) → NodeFits cell old n → mean (term_over new n) (state_of cells values) 0 ≡ mean (term_over old n) (state_of cells regs) 0
+  node_value : (n : Node) → NodeFits cell old n → mean (expr_over new n) (state_of cells values) 0 ≡ mean (expr_over old n) (state_of cells regs) 0
   node_value (Const w v) h = refl
   node_value (Read a w) h = ap (slice_index cells) (g.values a h.1.0)
   node_value (Un o a) h = cc (g.widths a h.1.0, g.values a h.1.0)
@@ -40,7 +40,7 @@ module _ (cell : ℕ) (old new : List Class) (cells regs values : List ℕ) (g :
   node_value (Cat a b) h = absurd h.0
   node_value (Select d a b) h = absurd h.0
 
-  node_width : (n : Node) → NodeFits cell old n → term_width (term_over new n) ≡ term_width (term_over old n)
+  node_width : (n : Node) → NodeFits cell old n → expr_width (expr_over new n) ≡ expr_width (expr_over old n)
   node_width (Const w v) h = refl
   node_width (Read a w) h = refl
   node_width (Un o a) h = g.widths a h.1.0
@@ -82,7 +82,7 @@ module _ (cell : ℕ) (old new : List Class) (cells regs values : List ℕ) (g :
 -- ---- nodes as expressions
 
 module _ (cell : ℕ) (classes : List Class) (entries : Entries) (cells regs : List ℕ) (m : Means cell classes entries cells regs) where
-  term_fits : (n : Node) → NodeFits cell classes n → TermFits (term_over classes n)
+  term_fits : (n : Node) → NodeFits cell classes n → ExprFits (expr_over classes n)
   term_fits (Const w v) h = h.2
   term_fits (Read a w) h = (m.widths a h.1.0, h.2)
   term_fits (Un o a) h = m.widths a h.1.0
@@ -96,7 +96,7 @@ module _ (cell : ℕ) (classes : List Class) (entries : Entries) (cells regs : L
   term_fits (Cat a b) h = absurd h.0
   term_fits (Select d a b) h = absurd h.0
 
-  term_suits : (n : Node) → NodeFits cell classes n → Suits (term_over classes n) (state_of cells regs) 0
+  term_suits : (n : Node) → NodeFits cell classes n → Suits (expr_over classes n) (state_of cells regs) 0
   term_suits (Const w v) h = tt
   term_suits (Read a w) h = (m.values a h.1.0, subst (λ n. slice_index cells (slice_index regs a) < 2 ^ n) (sym h.0) (m.cells_fit (slice_index regs a)))
   term_suits (Un o a) h = m.values a h.1.0
@@ -111,7 +111,7 @@ module _ (cell : ℕ) (classes : List Class) (entries : Entries) (cells regs : L
   term_suits (Select d a b) h = absurd h.0
 
   -- a node and the node over the classes that stand for its own
-  canon_value : (n : Node) → NodeFits cell classes n → mean (term_over classes (canon_of classes n)) (state_of cells regs) 0 ≡ mean (term_over classes n) (state_of cells regs) 0
+  canon_value : (n : Node) → NodeFits cell classes n → mean (expr_over classes (canon_of classes n)) (state_of cells regs) 0 ≡ mean (expr_over classes n) (state_of cells regs) 0
   canon_value (Const w v) h = refl
   canon_value (Read a w) h = ap (slice_index cells) (m.heads a h.1.0).value
   canon_value (Un o a) h = cc ((m.heads a h.1.0).width, (m.heads a h.1.0).value)
@@ -125,7 +125,7 @@ module _ (cell : ℕ) (classes : List Class) (entries : Entries) (cells regs : L
   canon_value (Cat a b) h = absurd h.0
   canon_value (Select d a b) h = absurd h.0
 
-  canon_width : (n : Node) → NodeFits cell classes n → term_width (term_over classes (canon_of classes n)) ≡ term_width (term_over classes n)
+  canon_width : (n : Node) → NodeFits cell classes n → expr_width (expr_over classes (canon_of classes n)) ≡ expr_width (expr_over classes n)
   canon_width (Const w v) h = refl
   canon_width (Read a w) h = refl
   canon_width (Un o a) h = (m.heads a h.1.0).width
@@ -154,8 +154,8 @@ module _ (cell : ℕ) (classes : List Class) (entries : Entries) (cells regs : L
   canon_fits (Select d a b) h = absurd h.0
 
   -- what a class means is what the node over the standing classes means
-  canon_means : (n : Node) (c : ℕ) → NodeFits cell classes n → c < length classes → term_width (term_over classes n) ≡ width_at classes c
-      → mean (term_over classes n) (state_of cells regs) 0 ≡ slice_index regs c → NodeMeans cell classes cells regs (canon_of classes n) c
+  canon_means : (n : Node) (c : ℕ) → NodeFits cell classes n → c < length classes → expr_width (expr_over classes n) ≡ width_at classes c
+      → mean (expr_over classes n) (state_of cells regs) 0 ≡ slice_index regs c → NodeMeans cell classes cells regs (canon_of classes n) c
   canon_means n c h below w v = record { fits = canon_fits n h; below = below; width = canon_width n h ∙ w; value = canon_value n h ∙ v }
 
 -- a node that is listed, but for joined classes
@@ -230,7 +230,7 @@ list_tried table new n key c (Err x) is e p f u m = subst (HaveMeanings table.ce
 
 -- ---- a new class
 
-module _ (table : Classes) (n : Node) (fit : NodeFits table.cell table.classes.items n) (k : Class) (ew : k.width ≡ term_width (term_over table.classes.items n)) (eh : k.head ≡ length table.classes.items) where
+module _ (table : Classes) (n : Node) (fit : NodeFits table.cell table.classes.items n) (k : Class) (ew : k.width ≡ expr_width (expr_over table.classes.items n)) (eh : k.head ≡ length table.classes.items) where
   longer_classes : length (table.classes.items ++ k ∷ []) ≡ length table.classes.items + 1
   longer_classes = length-append table.classes.items (k ∷ [])
 
@@ -245,7 +245,7 @@ module _ (table : Classes) (n : Node) (fit : NodeFits table.cell table.classes.i
 
   module _ (cells regs : List ℕ) (m : Means table.cell table.classes.items table.nodes.entries cells regs) where
     new_value : ℕ
-    new_value = mean (term_over table.classes.items n) (state_of cells regs) 0
+    new_value = mean (expr_over table.classes.items n) (state_of cells regs) 0
 
     grown_agrees : Agrees table.classes.items (table.classes.items ++ k ∷ []) regs (regs ++ new_value ∷ [])
     grown_agrees = record {
@@ -300,13 +300,13 @@ module _ (table : Classes) (n : Node) (fit : NodeFits table.cell table.classes.i
       widths = λ c h. elim (last_or c h) as (λ _. IsWidth (width_at (table.classes.items ++ k ∷ []) c)) [
         | inl l ↦ subst IsWidth (sym (old_width c l)) (m.widths c l)
         | inr e ↦ subst (λ d. IsWidth (width_at (table.classes.items ++ k ∷ []) d)) (sym e)
-            (subst IsWidth (sym (new_width ∙ ew)) (width_fits (term_over table.classes.items n) (term_fits table.cell table.classes.items table.nodes.entries cells regs m n fit)))
+            (subst IsWidth (sym (new_width ∙ ew)) (width_fits (expr_over table.classes.items n) (term_fits table.cell table.classes.items table.nodes.entries cells regs m n fit)))
       ];
       values = λ c h. elim (last_or c h) as (λ _. slice_index (regs ++ new_value ∷ []) c < 2 ^ width_at (table.classes.items ++ k ∷ []) c) [
         | inl l ↦ subst (λ x. x < 2 ^ width_at (table.classes.items ++ k ∷ []) c) (sym (grown_agrees.values c l)) (subst (λ w. slice_index regs c < 2 ^ w) (sym (old_width c l)) (m.values c l))
         | inr e ↦ subst (λ d. slice_index (regs ++ new_value ∷ []) d < 2 ^ width_at (table.classes.items ++ k ∷ []) d) (sym e)
             (subst (λ x. x < 2 ^ width_at (table.classes.items ++ k ∷ []) (length table.classes.items)) (sym value_end)
-            (value_below (term_over table.classes.items n) (state_of cells regs) 0 new_value (width_at (table.classes.items ++ k ∷ []) (length table.classes.items)) refl (new_width ∙ ew)
+            (value_below (expr_over table.classes.items n) (state_of cells regs) 0 new_value (width_at (table.classes.items ++ k ∷ []) (length table.classes.items)) refl (new_width ∙ ew)
             (term_fits table.cell table.classes.items table.nodes.entries cells regs m n fit) (term_suits table.cell table.classes.items table.nodes.entries cells regs m n fit)))
       ];
       nodes = all;
@@ -440,7 +440,7 @@ heads_one table a b la lb e cells regs m =
     }
 
 -- one expression of two classes
-pub stands_one : (table : Classes) (t : Term) (a b : ℕ) → ((cells regs : List ℕ) → TableMeans table cells regs → StandsIn table t a cells regs) → ((cells regs : List ℕ) → TableMeans table cells regs → StandsIn table t b cells regs) → AreOne table a b
+pub stands_one : (table : Classes) (t : ExprModel) (a b : ℕ) → ((cells regs : List ℕ) → TableMeans table cells regs → StandsIn table t a cells regs) → ((cells regs : List ℕ) → TableMeans table cells regs → StandsIn table t b cells regs) → AreOne table a b
 stands_one table t a b f g cells regs m =
     let p = f cells regs m in
     let q = g cells regs m in

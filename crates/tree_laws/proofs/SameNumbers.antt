@@ -3,7 +3,7 @@ use Rattle.std.proofs.Common.{◌≡◌, ℕ, ◌+◌, ◌-◌, sym, arith, refl
 use Rattle.rec_bits.specs.Operators.{apply1_of, apply2_of, result_width, sext_of, slice_of}
 use Rattle.rec_bits.specs.declared.operator.Op1.{Op1}
 use Rattle.rec_bits.specs.declared.operator.Op2.{Op2}
-use Rattle.net_model.specs.Terms.{const, un, bin, slice, zext, sext}
+use Rattle.net_model.specs.Exprs.{const, un, bin, slice, zext, sext}
 use Rattle.tree_laws.specs.Rules.{AreSame}
 
 pub un_value_same : (o : Op1) (w a v : ℕ) → v ≡ apply1_of o w a → AreSame (un o (const w a)) (const w v)

@@ -1,16 +1,20 @@
--- What a table of classes says of expressions: which are of a class, and which classes are one.
+-- What a table of classes says of expressions: which are of a class, and which classes are one. A
+-- table lists nodes, each an operator over classes, with its class, and joins classes by a head
+-- that stands for them. What it takes (`FitsIn`), where a node or a tree is listed (`found_in`,
+-- `class_of`), when it means what its class means (`NodeStands`, `Stands`), what joining does
+-- (`IsJoined`), and what stays when it grows (`Grows`).
 use Rattle.std.specs.Prelude.{ℕ, ◌+◌, ◌^◌, ◌<◌, ◌≤◌, ◌≡◌, ◌==◌, if◌then◌else◌, Bool, false, List, length, Option, Some, None, option_and_then, slice_get, slice_index}
 use Rattle.rec_bits.specs.Operators.{IsWidth}
 use Rattle.rec_bits.specs.declared.operator.Op1.TheVariants.{Not}
-use Rattle.net_model.specs.Terms.{Term, const, un, bin, slice, zext, sext, term_width}
+use Rattle.net_model.specs.Exprs.{ExprModel, const, un, bin, slice, zext, sext, expr_width}
 use Rattle.net_model.specs.Meaning.{mean}
-use Rattle.form_model.specs.Trees.{tree_term}
+use Rattle.form_model.specs.Trees.{model_of_tree}
 use Rattle.form_model.specs.declared.trees.Tree.{Tree}
 use Rattle.form_model.specs.declared.trees.Tree.TheVariants.{Lit, Read', Un', Bin', Slice', Zext', Sext'}
 use Rattle.sym_expr.specs.declared.pool.Node.{Node}
 use Rattle.sym_expr.specs.declared.pool.Node.TheVariants.{Const, Read, Un, Bin, Slice, Zext, Sext}
-use Rattle.sym_expr.specs.Pools.{HeadFits, TermFits, Suits}
-use Rattle.tree_laws.specs.Meanings.{Means, NodeFits, NodeMeans, Redirected, canon_of, class_term, head_of, listed_at, state_of, term_over, width_at}
+use Rattle.sym_expr.specs.Pools.{HeadFits, ExprFits, Suits}
+use Rattle.tree_laws.specs.Meanings.{Means, NodeFits, NodeMeans, Redirected, canon_of, class_expr, head_of, listed_at, state_of, expr_over, width_at}
 use Rattle.tree_laws.specs.Rules.{expression_at, num_of}
 use Rattle.tree_laws.specs.declared.classes.Classes.{Classes}
 use Rattle.tree_laws.specs.declared.rules.Num.{Num}
@@ -45,8 +49,8 @@ abbrev pub head_in : Classes → ℕ → ℕ
 head_in table c = head_of table.classes.items c
 
 -- a node as an expression over the classes, and over those that stand for its own
-abbrev pub term_in : Classes → Node → Term
-term_in table node = term_over table.classes.items node
+abbrev pub expr_in : Classes → Node → ExprModel
+expr_in table node = expr_over table.classes.items node
 
 abbrev pub canon_in : Classes → Node → Node
 canon_in table node = canon_of table.classes.items node
@@ -87,10 +91,10 @@ abbrev pub TreeFits : ℕ → Tree → Type 0
 TreeFits cell (Lit w v) = HeadFits (const w v)
 TreeFits cell (Read' p a w) = TreeFits cell a × (w ≡ cell)
 TreeFits cell (Un' o p a) = TreeFits cell a
-TreeFits cell (Bin' o p a q b) = TreeFits cell a × TreeFits cell b × HeadFits (bin o (tree_term a) (tree_term b))
-TreeFits cell (Slice' p a hi lo) = TreeFits cell a × HeadFits (slice (tree_term a) hi lo)
-TreeFits cell (Zext' p a w) = TreeFits cell a × HeadFits (zext (tree_term a) w)
-TreeFits cell (Sext' p a w) = TreeFits cell a × HeadFits (sext (tree_term a) w)
+TreeFits cell (Bin' o p a q b) = TreeFits cell a × TreeFits cell b × HeadFits (bin o (model_of_tree a) (model_of_tree b))
+TreeFits cell (Slice' p a hi lo) = TreeFits cell a × HeadFits (slice (model_of_tree a) hi lo)
+TreeFits cell (Zext' p a w) = TreeFits cell a × HeadFits (zext (model_of_tree a) w)
+TreeFits cell (Sext' p a w) = TreeFits cell a × HeadFits (sext (model_of_tree a) w)
 
 -- the table may have more classes and nodes than before; what was there is as it was
 pub record Grows (old new : Classes) : Type 0 where
@@ -114,35 +118,35 @@ IsOfClass table node c =
 -- ---- what is in a class
 
 -- the expression is one of the class: it is well typed, has the class's width, and its value
-pub record StandsIn (table : Classes) (term : Term) (c : ℕ) (cells regs : List ℕ) : Type 0 where
+pub record StandsIn (table : Classes) (term : ExprModel) (c : ℕ) (cells regs : List ℕ) : Type 0 where
   pub below : c < class_count table
-  pub width : term_width term ≡ width_in table c
-  pub fits : TermFits term
+  pub width : expr_width term ≡ width_in table c
+  pub fits : ExprFits term
   pub suits : Suits term (state_of cells regs) 0
   pub value : mean term (state_of cells regs) 0 ≡ slice_index regs c
 
 -- it is so whatever the classes mean
-abbrev pub Stands : Classes → Term → ℕ → Type 0
+abbrev pub Stands : Classes → ExprModel → ℕ → Type 0
 Stands table term c = (cells regs : List ℕ) → TableMeans table cells regs → StandsIn table term c cells regs
 
 abbrev pub NodeStands : Classes → Node → ℕ → Type 0
-NodeStands table node c = Stands table (term_in table node) c
+NodeStands table node c = Stands table (expr_in table node) c
 
 -- the node is the expression's: where the node is of a class, the expression is
-abbrev pub IsNodeOf : Classes → Term → Node → Type 0
+abbrev pub IsNodeOf : Classes → ExprModel → Node → Type 0
 IsNodeOf table term node = (c : ℕ) → NodeStands table node c → Stands table term c
 
 -- the class has the negation of a test
-abbrev pub IsOpposite : Classes → Term → ℕ → Type 0
+abbrev pub IsOpposite : Classes → ExprModel → ℕ → Type 0
 IsOpposite table test c =
-    Stands table (un Not test) c × ((cells regs : List ℕ) → TableMeans table cells regs → term_width test ≡ 1)
+    Stands table (un Not test) c × ((cells regs : List ℕ) → TableMeans table cells regs → expr_width test ≡ 1)
 
 -- the values of a rule's variables as expressions over the classes
-abbrev pub tree_at : Classes → List ℕ → ℕ → Term
-tree_at table ids x = class_term table.classes.items (slice_index ids x)
+abbrev pub tree_at : Classes → List ℕ → ℕ → ExprModel
+tree_at table ids x = class_expr table.classes.items (slice_index ids x)
 
 -- each expression is one of its class
-pub record AllStand (table : Classes) (terms : List Term) (ids : List ℕ) : Type 0 where
+pub record AllStand (table : Classes) (terms : List ExprModel) (ids : List ℕ) : Type 0 where
   pub count : length ids ≡ length terms
   pub each : (k : ℕ) → k < length ids → Stands table (expression_at terms k) (slice_index ids k)
 

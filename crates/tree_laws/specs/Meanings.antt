@@ -3,12 +3,12 @@ use Rattle.std.specs.Prelude.{ℕ, ◌^◌, ◌<◌, ◌≡◌, ◌==◌, if◌t
 use Rattle.std.specs.Map.{lookup}
 use Rattle.rec_bits.specs.Operators.{IsWidth}
 use Rattle.net_model.specs.declared.states.State.{State}
-use Rattle.net_model.specs.Terms.{Term, reg, term_width}
+use Rattle.net_model.specs.Exprs.{ExprModel, reg, expr_width}
 use Rattle.net_model.specs.Meaning.{mean}
 use Rattle.sym_expr.specs.declared.pool.Node.{Node}
 use Rattle.sym_expr.specs.declared.pool.Node.TheVariants.{Word, Reg, Const, Read, Cell, Un, Bin, Slice, Cat, Zext, Sext, Select}
 use Rattle.sym_expr.specs.contracts.pool.NodePartialEq.TheImpl.{ghosts as node_eq}
-use Rattle.sym_expr.specs.Pools.{node_term, children_of, AllBelow, HeadFits}
+use Rattle.sym_expr.specs.Pools.{node_expr, children_of, AllBelow, HeadFits}
 use Rattle.tree_laws.specs.Equal.{CellsFit}
 use Rattle.tree_laws.specs.declared.classes.Class.{Class}
 
@@ -22,12 +22,12 @@ class_width (Some class) = class.width
 abbrev pub width_at : List Class → ℕ → ℕ
 width_at classes c = class_width (slice_get classes c)
 
-abbrev pub class_term : List Class → ℕ → Term
-class_term classes c = reg c (width_at classes c)
+abbrev pub class_expr : List Class → ℕ → ExprModel
+class_expr classes c = reg c (width_at classes c)
 
 -- a node over classes
-abbrev pub term_over : List Class → Node → Term
-term_over classes node = node_term node (class_term classes)
+abbrev pub expr_over : List Class → Node → ExprModel
+expr_over classes node = node_expr node (class_expr classes)
 
 -- a node that trees have, over a memory whose cells have so many bits
 abbrev pub IsOfTree : ℕ → Node → Type 0
@@ -47,7 +47,7 @@ IsOfTree cell (Select c a b) = ⊥
 -- trees have it, its classes are there, and they have the widths that its operator asks for
 abbrev pub NodeFits : ℕ → List Class → Node → Type 0
 NodeFits cell classes node =
-    IsOfTree cell node × AllBelow (length classes) (children_of node) × HeadFits (term_over classes node)
+    IsOfTree cell node × AllBelow (length classes) (children_of node) × HeadFits (expr_over classes node)
 
 -- ---- meanings
 
@@ -67,8 +67,8 @@ listed_at entries node = lookup (node_eq.eq node) entries
 pub record NodeMeans (cell : ℕ) (classes : List Class) (cells regs : List ℕ) (node : Node) (c : ℕ) : Type 0 where
   pub fits : NodeFits cell classes node
   pub below : c < length classes
-  pub width : term_width (term_over classes node) ≡ width_at classes c
-  pub value : mean (term_over classes node) (state_of cells regs) 0 ≡ slice_index regs c
+  pub width : expr_width (expr_over classes node) ≡ width_at classes c
+  pub value : mean (expr_over classes node) (state_of cells regs) 0 ≡ slice_index regs c
 
 abbrev pub class_head : ℕ → Option Class → ℕ
 class_head c None = c

@@ -2,11 +2,11 @@
 use Rattle.std.specs.Prelude.{◌≡◌, refl, [], ◌∷◌}
 use Rattle.rec_bits.specs.declared.operator.Op2.TheVariants.{Eq, Ltu}
 use Rattle.net_model.specs.declared.hardware.Space.TheVariants.{Memory as InMemory}
-use Rattle.net_model.specs.Terms.{Term, const, read, bin, slice, zext, sext}
+use Rattle.net_model.specs.Exprs.{ExprModel, const, read, bin, slice, zext, sext}
 use Rattle.tree_laws.specs.Equal.{AreEqual, value, next_place}
 
 -- a cell of 8 bits
-abbrev cell : Term
+abbrev cell : ExprModel
 cell = read InMemory (const 8 1) 8
 
 -- the low byte of the cell with zeros above is the cell's low byte

@@ -1,7 +1,7 @@
 //! The table of classes.
 
 ghost use Rattle.std.specs.Prelude.{◌≡◌, ◌<◌, ◌≤◌, SomeIff};
-ghost use Rattle.net_model.specs.Terms.{term_width};
+ghost use Rattle.net_model.specs.Exprs.{expr_width};
 ghost use Rattle.rec_bits.specs.Operators.{IsWidth};
 ghost use Rattle.tree_laws.specs.Meanings.{HaveMeanings};
 
@@ -33,7 +33,7 @@ pub struct Classes {
 }
 
 impl Classes {
-    ghost use Rattle.tree_laws.specs.Classes.{FitsIn, canon_in, cell_bits, class_count, entry_in, head_in, listed_count, term_in, width_in};
+    ghost use Rattle.tree_laws.specs.Classes.{FitsIn, canon_in, cell_bits, class_count, entry_in, head_in, listed_count, expr_in, width_in};
 
     /// No class, over a memory whose cells have so many bits.
     pub fn new(alloc: Global, cell: u8) -> Classes
@@ -112,7 +112,7 @@ impl Classes {
     /// The width of a node's trees, where trees have the node, its classes are there, and they have
     /// the widths that its operator asks for.
     pub fn node_width(&self, node: Node) -> Option<u8>
-        ensures { SomeIff result (FitsIn self.now node) (term_width (term_in self.now node)) }
+        ensures { SomeIff result (FitsIn self.now node) (expr_width (expr_in self.now node)) }
     {
         match node {
             Node::Const { width, value } => {

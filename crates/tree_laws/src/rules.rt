@@ -2,9 +2,9 @@
 
 ghost use Rattle.std.specs.Prelude.{◌≡◌, ◌<◌, ◌^◌, ◌≤◌, List, true, Some, SomeIff, IfOk, IfSome, length, slice_index};
 ghost use Rattle.rec_bits.specs.Operators.{IsWidth, apply1_of, apply2_of, sext_of, slice_of};
-ghost use Rattle.net_model.specs.Terms.{Term};
+ghost use Rattle.net_model.specs.Exprs.{ExprModel};
 ghost use Rattle.tree_laws.specs.Classes.{AllStand, FitsWidth, HasValue, IsGiven, IsNodeOf, Stands, cell_bits, tree_at};
-ghost use Rattle.tree_laws.specs.Rules.{AllHold, Holds, RuleHolds, num_of, part_term, part_terms, value_of};
+ghost use Rattle.tree_laws.specs.Rules.{AllHold, Holds, RuleHolds, num_of, part_expr, part_exprs, value_of};
 
 use crate::Classes;
 use rec_bits::{NoMemory, Op1, Op2, apply1, apply2, mask, sext, slice};
@@ -245,8 +245,8 @@ impl Classes {
     // The node of a part over the classes of the parts before it, where it has one and there are
     // these.
     fn part_node(&self, part: Part, classes: &[u64], choice: &Choice) -> Option<Node>
-        ensures { (terms : List Term) → AllStand self.now terms classes.now → IfSome result (IsNodeOf self.now
-            (part_term (tree_at self.now choice.now.classes.items) (slice_index choice.now.numbers.items) terms part)) }
+        ensures { (terms : List ExprModel) → AllStand self.now terms classes.now → IfSome result (IsNodeOf self.now
+            (part_expr (tree_at self.now choice.now.classes.items) (slice_index choice.now.numbers.items) terms part)) }
     {
         match part {
             Part::Tree(_) => None,
@@ -286,8 +286,8 @@ impl Classes {
 
     // The class of a part, where it is listed.
     fn find_part(&self, part: Part, classes: &[u64], choice: &Choice) -> Option<u64>
-        ensures { (terms : List Term) → AllStand self.now terms classes.now → IfSome result (Stands self.now
-            (part_term (tree_at self.now choice.now.classes.items) (slice_index choice.now.numbers.items) terms part)) }
+        ensures { (terms : List ExprModel) → AllStand self.now terms classes.now → IfSome result (Stands self.now
+            (part_expr (tree_at self.now choice.now.classes.items) (slice_index choice.now.numbers.items) terms part)) }
     {
         if let Part::Tree(x) = part {
             return self.tree_class(x, choice);
@@ -303,7 +303,7 @@ impl Classes {
         choice: &Choice,
     ) -> Result<Option<Vec<u64>>, NoMemory>
         ensures { IfOk result (λ found. IfSome found (λ ids. AllStand self.now
-            (part_terms (tree_at self.now choice.now.classes.items) (slice_index choice.now.numbers.items) parts.now) ids.items)) }
+            (part_exprs (tree_at self.now choice.now.classes.items) (slice_index choice.now.numbers.items) parts.now) ids.items)) }
     {
         let mut classes = Vec::new(alloc);
         for part in parts {
@@ -352,7 +352,7 @@ impl Classes {
     fn join_sides(&mut self, rule: &Rule, choice: &Choice, classes: &[u64]) -> bool
         requires law { RuleHolds rule.now }
         requires stand { AllStand self.old
-            (part_terms (tree_at self.old choice.now.classes.items) (slice_index choice.now.numbers.items) rule.now.parts.now)
+            (part_exprs (tree_at self.old choice.now.classes.items) (slice_index choice.now.numbers.items) rule.now.parts.now)
             classes.now }
         ensures { cell_bits self.new ≡ cell_bits self.old }
     {

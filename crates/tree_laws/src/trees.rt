@@ -1,7 +1,7 @@
 //! Trees into a table of classes, and out of it.
 
 ghost use Rattle.std.specs.Prelude.{◌≡◌, ◌<◌, ◌==◌, false, true, length, option_and_then, Err, Some, IfErr, IfNone, IfOk, IfSome};
-ghost use Rattle.form_model.specs.Trees.{tree_term};
+ghost use Rattle.form_model.specs.Trees.{model_of_tree};
 ghost use Rattle.tree_laws.specs.Classes.{AreOne, Grows, IsOpposite, NodeStands, Stands, TreeFits, are_joined, cell_bits, class_count, class_of, found_in, head_in, opposite_of};
 ghost use Rattle.tree_laws.specs.Equal.{AreEqual, AreOpposite};
 ghost use Rattle.tree_laws.specs.Spelled.{IsSpelled, spells_one};
@@ -71,7 +71,7 @@ impl Classes {
     /// The class of a tree, where all its nodes are listed.
     #[cycle(find)]
     pub fn find_tree(&self, tree: &Tree) -> Option<u64>
-        ensures stands { IfSome result (Stands self.now (tree_term tree.now)) }
+        ensures stands { IfSome result (Stands self.now (model_of_tree tree.now)) }
         ensures class { result ≡ class_of self.now tree.now }
     {
         self.find(self.tree_node(tree)?)
@@ -134,7 +134,7 @@ impl Classes {
     /// Lists a tree's nodes. Its class, or None where its widths don't fit.
     #[cycle(list)]
     pub fn add_tree(&mut self, tree: &Tree) -> Result<Option<u64>, NoMemory>
-        ensures stands { IfOk result (λ found. IfSome found (Stands self.new (tree_term tree.now))) }
+        ensures stands { IfOk result (λ found. IfSome found (Stands self.new (model_of_tree tree.now))) }
         ensures class { IfOk result (λ found. IfSome found (λ c. class_of self.new tree.now ≡ Some c)) }
         ensures none { IfOk result (λ found. IfNone found (TreeFits (cell_bits self.old) tree.now → ⊥)) }
         ensures grows { Grows self.old self.new }
@@ -172,7 +172,7 @@ impl Classes {
 
     /// Whether two trees are of one class. Those that aren't may be equal all the same.
     pub fn are_equal(&self, a: &Tree, b: &Tree) -> bool
-        ensures equal { result ≡ true → AreEqual (cell_bits self.now) (tree_term a.now) (tree_term b.now) }
+        ensures equal { result ≡ true → AreEqual (cell_bits self.now) (model_of_tree a.now) (model_of_tree b.now) }
         ensures joined { result ≡ are_joined self.now (class_of self.now a.now) (class_of self.now b.now) }
     {
         match (self.find_tree(a), self.find_tree(b)) {
@@ -185,7 +185,7 @@ impl Classes {
     #[cycle(pick)]
     fn tree(&self, alloc: Global, class: u64, nodes: &[Node], at: usize) -> Result<Picked, NoTree>
         ensures next { IfOk result (λ picked. at < picked.next) }
-        ensures stands { IfOk result (λ picked. Stands self.now (tree_term picked.tree) class) }
+        ensures stands { IfOk result (λ picked. Stands self.now (model_of_tree picked.tree) class) }
         ensures read { IfOk result (λ picked. IsRead self.now nodes.now class at picked.next picked.tree) }
         ensures unlisted { result ≡ Err NoTree.Unlisted → IsUnread self.now nodes.now class at }
     {
@@ -252,7 +252,7 @@ impl Classes {
         at: usize,
     ) -> Result<Operand, NoTree>
         ensures next { IfOk result (λ operand. at < operand.next) }
-        ensures stands { IfOk result (λ operand. Stands self.now (tree_term operand.tree.value) class) }
+        ensures stands { IfOk result (λ operand. Stands self.now (model_of_tree operand.tree.value) class) }
         ensures read { IfOk result (λ operand. IsRead self.now nodes.now class at operand.next operand.tree.value) }
         ensures unlisted { result ≡ Err NoTree.Unlisted → IsUnread self.now nodes.now class at }
     {
@@ -267,7 +267,7 @@ impl Classes {
     /// node before its operands and these from left to right, with or without further ones behind
     /// them. What was listed and joined before doesn't matter.
     pub fn equal_tree(&self, alloc: Global, tree: &Tree, nodes: &[Node]) -> Result<Tree, NoTree>
-        ensures equal { IfOk result (λ equal. AreEqual (cell_bits self.now) (tree_term tree.now) (tree_term equal)) }
+        ensures equal { IfOk result (λ equal. AreEqual (cell_bits self.now) (model_of_tree tree.now) (model_of_tree equal)) }
         ensures spelled { IfOk result (IsSpelled self.now (class_of self.now tree.now) nodes.now) }
         ensures unlisted { result ≡ Err NoTree.Unlisted →
             spells_one self.now (class_of self.now tree.now) nodes.now ≡ false }
@@ -281,7 +281,7 @@ impl Classes {
     /// A tree that is 1 where the given test is 0, and 0 where it is 1: that of its negation's
     /// class whose nodes are listed in order.
     pub fn opposite_tree(&self, alloc: Global, test: &Tree, nodes: &[Node]) -> Result<Tree, NoTree>
-        ensures opposite { IfOk result (λ other. AreOpposite (cell_bits self.now) (tree_term other) (tree_term test.now)) }
+        ensures opposite { IfOk result (λ other. AreOpposite (cell_bits self.now) (model_of_tree other) (model_of_tree test.now)) }
         ensures spelled { IfOk result (IsSpelled self.now (opposite_of self.now test.now) nodes.now) }
         ensures unlisted { result ≡ Err NoTree.Unlisted →
             spells_one self.now (opposite_of self.now test.now) nodes.now ≡ false }
@@ -294,7 +294,7 @@ impl Classes {
 
     // The class of a test's negation, where it is listed.
     fn opposite(&self, test: &Tree) -> Option<u64>
-        ensures stands { IfSome result (IsOpposite self.now (tree_term test.now)) }
+        ensures stands { IfSome result (IsOpposite self.now (model_of_tree test.now)) }
         ensures class { result ≡ opposite_of self.now test.now }
     {
         let class = self.find_tree(test)?;

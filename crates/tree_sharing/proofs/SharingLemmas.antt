@@ -15,10 +15,10 @@ use Rattle.rec_bits.specs.declared.operator.Op2.TheVariants.{Add, Sub, Mul, And,
 use Rattle.rec_bits.specs.contracts.operator.Op1PartialEq.TheImpl.{ghosts as op1_eq}
 use Rattle.rec_bits.specs.contracts.operator.Op2PartialEq.TheImpl.{ghosts as op2_eq}
 use Rattle.net_model.specs.declared.hardware.Space.TheVariants.{Memory as InMemory}
-use Rattle.net_model.specs.Terms.{Term, const, read, un, bin, slice, zext, sext, size_of}
-use Rattle.form_model.specs.Trees.{tree_term}
-use Rattle.form_model.specs.Rules.{Destination, into, filed, cell, stored, temporary, tested}
-use Rattle.tree_grammar.specs.Parts.{value_at}
+use Rattle.net_model.specs.Exprs.{ExprModel, const, read, un, bin, slice, zext, sext, size_of}
+use Rattle.form_model.specs.Trees.{model_of_tree}
+use Rattle.form_model.specs.Forms.{DestinationModel, into, filed, cell, stored, temporary, tested}
+use Rattle.tree_grammar.specs.Leaves.{value_at}
 use Rattle.form_model.specs.declared.trees.Tree.{Tree}
 use Rattle.form_model.specs.declared.trees.Tree.TheVariants.{Lit as Lit', Read', Un', Bin', Slice', Zext', Sext'}
 use Rattle.tree_grammar.specs.Numbers.{subtrees, HoldsSubtrees}
@@ -124,10 +124,10 @@ same_root (Sext a w) = both_true (nat_eq a a) (nat_eq w w) (same_number a) (same
 
 -- ---- one root for equal trees, and one tree for a root
 
-one_first : (nodes : List Term) (t : Term) (a b : ℕ) → IsFirst nodes t a → IsFirst nodes t b → a ≡ b
+one_first : (nodes : List ExprModel) (t : ExprModel) (a b : ℕ) → IsFirst nodes t a → IsFirst nodes t b → a ≡ b
 one_first nodes t a b p q = let h : a ≤ b = p.least b q.at in let k : b ≤ a = q.least a p.at in omega arith
 
-one_root : (nodes : List Term) (a b : Root) (t : Term) → IsRootOf nodes a t → IsRootOf nodes b t → a ≡ b
+one_root : (nodes : List ExprModel) (a b : Root) (t : ExprModel) → IsRootOf nodes a t → IsRootOf nodes b t → a ≡ b
 one_root nodes a b (const w v) p q = p ∙ sym q
 one_root nodes a b (read InMemory x w) p q = p.2 ∙ ap (λ i. Read i w) (one_first nodes x p.0 q.0 p.1 q.1) ∙ sym q.2
 one_root nodes a b (un op x) p q = p.2 ∙ ap (λ i. Un op i) (one_first nodes x p.0 q.0 p.1 q.1) ∙ sym q.2
@@ -140,42 +140,42 @@ one_root nodes a b (zext x w) p q = p.2 ∙ ap (λ i. Zext i w) (one_first nodes
 one_root nodes a b (sext x w) p q = p.2 ∙ ap (λ i. Sext i w) (one_first nodes x p.0 q.0 p.1 q.1) ∙ sym q.2
 one_root nodes a b _ p q = absurd p
 
-abbrev bin_of : Op2 → Option Term → Option Term → Option Term
+abbrev bin_of : Op2 → Option ExprModel → Option ExprModel → Option ExprModel
 bin_of op None b = None
 bin_of op (Some x) None = None
 bin_of op (Some x) (Some y) = Some (bin op x y)
 
 -- the tree with a root, whose operands are the trees of the root's numbers
-abbrev root_term : List Term → Root → Option Term
-root_term nodes (Lit width value) = Some (const width value)
-root_term nodes (Read a w) = option_map (λ x. read InMemory x w) (slice_get nodes a)
-root_term nodes (Un op a) = option_map (λ x. un op x) (slice_get nodes a)
-root_term nodes (Bin op a b) = bin_of op (slice_get nodes a) (slice_get nodes b)
-root_term nodes (Slice a hi lo) = option_map (λ x. slice x hi lo) (slice_get nodes a)
-root_term nodes (Zext a w) = option_map (λ x. zext x w) (slice_get nodes a)
-root_term nodes (Sext a w) = option_map (λ x. sext x w) (slice_get nodes a)
+abbrev root_expr : List ExprModel → Root → Option ExprModel
+root_expr nodes (Lit width value) = Some (const width value)
+root_expr nodes (Read a w) = option_map (λ x. read InMemory x w) (slice_get nodes a)
+root_expr nodes (Un op a) = option_map (λ x. un op x) (slice_get nodes a)
+root_expr nodes (Bin op a b) = bin_of op (slice_get nodes a) (slice_get nodes b)
+root_expr nodes (Slice a hi lo) = option_map (λ x. slice x hi lo) (slice_get nodes a)
+root_expr nodes (Zext a w) = option_map (λ x. zext x w) (slice_get nodes a)
+root_expr nodes (Sext a w) = option_map (λ x. sext x w) (slice_get nodes a)
 
-root_gives : (nodes : List Term) (root : Root) (t : Term) → IsRootOf nodes root t → root_term nodes root ≡ Some t
-root_gives nodes root (const w v) p = ap (root_term nodes) p
-root_gives nodes root (read InMemory x w) p = ap (root_term nodes) p.2 ∙ ap (option_map (λ y. read InMemory y w)) p.1.at
-root_gives nodes root (un op x) p = ap (root_term nodes) p.2 ∙ ap (option_map (λ y. un op y)) p.1.at
+root_gives : (nodes : List ExprModel) (root : Root) (t : ExprModel) → IsRootOf nodes root t → root_expr nodes root ≡ Some t
+root_gives nodes root (const w v) p = ap (root_expr nodes) p
+root_gives nodes root (read InMemory x w) p = ap (root_expr nodes) p.2 ∙ ap (option_map (λ y. read InMemory y w)) p.1.at
+root_gives nodes root (un op x) p = ap (root_expr nodes) p.2 ∙ ap (option_map (λ y. un op y)) p.1.at
 root_gives nodes root (bin op x y) p =
     let e = p.2.at in let f = p.3.at in
-    ap (root_term nodes) p.4 ∙ (λ j. bin_of op (e j) (f j))
-root_gives nodes root (slice x hi lo) p = ap (root_term nodes) p.2 ∙ ap (option_map (λ y. slice y hi lo)) p.1.at
-root_gives nodes root (zext x w) p = ap (root_term nodes) p.2 ∙ ap (option_map (λ y. zext y w)) p.1.at
-root_gives nodes root (sext x w) p = ap (root_term nodes) p.2 ∙ ap (option_map (λ y. sext y w)) p.1.at
+    ap (root_expr nodes) p.4 ∙ (λ j. bin_of op (e j) (f j))
+root_gives nodes root (slice x hi lo) p = ap (root_expr nodes) p.2 ∙ ap (option_map (λ y. slice y hi lo)) p.1.at
+root_gives nodes root (zext x w) p = ap (root_expr nodes) p.2 ∙ ap (option_map (λ y. zext y w)) p.1.at
+root_gives nodes root (sext x w) p = ap (root_expr nodes) p.2 ∙ ap (option_map (λ y. sext y w)) p.1.at
 root_gives nodes root _ p = absurd p
 
-one_of_get : (x y : Option Term) (t u : Term) → x ≡ Some t → x ≡ Some u → t ≡ u
+one_of_get : (x y : Option ExprModel) (t u : ExprModel) → x ≡ Some t → x ≡ Some u → t ≡ u
 one_of_get x y t u e f = let both : Some t ≡ Some u = sym e ∙ f in cc
 
-one_tree : (nodes : List Term) (root : Root) (t u : Term) → IsRootOf nodes root t → IsRootOf nodes root u → t ≡ u
-one_tree nodes root t u p q = one_of_get (root_term nodes root) None t u (root_gives nodes root t p) (root_gives nodes root u q)
+one_tree : (nodes : List ExprModel) (root : Root) (t u : ExprModel) → IsRootOf nodes root t → IsRootOf nodes root u → t ≡ u
+one_tree nodes root t u p q = one_of_get (root_expr nodes root) None t u (root_gives nodes root t p) (root_gives nodes root u q)
 
 -- ---- the number of a root
 
-met_known : (nodes : List Term) (roots : Roots) (root : Root) (t : Term) (first : ℕ) → lookup (root_eq.eq root) roots ≡ Some first → IsRootOf nodes root t → HaveNumbers nodes roots → IsMetFirst nodes roots roots t first
+met_known : (nodes : List ExprModel) (roots : Roots) (root : Root) (t : ExprModel) (first : ℕ) → lookup (root_eq.eq root) roots ≡ Some first → IsRootOf nodes root t → HaveNumbers nodes roots → IsMetFirst nodes roots roots t first
 met_known nodes roots root t first found is numbers =
     let known = each_found (HasNumber nodes) root_eq.eq exact_root roots root first numbers found in
     record {
@@ -189,13 +189,13 @@ pub meets_known : (roots : Roots) (root : Root) (at first : ℕ) → lookup (roo
 meets_known roots root at first found nodes t here is numbers before = met_known nodes roots root t first found is numbers
 
 -- a tree of which no equal one stands before it
-first_here : (nodes : List Term) (t : Term) (at : ℕ) → slice_get nodes at ≡ Some t → ((m : ℕ) → m < at → slice_get nodes m ≡ Some t → ⊥) → IsFirst nodes t at
+first_here : (nodes : List ExprModel) (t : ExprModel) (at : ℕ) → slice_get nodes at ≡ Some t → ((m : ℕ) → m < at → slice_get nodes m ≡ Some t → ⊥) → IsFirst nodes t at
 first_here nodes t at here none = record {
   at = here;
   least = λ m get. elim (cases_lt m at) [ inl lt ↦ absurd (none m lt get) | inr ge ↦ ge ];
 }
 
-unmet : (nodes : List Term) (roots : Roots) (root : Root) (t : Term) → lookup (root_eq.eq root) roots ≡ None → IsRootOf nodes root t → IsMet nodes roots t → ⊥
+unmet : (nodes : List ExprModel) (roots : Roots) (root : Root) (t : ExprModel) → lookup (root_eq.eq root) roots ≡ None → IsRootOf nodes root t → IsMet nodes roots t → ⊥
 unmet nodes roots root t none is met =
     none_found root_eq.eq same_root roots root none
     (any_weaker (λ r. IsRootOf nodes r t) (λ r. r ≡ root) (λ r of. one_root nodes r root t of is) roots met)
@@ -225,14 +225,14 @@ get_set_here (x ∷ xs) zero v f h = cc
 get_set_here (x ∷ xs) (suc i) v f h = get_set_here xs i v f h
 
 -- the number is written behind which the tree is done
-set_kept : (nodes : List Term) (firsts : List ℕ) (at first : ℕ) (t : Term) → slice_get nodes at ≡ Some t → IsFirst nodes t first → (n f : ℕ) (u : Term) → ((g : ℕ) → slice_get firsts n ≡ Some g → IsFirst nodes u g) → slice_get (slice_set firsts at first) n ≡ Some f → slice_get nodes n ≡ Some u → IsFirst nodes u f
+set_kept : (nodes : List ExprModel) (firsts : List ℕ) (at first : ℕ) (t : ExprModel) → slice_get nodes at ≡ Some t → IsFirst nodes t first → (n f : ℕ) (u : ExprModel) → ((g : ℕ) → slice_get firsts n ≡ Some g → IsFirst nodes u g) → slice_get (slice_set firsts at first) n ≡ Some f → slice_get nodes n ≡ Some u → IsFirst nodes u f
 set_kept nodes firsts at first t here is n f u known got get = elim (get_set firsts at first n f got) [
   | inl p ↦ (let same = one_of_get (slice_get nodes n) None t u (ap (slice_get nodes) p.0 ∙ here) get in
       subst (λ i. IsFirst nodes u i) (sym p.1) (subst (λ x. IsFirst nodes x first) same is))
   | inr q ↦ known f q
 ]
 
-set_here : (nodes : List Term) (firsts : List ℕ) (at first : ℕ) (t : Term) → slice_get nodes at ≡ Some t → IsFirst nodes t first → (f : ℕ) (u : Term) → slice_get (slice_set firsts at first) at ≡ Some f → slice_get nodes at ≡ Some u → IsFirst nodes u f
+set_here : (nodes : List ExprModel) (firsts : List ℕ) (at first : ℕ) (t : ExprModel) → slice_get nodes at ≡ Some t → IsFirst nodes t first → (f : ℕ) (u : ExprModel) → slice_get (slice_set firsts at first) at ≡ Some f → slice_get nodes at ≡ Some u → IsFirst nodes u f
 set_here nodes firsts at first t here is f u got get =
     let same = one_of_get (slice_get nodes at) None t u here get in
     subst (λ i. IsFirst nodes u i) (sym (get_set_here firsts at first f got)) (subst (λ x. IsFirst nodes x first) same is)
@@ -262,7 +262,7 @@ get_push (x ∷ xs) y (suc i) f h = elim (get_push xs y i f h) [ inl p ↦ inl p
 
 -- ---- operands
 
-holds_first : (nodes : List Term) (at : ℕ) (t a : Term) → first_of t ≡ Some a → HoldsSubtrees nodes at t → HoldsSubtrees nodes (at + 1) a
+holds_first : (nodes : List ExprModel) (at : ℕ) (t a : ExprModel) → first_of t ≡ Some a → HoldsSubtrees nodes at t → HoldsSubtrees nodes (at + 1) a
 holds_first nodes at (read InMemory b w) a e h = let same : b ≡ a = cc in subst (λ x. HoldsSubtrees nodes (at + 1) x) same (lists_tail nodes at (read InMemory b w) (subtrees b) h)
 holds_first nodes at (un op b) a e h = let same : b ≡ a = cc in subst (λ x. HoldsSubtrees nodes (at + 1) x) same (lists_tail nodes at (un op b) (subtrees b) h)
 holds_first nodes at (bin op b c) a e h = let same : b ≡ a = cc in subst (λ x. HoldsSubtrees nodes (at + 1) x) same (holds_left nodes at (bin op b c) b c h)
@@ -271,11 +271,11 @@ holds_first nodes at (zext b w) a e h = let same : b ≡ a = cc in subst (λ x. 
 holds_first nodes at (sext b w) a e h = let same : b ≡ a = cc in subst (λ x. HoldsSubtrees nodes (at + 1) x) same (lists_tail nodes at (sext b w) (subtrees b) h)
 holds_first nodes at _ a e h = absurd (cc)
 
-holds_second : (nodes : List Term) (at : ℕ) (t b : Term) → second_of t ≡ Some b → HoldsSubtrees nodes at t → HoldsSubtrees nodes (at + 1 + operand_size (first_of t)) b
+holds_second : (nodes : List ExprModel) (at : ℕ) (t b : ExprModel) → second_of t ≡ Some b → HoldsSubtrees nodes at t → HoldsSubtrees nodes (at + 1 + operand_size (first_of t)) b
 holds_second nodes at (bin op a c) b e h = let same : c ≡ b = cc in subst (λ x. HoldsSubtrees nodes (at + 1 + size_of a) x) same (holds_right nodes at (bin op a c) a c h)
 holds_second nodes at _ b e h = absurd (cc)
 
-pub tree_sizes : (t : Tree) → size_of (tree_term t) ≡ 1 + operand_size (first_of (tree_term t)) + operand_size (second_of (tree_term t))
+pub tree_sizes : (t : Tree) → size_of (model_of_tree t) ≡ 1 + operand_size (first_of (model_of_tree t)) + operand_size (second_of (model_of_tree t))
 tree_sizes (Lit' w v) = refl
 tree_sizes (Read' p a w) = omega arith
 tree_sizes (Un' o p a) = omega arith
@@ -285,7 +285,7 @@ tree_sizes (Zext' p a w) = omega arith
 tree_sizes (Sext' p a w) = omega arith
 
 -- all before the number `n` behind a tree of number `at` that has more nodes
-before_more : (nodes : List Term) (sharing : Sharing) (at n size : ℕ) (t : Term) → slice_get nodes at ≡ Some t → size < size_of t → AreDoneBefore nodes sharing at (size_of t) → ((m : ℕ) → at + 1 ≤ m → m < n → IsDone nodes sharing m) → AreDoneBefore nodes sharing n size
+before_more : (nodes : List ExprModel) (sharing : Sharing) (at n size : ℕ) (t : ExprModel) → slice_get nodes at ≡ Some t → size < size_of t → AreDoneBefore nodes sharing at (size_of t) → ((m : ℕ) → at + 1 ≤ m → m < n → IsDone nodes sharing m) → AreDoneBefore nodes sharing n size
 before_more nodes sharing at n size t here less before later m u lt get small = elim (cases_lt m at) [
   | inl earlier ↦ before m u earlier get (omega arith)
   | inr ge ↦ elim (cases_lt at m) [
@@ -298,12 +298,12 @@ before_more nodes sharing at n size t here less before later m u lt get small = 
 ]
 
 -- what is known of an operand, where there is one
-record OperandDone (nodes : List Term) (old new : Sharing) (at : ℕ) (o : Option Term) (x : ℕ) : Type 0 where
+record OperandDone (nodes : List ExprModel) (old new : Sharing) (at : ℕ) (o : Option ExprModel) (x : ℕ) : Type 0 where
   grows : Grows nodes old new
   done : (n : ℕ) → at ≤ n → n < at + operand_size o → IsDone nodes new n
-  is : (a : Term) → o ≡ Some a → IsFirst nodes a x
+  is : (a : ExprModel) → o ≡ Some a → IsFirst nodes a x
 
-operand_done : (nodes : List Term) (old new : Sharing) (at x : ℕ) (o : Option Term) → OperandShared old new at o x → HaveNumbers nodes old.roots.entries → ((a : Term) → o ≡ Some a → HoldsSubtrees nodes at a) → ((a : Term) → o ≡ Some a → AreDoneBefore nodes old at (size_of a)) → OperandDone nodes old new at o x
+operand_done : (nodes : List ExprModel) (old new : Sharing) (at x : ℕ) (o : Option ExprModel) → OperandShared old new at o x → HaveNumbers nodes old.roots.entries → ((a : ExprModel) → o ≡ Some a → HoldsSubtrees nodes at a) → ((a : ExprModel) → o ≡ Some a → AreDoneBefore nodes old at (size_of a)) → OperandDone nodes old new at o x
 operand_done nodes old new at x None e numbers holds before = record {
   grows = record {
     numbers = subst (λ s. HaveNumbers nodes s.roots.entries) (sym e) numbers;
@@ -321,7 +321,7 @@ operand_done nodes old new at x (Some t) shared numbers holds before =
     }
 
 -- a tree is done behind its operands and its root
-pub share_more : (old mid last new : Sharing) (t : Term) (at next x y first : ℕ) (root : Root) → size_of t ≡ 1 + operand_size (first_of t) + operand_size (second_of t) → next ≡ at + 1 + operand_size (first_of t) → OperandShared old mid (at + 1) (first_of t) x → OperandShared mid last next (second_of t) y → ((nodes : List Term) → AreFirstOperands nodes t x y → IsRootOf nodes root t) → Rooted last new at root first → Shared old new at t first
+pub share_more : (old mid last new : Sharing) (t : ExprModel) (at next x y first : ℕ) (root : Root) → size_of t ≡ 1 + operand_size (first_of t) + operand_size (second_of t) → next ≡ at + 1 + operand_size (first_of t) → OperandShared old mid (at + 1) (first_of t) x → OperandShared mid last next (second_of t) y → ((nodes : List ExprModel) → AreFirstOperands nodes t x y → IsRootOf nodes root t) → Rooted last new at root first → Shared old new at t first
 share_more old mid last new t at next x y first root sizes en h k made roots nodes holds numbers before =
     let here = holds_here nodes at t holds in
     let f = operand_done nodes old mid (at + 1) x (first_of t) h numbers (λ a e. holds_first nodes at t a e holds)
@@ -343,12 +343,12 @@ share_more old mid last new t at next x y first root sizes en h k made roots nod
 
 -- ---- all numbers
 
-pub address_done : (nodes : List Term) (old new : Sharing) (first : ℕ) (t : Term) → Shared old new 0 t first → HoldsSubtrees nodes 0 t → HaveNumbers nodes old.roots.entries → AreDoneBelow nodes new (0 + size_of t)
+pub address_done : (nodes : List ExprModel) (old new : Sharing) (first : ℕ) (t : ExprModel) → Shared old new 0 t first → HoldsSubtrees nodes 0 t → HaveNumbers nodes old.roots.entries → AreDoneBelow nodes new (0 + size_of t)
 address_done nodes old new first t shared holds numbers =
     let s = shared nodes holds numbers (λ m u lt get small. absurd (omega arith)) in
     record { numbers = s.grows.numbers; done = λ n lt. s.done n (omega arith) (omega arith) }
 
-pub all_done : (nodes : List Term) (old new : Sharing) (at first : ℕ) (t : Term) → AreDoneBelow nodes old at → Shared old new at t first → HoldsSubtrees nodes at t → length new.firsts.items ≡ at + size_of t → length nodes ≡ at + size_of t → AreFirstEqual nodes new.firsts.items
+pub all_done : (nodes : List ExprModel) (old new : Sharing) (at first : ℕ) (t : ExprModel) → AreDoneBelow nodes old at → Shared old new at t first → HoldsSubtrees nodes at t → length new.firsts.items ≡ at + size_of t → length nodes ≡ at + size_of t → AreFirstEqual nodes new.firsts.items
 all_done nodes old new at first t below shared holds len count =
     let s = shared nodes holds below.numbers (λ m u lt get small. below.done m lt) in
     record {
@@ -362,7 +362,7 @@ all_done nodes old new at first t below shared holds len count =
           done.first f u got get);
     }
 
-pub job_length : (destination : Destination) (t : Term) → length (job_nodes destination t) ≡ value_at destination 0 + size_of t
+pub job_length : (destination : DestinationModel) (t : ExprModel) → length (job_nodes destination t) ≡ value_at destination 0 + size_of t
 job_length (stored address) t = let a = size_length address in let b = size_length t in omega (arith, a, b, length-append (subtrees address) (subtrees t))
 job_length (into id) t = let b = size_length t in omega (arith, b)
 job_length filed t = let b = size_length t in omega (arith, b)

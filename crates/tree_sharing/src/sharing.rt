@@ -1,11 +1,11 @@
 //! Which of the numbered subtrees are equal.
 
 ghost use Rattle.std.specs.Prelude.{◌≡◌, ◌+◌, ◌≤◌, ◌<◌, IfOk, OnOk, List, [], slice_index_or, vec_len};
-ghost use Rattle.net_model.specs.Terms.{Term, size_of};
-ghost use Rattle.form_model.specs.Trees.{tree_term};
+ghost use Rattle.net_model.specs.Exprs.{ExprModel, size_of};
+ghost use Rattle.form_model.specs.Trees.{model_of_tree};
 ghost use Rattle.tree_sharing.specs.Sharing.{AreFirstEqual, job_nodes};
-ghost use Rattle.tree_grammar.specs.Parts.{AddressStands, destination_at, value_at};
-ghost use Rattle.tree_sharing.specs.Inner.Sharing.{AreDoneBelow, AreFirstOperands, HaveNumbers, IsRootOf, MeetsFirst, OperandShared, Rooted, Shared, first_of, operand_size, operand_term, second_of};
+ghost use Rattle.tree_grammar.specs.Leaves.{AddressStands, model_of_destination, value_at};
+ghost use Rattle.tree_sharing.specs.Inner.Sharing.{AreDoneBelow, AreFirstOperands, HaveNumbers, IsRootOf, MeetsFirst, OperandShared, Rooted, Shared, first_of, operand_size, operand_expr, second_of};
 
 use form_model::Tree;
 use indexmap::IndexMap;
@@ -67,8 +67,8 @@ fn first_with(sharing: &mut Sharing, root: Root, at: u64) -> Result<u64, NoMemor
 // The root of a tree whose operands have these first numbers; the second is for an operator of two
 // operands alone.
 fn root_of(tree: &Tree, first: u64, second: u64) -> Root
-    ensures { (nodes : List Term) → AreFirstOperands nodes (tree_term tree.now) first second →
-        IsRootOf nodes result (tree_term tree.now) }
+    ensures { (nodes : List ExprModel) → AreFirstOperands nodes (model_of_tree tree.now) first second →
+        IsRootOf nodes result (model_of_tree tree.now) }
 {
     match tree {
         Tree::Lit { width, value } => Root::Lit {
@@ -85,7 +85,7 @@ fn root_of(tree: &Tree, first: u64, second: u64) -> Root
 }
 
 pub(crate) fn first_operand(tree: &Tree) -> Option<&Tree>
-    ensures { operand_term result ≡ first_of (tree_term tree.now) }
+    ensures { operand_expr result ≡ first_of (model_of_tree tree.now) }
 {
     match tree {
         Tree::Lit { .. } => None,
@@ -99,7 +99,7 @@ pub(crate) fn first_operand(tree: &Tree) -> Option<&Tree>
 }
 
 pub(crate) fn second_operand(tree: &Tree) -> Option<&Tree>
-    ensures { operand_term result ≡ second_of (tree_term tree.now) }
+    ensures { operand_expr result ≡ second_of (model_of_tree tree.now) }
 {
     match tree {
         Tree::Bin(_, _, b) => Some(b),
@@ -111,10 +111,10 @@ pub(crate) fn second_operand(tree: &Tree) -> Option<&Tree>
 // before them.
 #[cycle(sharing)]
 fn share(sharing: &mut Sharing, tree: &Tree, at: u64) -> Result<Numbered, NoMemory>
-    requires { at + size_of (tree_term tree.now) ≤ vec_len sharing.old.firsts }
+    requires { at + size_of (model_of_tree tree.now) ≤ vec_len sharing.old.firsts }
     ensures len { vec_len sharing.new.firsts ≡ vec_len sharing.old.firsts }
-    ensures next { IfOk result (λ n. n.next ≡ at + size_of (tree_term tree.now)) }
-    ensures shared { IfOk result (λ n. Shared sharing.old sharing.new at (tree_term tree.now) n.first) }
+    ensures next { IfOk result (λ n. n.next ≡ at + size_of (model_of_tree tree.now)) }
+    ensures shared { IfOk result (λ n. Shared sharing.old sharing.new at (model_of_tree tree.now) n.first) }
 {
     let x = share_operand(sharing, first_operand(tree), at + 1)?;
     let y = share_operand(sharing, second_operand(tree), x.next)?;
@@ -132,10 +132,10 @@ fn share_operand(
     operand: Option<&Tree>,
     at: u64,
 ) -> Result<Numbered, NoMemory>
-    requires { at + operand_size (operand_term operand) ≤ vec_len sharing.old.firsts }
+    requires { at + operand_size (operand_expr operand) ≤ vec_len sharing.old.firsts }
     ensures len { vec_len sharing.new.firsts ≡ vec_len sharing.old.firsts }
-    ensures next { IfOk result (λ n. n.next ≡ at + operand_size (operand_term operand.entry)) }
-    ensures shared { IfOk result (λ n. OperandShared sharing.old sharing.new at (operand_term operand.entry) n.first) }
+    ensures next { IfOk result (λ n. n.next ≡ at + operand_size (operand_expr operand.entry)) }
+    ensures shared { IfOk result (λ n. OperandShared sharing.old sharing.new at (operand_expr operand.entry) n.first) }
 {
     match operand {
         Some(tree) => share(sharing, tree, at),
@@ -148,7 +148,7 @@ fn share_operand(
 
 // How many nodes the address of a store has.
 fn address_size(destination: Destination) -> Result<u64, NoMemory>
-    ensures { IfOk result (λ n. n ≡ value_at (destination_at destination.entry) 0) }
+    ensures { IfOk result (λ n. n ≡ value_at (model_of_destination destination.entry) 0) }
 {
     match destination {
         Destination::Store(address) => tree_size(address),
@@ -158,11 +158,11 @@ fn address_size(destination: Destination) -> Result<u64, NoMemory>
 
 // Finds the equal ones among the subtrees of a store's address.
 fn share_address(sharing: &mut Sharing, destination: Destination) -> Result<(), NoMemory>
-    requires { value_at (destination_at destination) 0 ≤ vec_len sharing.old.firsts }
+    requires { value_at (model_of_destination destination) 0 ≤ vec_len sharing.old.firsts }
     ensures len { vec_len sharing.new.firsts ≡ vec_len sharing.old.firsts }
-    ensures done { OnOk result ((nodes : List Term) → AddressStands nodes 0 (destination_at destination.entry) →
+    ensures done { OnOk result ((nodes : List ExprModel) → AddressStands nodes 0 (model_of_destination destination.entry) →
         HaveNumbers nodes sharing.old.roots.entries →
-        AreDoneBelow nodes sharing.new (value_at (destination_at destination.entry) 0)) }
+        AreDoneBelow nodes sharing.new (value_at (model_of_destination destination.entry) 0)) }
 {
     match destination {
         Destination::Store(address) => {
@@ -181,10 +181,10 @@ fn share_all(
     tree: &Tree,
     at: u64,
 ) -> Result<(), NoMemory>
-    requires at { at ≡ value_at (destination_at destination) 0 }
-    requires len { vec_len sharing.old.firsts ≡ at + size_of (tree_term tree.now) }
+    requires at { at ≡ value_at (model_of_destination destination) 0 }
+    requires len { vec_len sharing.old.firsts ≡ at + size_of (model_of_tree tree.now) }
     requires none { sharing.old.roots.entries ≡ [] }
-    ensures { OnOk result (AreFirstEqual (job_nodes (destination_at destination.entry) (tree_term tree.now))
+    ensures { OnOk result (AreFirstEqual (job_nodes (model_of_destination destination.entry) (model_of_tree tree.now))
         sharing.new.firsts.items) }
 {
     share_address(sharing, destination)?;
@@ -200,7 +200,7 @@ pub fn first_numbers(
     tree: &Tree,
 ) -> Result<Vec<u64>, NoMemory>
     ensures { IfOk result (λ firsts.
-        AreFirstEqual (job_nodes (destination_at destination.entry) (tree_term tree.now)) firsts.items) }
+        AreFirstEqual (job_nodes (model_of_destination destination.entry) (model_of_tree tree.now)) firsts.items) }
 {
     let at = address_size(destination)?;
     let count = at.checked_add(tree_size(tree)?).ok_or(NoMemory)?;

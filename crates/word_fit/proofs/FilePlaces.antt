@@ -8,8 +8,8 @@ use Rattle.net_model.specs.declared.hardware.Storage.{Storage}
 use Rattle.net_model.specs.declared.hardware.Storage.TheVariants.{Register, Memory, File}
 use Rattle.net_model.specs.CheckedRules.{count_in}
 use Rattle.net_model.specs.declared.hardware.Netlist.{Netlist}
-use Rattle.net_model.specs.Terms.{keep}
-use Rattle.net_model.specs.Transfers.{move_at, transfer_of}
+use Rattle.net_model.specs.Exprs.{keep}
+use Rattle.net_model.specs.Transfers.{transfer_at, transfer_of}
 use Rattle.net_model.specs.Nets.{HasCells, file_place, place_in, space_of}
 use Rattle.net_model.proofs.Storages.{found}
 use Rattle.form_model.specs.Effects.{space_in}
@@ -77,7 +77,7 @@ past_none [] id ge = refl
 past_none (s ∷ storages) zero ge = absurd (omega (arith, ge))
 past_none (s ∷ storages) (suc id) ge = past_none storages id (omega (arith, ge))
 
-pub past_keeps : (netlist : Netlist) (word id : ℕ) → length netlist.storages ≤ id → move_at netlist word id ≡ keep
+pub past_keeps : (netlist : Netlist) (word id : ℕ) → length netlist.storages ≤ id → transfer_at netlist word id ≡ keep
 past_keeps netlist word id ge = ap (λ (o : Option Storage). transfer_of netlist word id o) (past_none netlist.storages id ge)
 
 -- ---- what is told of the storage of a space's place

@@ -7,15 +7,15 @@ use Rattle.net_model.specs.declared.hardware.Space.TheVariants.{Memory as InMemo
 use Rattle.net_model.specs.declared.states.State.{State}
 use Rattle.net_model.specs.MemoryText.{with_cell}
 use Rattle.net_model.specs.Nets.{held}
-use Rattle.net_model.specs.Terms.{Term, Move, keep, write, write_at}
+use Rattle.net_model.specs.Exprs.{ExprModel, TransferModel, keep, write, write_at}
 use Rattle.net_model.specs.Meaning.{mean}
-use Rattle.form_model.specs.Effects.{Operation, apply_move, apply_operation, apply_all, group_effect, move_writes, writes, is_store, same_space}
+use Rattle.form_model.specs.Effects.{Operation, apply_transfer, apply_operation, apply_all, group_effect, transfer_writes, writes, is_store, same_space}
 use Rattle.form_model.specs.Live.{Regs, group_writes}
 use Rattle.word_fit.specs.Fits.{group_stores, stores_in}
 use Rattle.word_fit.specs.Groups.{Follows}
 
 -- t has what the transfer makes of s
-abbrev pub IsMade : ℕ → ℕ → Space → Move → State → State → Type 0
+abbrev pub IsMade : ℕ → ℕ → Space → TransferModel → State → State → Type 0
 IsMade storage setting space keep s t = Unit {0}
 IsMade storage setting space (write v) s t = (storage < length s.regs) × (slice_index t.regs storage ≡ mean v s setting)
 IsMade storage setting space (write_at a v) s t = held t space ≡ slice_set (held s space) (mean a s setting) (mean v s setting)
@@ -53,15 +53,15 @@ set_again (y ∷ xs) zero x = refl
 set_again (y ∷ xs) (suc i) x = ap (λ (z : List ℕ). y ∷ z) (set_again xs i x)
 
 module _ (s t : State) (size : length t.regs ≡ length s.regs) where
-  put_size : (move : Move) (q i : ℕ) (space : Space) (n : State) → length (apply_move q space move i s n).regs ≡ length n.regs
+  put_size : (move : TransferModel) (q i : ℕ) (space : Space) (n : State) → length (apply_transfer q space move i s n).regs ≡ length n.regs
   put_size keep q i space n = refl
   put_size (write v) q i space n = length-set n.regs q (mean v s i)
   put_size (write_at a v) q i space n = ap length (put_regs n space (mean a s i) (mean v s i))
 
-  reg_set : (q i : ℕ) (space : Space) (v : Term) (n : State) → IsMade q i space (write v) s t → length n.regs ≡ length s.regs → slice_index (slice_set n.regs q (mean v s i)) q ≡ slice_index t.regs q
+  reg_set : (q i : ℕ) (space : Space) (v : ExprModel) (n : State) → IsMade q i space (write v) s t → length n.regs ≡ length s.regs → slice_index (slice_set n.regs q (mean v s i)) q ≡ slice_index t.regs q
   reg_set q i space v n d l = get_or-set_same n.regs q (mean v s i) 0 (omega (arith, d.0, l)) ∙ sym d.1
 
-  reg_stays : (move : Move) (q i : ℕ) (space : Space) (n : State) (r : ℕ) → IsMade q i space move s t → length n.regs ≡ length s.regs → slice_index n.regs r ≡ slice_index t.regs r → slice_index (apply_move q space move i s n).regs r ≡ slice_index t.regs r
+  reg_stays : (move : TransferModel) (q i : ℕ) (space : Space) (n : State) (r : ℕ) → IsMade q i space move s t → length n.regs ≡ length s.regs → slice_index n.regs r ≡ slice_index t.regs r → slice_index (apply_transfer q space move i s n).regs r ≡ slice_index t.regs r
   reg_stays keep q i space n r d l h = h
   reg_stays (write v) q i space n r d l h =
       elim (cases_eq r q) as (λ _. slice_index (slice_set n.regs q (mean v s i)) r ≡ slice_index t.regs r) [
@@ -70,14 +70,14 @@ module _ (s t : State) (size : length t.regs ≡ length s.regs) where
       ]
   reg_stays (write_at a v) q i space n r d l h = ap (λ (z : List ℕ). slice_index z r) (put_regs n space (mean a s i) (mean v s i)) ∙ h
 
-  reg_made : (move : Move) (q i : ℕ) (space : Space) (n : State) (r : ℕ) → IsMade q i space move s t → length n.regs ≡ length s.regs → move_writes q move r ≡ true → slice_index (apply_move q space move i s n).regs r ≡ slice_index t.regs r
+  reg_made : (move : TransferModel) (q i : ℕ) (space : Space) (n : State) (r : ℕ) → IsMade q i space move s t → length n.regs ≡ length s.regs → transfer_writes q move r ≡ true → slice_index (apply_transfer q space move i s n).regs r ≡ slice_index t.regs r
   reg_made keep q i space n r d l e = absurd (true≢false (sym e))
   reg_made (write v) q i space n r d l e =
       subst (λ k. slice_index (slice_set n.regs q (mean v s i)) k ≡ slice_index t.regs k) (eqb-true q r e) (reg_set q i space v n d l)
   reg_made (write_at a v) q i space n r d l e = absurd (true≢false (sym e))
 
   -- cells of a space that a transfer writes, from those of s
-  cells_made : (at : Space) (move : Move) (q i : ℕ) (space : Space) (n : State) → IsMade q i space move s t → (is_store move && same_space space at) ≡ true → held n at ≡ held s at → held (apply_move q space move i s n) at ≡ held t at
+  cells_made : (at : Space) (move : TransferModel) (q i : ℕ) (space : Space) (n : State) → IsMade q i space move s t → (is_store move && same_space space at) ≡ true → held n at ≡ held s at → held (apply_transfer q space move i s n) at ≡ held t at
   cells_made at keep q i space n d e h = absurd (true≢false (sym e))
   cells_made at (write v) q i space n d e h = absurd (true≢false (sym e))
   cells_made at (write_at a v) q i space n d e h =
@@ -86,11 +86,11 @@ module _ (s t : State) (size : length t.regs ≡ length s.regs) where
       (λ k. put_own n space (mean a s i) (mean v s i) ∙ ap (λ (z : List ℕ). slice_set z (mean a s i) (mean v s i)) k ∙ sym d) h
 
   -- and those that are there already
-  cells_stay : (at : Space) (move : Move) (q i : ℕ) (space : Space) (n : State) → IsMade q i space move s t → held n at ≡ held t at → held (apply_move q space move i s n) at ≡ held t at
+  cells_stay : (at : Space) (move : TransferModel) (q i : ℕ) (space : Space) (n : State) → IsMade q i space move s t → held n at ≡ held t at → held (apply_transfer q space move i s n) at ≡ held t at
   cells_stay at keep q i space n d h = h
   cells_stay at (write v) q i space n d h = write_kept at h
     where
-      write_kept : (at : Space) → held n at ≡ held t at → held (apply_move q space (write v) i s n) at ≡ held t at
+      write_kept : (at : Space) → held n at ≡ held t at → held (apply_transfer q space (write v) i s n) at ≡ held t at
       write_kept InMemory k = k
       write_kept InFile k = k
   cells_stay at (write_at a v) q i space n d h =
@@ -100,7 +100,7 @@ module _ (s t : State) (size : length t.regs ≡ length s.regs) where
         | inr e ↦ put_other n space at (mean a s i) (mean v s i) e ∙ h
       ]
 
-  cells_kept : (at : Space) (move : Move) (q i : ℕ) (space : Space) (n : State) → (is_store move && same_space space at) ≡ false → held (apply_move q space move i s n) at ≡ held n at
+  cells_kept : (at : Space) (move : TransferModel) (q i : ℕ) (space : Space) (n : State) → (is_store move && same_space space at) ≡ false → held (apply_transfer q space move i s n) at ≡ held n at
   cells_kept at keep q i space n e = refl
   cells_kept InMemory (write v) q i space n e = refl
   cells_kept InFile (write v) q i space n e = refl

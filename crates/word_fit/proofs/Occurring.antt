@@ -1,9 +1,9 @@
 -- A register that an expression reads is one that occurs in it.
 use Rattle.std.proofs.Common.{◌≡◌, ℕ, ◌==◌, ◌||◌, Bool, true, false, refl, sym}
 use Rattle.std.proofs.lemmas.Bool.{eqb-true, eq-eqb, eqb-false, ne_eqb}
-use Rattle.net_model.specs.Terms.{Term, word, reg, const, read, un, bin, slice, cat, zext, sext, select, Move, keep, write, write_at}
-use Rattle.net_model.specs.Occurs.{occurs, move_occurs}
-use Rattle.form_model.specs.Effects.{register, term_reads, move_reads}
+use Rattle.net_model.specs.Exprs.{ExprModel, word, reg, const, read, un, bin, slice, cat, zext, sext, select, TransferModel, keep, write, write_at}
+use Rattle.net_model.specs.Occurs.{occurs, transfer_occurs}
+use Rattle.form_model.specs.Effects.{register, expr_reads, transfer_reads}
 
 swapped : (a b : ℕ) → (a == b) ≡ (b == a)
 swapped a b = by (b == a) refl
@@ -12,7 +12,7 @@ swapped a b = by (b == a) refl
     by true e = eq-eqb a b (sym (eqb-true b a e))
     by false e = ne_eqb a b (λ k. eqb-false b a e (sym k))
 
-pub reads_occurs : (t : Term) (i r : ℕ) → term_reads i t (register r) ≡ occurs r t
+pub reads_occurs : (t : ExprModel) (i r : ℕ) → expr_reads i t (register r) ≡ occurs r t
 reads_occurs (word w) i r = refl
 reads_occurs (reg q w) i r = swapped r q
 reads_occurs (const w v) i r = refl
@@ -26,7 +26,7 @@ reads_occurs (sext a w) i r = reads_occurs a i r
 reads_occurs (select c a b) i r = (λ j. reads_occurs c i r j || (reads_occurs a i r j || reads_occurs b i r j))
 
 -- so it is for a transfer
-pub move_reads_occurs : (move : Move) (i r : ℕ) → move_reads i move (register r) ≡ move_occurs r move
-move_reads_occurs keep i r = refl
-move_reads_occurs (write e) i r = reads_occurs e i r
-move_reads_occurs (write_at a e) i r = (λ j. reads_occurs a i r j || reads_occurs e i r j)
+pub transfer_reads_occurs : (move : TransferModel) (i r : ℕ) → transfer_reads i move (register r) ≡ transfer_occurs r move
+transfer_reads_occurs keep i r = refl
+transfer_reads_occurs (write e) i r = reads_occurs e i r
+transfer_reads_occurs (write_at a e) i r = (λ j. reads_occurs a i r j || reads_occurs e i r j)

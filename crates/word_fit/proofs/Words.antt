@@ -9,11 +9,11 @@ use Rattle.net_model.specs.MemoryText.{with_cell}
 use Rattle.net_model.proofs.Spaces.{by_space}
 use Rattle.net_model.specs.Nets.{held}
 use Rattle.net_model.specs.declared.states.State.{State}
-use Rattle.net_model.specs.Terms.{Term, Move, keep, write, write_at}
+use Rattle.net_model.specs.Exprs.{ExprModel, TransferModel, keep, write, write_at}
 use Rattle.net_model.specs.Meaning.{mean}
 use Rattle.net_model.specs.Occurs.{AgreeOn}
 use Rattle.net_model.proofs.TermLaws.{mean_alike, agree_less as on_less}
-use Rattle.form_model.specs.Effects.{Operation, register, term_reads, move_reads, reads, move_writes, writes, apply_move, apply_operation, apply_all, group_effect}
+use Rattle.form_model.specs.Effects.{Operation, register, expr_reads, transfer_reads, reads, transfer_writes, writes, apply_transfer, apply_operation, apply_all, group_effect}
 use Rattle.form_model.specs.Live.{Regs, group_reads, group_writes}
 use Rattle.word_fit.specs.Groups.{Agree}
 use Rattle.word_fit.proofs.Occurring.{reads_occurs}
@@ -31,7 +31,7 @@ SeenAlike reads o p = AgreeOn reads true o p
 seen_less : (k l : Regs) (o p : State) → ((r : ℕ) → l r ≡ true → k r ≡ true) → SeenAlike k o p → SeenAlike l o p
 seen_less k l o p h a = on_less l k true true o p h (λ e. e) a
 
-mean_seen : (t : Term) (i : ℕ) (o p : State) → SeenAlike (λ r. term_reads i t (register r)) o p → mean t o i ≡ mean t p i
+mean_seen : (t : ExprModel) (i : ℕ) (o p : State) → SeenAlike (λ r. expr_reads i t (register r)) o p → mean t o i ≡ mean t p i
 mean_seen t i o p a = mean_alike t i o p (record { regs = λ r e. a.regs r (reads_occurs t i r ∙ e); cells = λ e. a.cells refl })
 
 -- the same value goes into the same register of two files
@@ -64,24 +64,24 @@ put_alike : (n k : State) (l : Regs) (space : Space) (i j x y : ℕ) → i ≡ j
 put_alike n k l InMemory i j x y e f b = record { size = b.size; cells = rw (e, f, b.cells) refl; file = b.file; regs = b.regs }
 put_alike n k l InFile i j x y e f b = record { size = b.size; cells = b.cells; file = rw (e, f, b.file) refl; regs = b.regs }
 
-move_alike : (move : Move) (storage setting : ℕ) (space : Space) (o u n k : State) (l : Regs) → SeenAlike (λ r. move_reads setting move (register r)) o u → Agree l n k → Agree (λ r. l r || move_writes storage move r) (apply_move storage space move setting o n) (apply_move storage space move setting u k)
-move_alike keep storage setting space o u n k l a b = agree_less l _ n k (λ r e. or_false (l r) e) b
-move_alike (write v) storage setting space o u n k l a b =
+transfer_alike : (move : TransferModel) (storage setting : ℕ) (space : Space) (o u n k : State) (l : Regs) → SeenAlike (λ r. transfer_reads setting move (register r)) o u → Agree l n k → Agree (λ r. l r || transfer_writes storage move r) (apply_transfer storage space move setting o n) (apply_transfer storage space move setting u k)
+transfer_alike keep storage setting space o u n k l a b = agree_less l _ n k (λ r e. or_false (l r) e) b
+transfer_alike (write v) storage setting space o u n k l a b =
     let e : mean v o setting ≡ mean v u setting = mean_seen v setting o u (a) in
-    subst (λ x. Agree (λ r. l r || move_writes storage (write v) r) (apply_move storage space (write v) setting o n) (let s : State = record { regs = slice_set k.regs storage x; cells = k.cells; file = k.file } in s)) e
+    subst (λ x. Agree (λ r. l r || transfer_writes storage (write v) r) (apply_transfer storage space (write v) setting o n) (let s : State = record { regs = slice_set k.regs storage x; cells = k.cells; file = k.file } in s)) e
     (record {
       size = length-set n.regs storage (mean v o setting) ∙ b.size ∙ sym (length-set k.regs storage (mean v o setting));
       cells = b.cells;
       file = b.file;
       regs = λ r f. set_alike n.regs k.regs storage (mean v o setting) r (l r) b.size (b.regs r) f;
     })
-move_alike (write_at c v) storage setting space o u n k l a b =
-    let e : mean c o setting ≡ mean c u setting = mean_seen c setting o u (seen_less _ _ o u (λ r z. or_left (term_reads setting c (register r)) (term_reads setting v (register r)) z) a) in
-    let f : mean v o setting ≡ mean v u setting = mean_seen v setting o u (seen_less _ _ o u (λ r z. or_right (term_reads setting c (register r)) (term_reads setting v (register r)) z) a) in
+transfer_alike (write_at c v) storage setting space o u n k l a b =
+    let e : mean c o setting ≡ mean c u setting = mean_seen c setting o u (seen_less _ _ o u (λ r z. or_left (expr_reads setting c (register r)) (expr_reads setting v (register r)) z) a) in
+    let f : mean v o setting ≡ mean v u setting = mean_seen v setting o u (seen_less _ _ o u (λ r z. or_right (expr_reads setting c (register r)) (expr_reads setting v (register r)) z) a) in
     agree_less l _ _ _ (λ r z. or_false (l r) z) (put_alike n k l space _ _ _ _ e f b)
 
 operation_alike : (p : Operation) (o u n k : State) (l : Regs) → SeenAlike (λ r. reads p (register r)) o u → Agree l n k → Agree (λ r. l r || writes p r) (apply_operation p o n) (apply_operation p u k)
-operation_alike p o u n k l a b = move_alike p.move p.storage p.setting p.space o u n k l a b
+operation_alike p o u n k l a b = transfer_alike p.move p.storage p.setting p.space o u n k l a b
 
 module _ {A : Type 0} (m : A → Operation) where
   all_alike : (g : List A) (o u n k : State) (l : Regs) → SeenAlike (group_reads m g) o u → Agree l n k → Agree (λ r. l r || group_writes m g r) (apply_all m g o n) (apply_all m g u k)

@@ -3,8 +3,8 @@ use Rattle.std.proofs.Common.{◌≡◌, ◌==◌, false, lit<, [], ◌∷◌, r
 use Rattle.std.proofs.lemmas.Bool.{true≢false}
 use Rattle.rec_bits.specs.declared.operator.Op2.TheVariants.{Sub}
 use Rattle.net_model.specs.declared.hardware.Space.TheVariants.{Memory as InMemory}
-use Rattle.net_model.specs.Terms.{word, reg, read, bin, slice, keep, write}
-use Rattle.net_model.specs.Transfers.{IsClean, move_at, space_move}
+use Rattle.net_model.specs.Exprs.{word, reg, read, bin, slice, keep, write}
+use Rattle.net_model.specs.Transfers.{IsClean, transfer_at, space_transfer}
 use Rattle.net_model.proofs.Spaces.{by_space}
 use Rattle.net_model.specs.Worked.{z16}
 use Rattle.net_model.proofs.WordWidths.{word_fits}
@@ -28,7 +28,7 @@ fits_302 = record {
   clean = clean_302;
   does = (record { changes = λ e. cc; gives = refl; space = refl; setting = refl }, tt);
   steps = record { step = inl refl };
-  cells = λ space. by_space (λ z. group_stores z as_is (subtracts ∷ []) ≡ false → space_move z16 z 770 ≡ keep) (λ e. refl) (λ e. refl) space;
+  cells = λ space. by_space (λ z. group_stores z as_is (subtracts ∷ []) ≡ false → space_transfer z16 z 770 ≡ keep) (λ e. refl) (λ e. refl) space;
   registers = λ r is live unwritten. absurd (true≢false (sym live));
 }
 
@@ -37,7 +37,7 @@ abbrev flag : Regs
 flag = λ r. r == 2
 
 flag_is_lost : FitsGroup z16 as_is 770 (subtracts ∷ []) flag → ⊥
-flag_is_lost f = (let k : move_at z16 770 2 ≡ keep = f.registers 2 tt refl refl in cc)
+flag_is_lost f = (let k : transfer_at z16 770 2 ≡ keep = f.registers 2 tt refl refl in cc)
 
 -- the word 303 takes another cell, and the word 202 adds
 other_cell : FitsGroup z16 as_is 771 (subtracts ∷ []) no_regs → ⊥

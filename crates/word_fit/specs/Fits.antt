@@ -1,11 +1,17 @@
--- Which words fit a group of steps, over the netlist alone.
+-- Which words fit a group of steps, over the netlist alone. A word *fits* a group of steps with a
+-- set of live registers where it doesn't clash, does each step's transfer with its setting, steps,
+-- keeps the data memory unless a step writes it, keeps the register file unless a step writes it,
+-- and keeps each live register that no step writes (`FitsGroup`). A jump or branch word does its
+-- transfer with its setting and keeps the data memory (`FitsJump`); it needn't keep the file,
+-- since nothing in it is live behind a test. It may be asked to keep registers (`FitsTurning`).
+-- The least such word (`IsLeastFit`). Over the netlist alone: no id, set or diagram occurs in it.
 use Rattle.std.specs.Prelude.{ℕ, ◌≡◌, ◌≢◌, ◌≤◌, ◌||◌, ◌&&◌, Bool, true, false, List, [], ◌∷◌, slice_get, bit_and}
 use Rattle.net_model.specs.declared.hardware.Netlist.{Netlist}
 use Rattle.net_model.specs.declared.hardware.Space.{Space}
 use Rattle.net_model.specs.Nets.{IsRegister, file_place}
-use Rattle.net_model.specs.Terms.{keep}
-use Rattle.net_model.specs.Transfers.{IsClean, Steps, memory_move, move_at, space_move}
-use Rattle.net_model.specs.Fields.{move_fields}
+use Rattle.net_model.specs.Exprs.{keep}
+use Rattle.net_model.specs.Transfers.{IsClean, Steps, memory_transfer, transfer_at, space_transfer}
+use Rattle.net_model.specs.Fields.{transfer_fields}
 use Rattle.form_model.specs.Effects.{Operation, is_store, same_space, space_in}
 use Rattle.form_model.specs.Live.{Regs, group_writes}
 
@@ -13,9 +19,9 @@ use Rattle.form_model.specs.Live.{Regs, group_writes}
 -- with its setting: the word's bits in the fields of the transfer
 pub record Does (netlist : Netlist) (word : ℕ) (d : Operation) : Type 0 where
   pub changes : d.move ≢ keep
-  pub gives : move_at netlist word d.storage ≡ d.move
+  pub gives : transfer_at netlist word d.storage ≡ d.move
   pub space : d.space ≡ space_in (file_place netlist.storages) d.storage
-  pub setting : bit_and word (move_fields d.move) ≡ d.setting
+  pub setting : bit_and word (transfer_fields d.move) ≡ d.setting
 
 -- it does the transfer of each step
 abbrev pub DoesAll : {A : Type 0} → Netlist → (A → Operation) → ℕ → List A → Type 0
@@ -39,9 +45,9 @@ pub record FitsGroup {A : Type 0} (netlist : Netlist) (m : A → Operation) (wor
   pub clean : IsClean netlist word
   pub does : DoesAll netlist m word g
   pub steps : Steps netlist word
-  pub cells : (space : Space) → group_stores space m g ≡ false → space_move netlist space word ≡ keep
+  pub cells : (space : Space) → group_stores space m g ≡ false → space_transfer netlist space word ≡ keep
   pub registers : (r : ℕ) → IsRegister (slice_get netlist.storages r) → live r ≡ true →
-      group_writes m g r ≡ false → move_at netlist word r ≡ keep
+      group_writes m g r ≡ false → transfer_at netlist word r ≡ keep
 
 -- the same as a relation of words, groups and live registers
 abbrev pub fits_over : {A : Type 0} → Netlist → (A → Operation) → ℕ → List A → Regs → Type 0
@@ -52,12 +58,12 @@ fits_over netlist m word g live = FitsGroup netlist m word g live
 pub record FitsJump (netlist : Netlist) (word : ℕ) (d : Operation) : Type 0 where
   pub clean : IsClean netlist word
   pub does : Does netlist word d
-  pub memory : memory_move netlist word ≡ keep
+  pub memory : memory_transfer netlist word ≡ keep
 
 -- one that keeps these registers, too
 pub record FitsTurning (netlist : Netlist) (word : ℕ) (d : Operation) (kept : Regs) : Type 0 where
   pub jump : FitsJump netlist word d
-  pub registers : (r : ℕ) → IsRegister (slice_get netlist.storages r) → kept r ≡ true → move_at netlist word r ≡ keep
+  pub registers : (r : ℕ) → IsRegister (slice_get netlist.storages r) → kept r ≡ true → transfer_at netlist word r ≡ keep
 
 -- the least word that fits
 pub record IsLeastFit (fits : ℕ → Type 0) (word : ℕ) : Type 0 where

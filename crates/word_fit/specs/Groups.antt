@@ -1,4 +1,9 @@
--- Live registers, words of lists of groups, and what words leave.
+-- Live registers, words of lists of groups, and what words leave. For each group of a list the
+-- registers that are live after it (`lives_of`); a register that a later group reads before
+-- another writes it, or that is live behind and not written. Words that fit the groups
+-- (`GroupsFit`), groups that have words (`AllHaveWords`), and the least words (`AreLeast`). Two
+-- states that agree on the memory, the register file and a set of registers; what may follow a
+-- group under a word that fits it.
 use Rattle.std.specs.Prelude.{◌≡◌, ℕ, ◌<◌, true, false, ◌||◌, List, [], ◌∷◌, length, slice_index, slice_get, Some}
 use Rattle.net_model.specs.declared.states.State.{State}
 use Rattle.form_model.specs.Effects.{Operation, group_effect}

@@ -1,4 +1,5 @@
--- Words in a code, clocked in order.
+-- Words in a code, clocked in order. One clock under such a word, words that stand in a code from
+-- an address on, and so many clocks that leave what a list of groups leaves.
 use Rattle.std.specs.Prelude.{◌≡◌, ℕ, ◌+◌, ◌%◌, ◌^◌, List, [], ◌∷◌, slice_index}
 use Rattle.net_model.specs.declared.hardware.Netlist.{Netlist}
 use Rattle.net_model.specs.declared.states.State.{State}

@@ -1,7 +1,7 @@
 -- Worked groups: their live registers, and what they do at one clock edge.
 use Rattle.std.specs.Prelude.{◌≡◌, ℕ, true, false, [], ◌∷◌, refl}
 use Rattle.net_model.specs.declared.hardware.Space.TheVariants.{Memory as InMemory, File as InFile}
-use Rattle.net_model.specs.Terms.{word, reg, read, slice, write, write_at}
+use Rattle.net_model.specs.Exprs.{word, reg, read, slice, write, write_at}
 use Rattle.form_model.specs.Effects.{Operation, group_effect, steps_effect}
 use Rattle.form_model.specs.Live.{no_regs, live_before}
 use Rattle.word_fit.specs.Fits.{group_stores}

@@ -18,12 +18,12 @@ pub fn law_of_runs()
 
 /// A register is live before groups exactly where one of them reads it before another writes it, or
 /// it is live after them and none writes it.
-pub fn law_of_live()
+pub fn law_of_liveness()
     ensures { LiveIsNeeded }
 {}
 
 /// The list of live sets has at each group's place the registers that are live after it.
-pub fn law_of_lives()
+pub fn law_of_live_lists()
     ensures { LivesAreLive }
 {}
 

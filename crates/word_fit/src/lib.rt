@@ -4,7 +4,7 @@
 //! steps do, keeps the live registers, and leaves the program counter one on (`law_of_clocks`:
 //! `ClocksFollow`). Words that fit groups, clocked in order, leave what the groups leave in memory,
 //! file and live registers (`law_of_runs`: `RunsFollow`, `RunsFollowSteps`). A register is live
-//! exactly where it is still needed (`law_of_live`, `law_of_lives`). The least words of groups fit
+//! exactly where it is still needed (`law_of_liveness`, `law_of_live_lists`). The least words of groups fit
 //! them and are one list (`law_of_least`). `written_by` and its fellows tell what a step writes.
 //!
 //! Files:
@@ -24,7 +24,7 @@ mod laws;
 mod writing;
 
 pub use groups::Group;
-pub use laws::{law_of_clocks, law_of_least, law_of_live, law_of_lives, law_of_runs};
+pub use laws::{law_of_clocks, law_of_least, law_of_live_lists, law_of_liveness, law_of_runs};
 pub use writing::{
     Written, same_space, space_in, stores, stores_cells, stores_in, writes, writes_register,
     written_by,

@@ -3,9 +3,9 @@ use Rattle.std.specs.Prelude.{ℕ, ◌+◌, ◌<◌, ◌≤◌, if◌then◌else
 use Rattle.std.specs.List.{list_any}
 use Rattle.bit_bdd.specs.Diagrams.{Diagrams, has_word}
 use Rattle.sym_expr.specs.declared.pool.Node.{Node}
-use Rattle.transfer_set.specs.Entries.{ids_move}
+use Rattle.transfer_set.specs.Entries.{ids_transfer}
 use Rattle.transfer_set.specs.declared.row.Row.{Row}
-use Rattle.asm_words.specs.Slices.{move_slices, same_slice}
+use Rattle.asm_words.specs.Slices.{transfer_slices, same_slice}
 use Rattle.asm_words.specs.declared.slices.Slice.{Slice}
 
 -- the row's set holds the word
@@ -22,7 +22,7 @@ numbers_in book (row ∷ rows) number word =
 -- the slices in a row's transfer
 abbrev pub row_slices : List Node → Option Row → List Slice
 row_slices pool None = []
-row_slices pool (Some row) = move_slices (ids_move pool row.addr row.value)
+row_slices pool (Some row) = transfer_slices (ids_transfer pool row.addr row.value)
 
 -- a slice behind others, unless it stands there
 abbrev pub has_slice : List Slice → Slice → Bool

@@ -3,13 +3,13 @@ use Rattle.std.specs.Prelude.{ℕ, zero, suc, ◌*◌, ◌^◌, ◌==◌, if◌t
 use Rattle.std.specs.List.{list_any}
 use Rattle.net_model.specs.Fields.{bits_between}
 use Rattle.transfer_set.specs.declared.row.Row.{Row}
-use Rattle.transfer_set.specs.Tables.{Table}
+use Rattle.transfer_set.specs.Tables.{PatternTable}
 use Rattle.nop_synth.specs.declared.meet.FieldValue.{FieldValue}
 use Rattle.nop_synth.specs.Wanted.{option_list, row_set}
 use Rattle.asm_text.specs.declared.line.Item.{Item}
 
 -- the words of the pattern of a number
-abbrev pub number_set : Table → ℕ → ℕ
+abbrev pub number_set : PatternTable → ℕ → ℕ
 number_set table number = row_set (slice_get table.rows number)
 
 -- one of the patterns of these numbers is of the storage
@@ -17,20 +17,20 @@ abbrev pub is_row_of : ℕ → Option Row → Bool
 is_row_of storage None = false
 is_row_of storage (Some row) = row.storage == storage
 
-abbrev pub row_named : Table → List ℕ → ℕ → Bool
+abbrev pub row_named : PatternTable → List ℕ → ℕ → Bool
 row_named table numbers storage = list_any (λ n. is_row_of storage (slice_get table.rows n)) numbers
 
 -- the words that keep a storage, unless a pattern is of it
-abbrev pub kept_set : Table → List ℕ → ℕ → List ℕ
+abbrev pub kept_set : PatternTable → List ℕ → ℕ → List ℕ
 kept_set table numbers storage =
     if row_named table numbers storage then [] else option_list (slice_get table.keeps storage)
 
-unfoldable pub kept_sets : Table → List ℕ → ℕ → List ℕ
+unfoldable pub kept_sets : PatternTable → List ℕ → ℕ → List ℕ
 kept_sets table numbers zero = []
 kept_sets table numbers (suc storage) = kept_sets table numbers storage ++ kept_set table numbers storage
 
 -- all sets that are to hold a word of the line
-abbrev pub line_sets : Table → List ℕ → ℕ → List ℕ
+abbrev pub line_sets : PatternTable → List ℕ → ℕ → List ℕ
 line_sets table numbers storages = map (number_set table) numbers ++ kept_sets table numbers storages
 
 -- an item's bits and value, in their places

@@ -1,10 +1,10 @@
 -- The least cost of covers.
 use Rattle.std.specs.Prelude.{ℕ, ◌+◌, ◌^◌, ◌<◌, ◌≤◌, ◌≡◌, List, ◌⊎◌, Option, Some, None, nat_lt, if◌then◌else◌, slice_get, remove}
-use Rattle.net_model.specs.Terms.{Term}
-use Rattle.form_model.specs.Plans.{Plan, use_form, Operands, operand_then, Cuts, cost, operands_cost, cuts_cost}
-use Rattle.form_model.specs.Covers.{Stock, Operand}
+use Rattle.net_model.specs.Exprs.{ExprModel}
+use Rattle.form_model.specs.CoverModels.{CoverModel, use_form, CoverOperandsModel, operand_then, CoverCutsModel, cost, operands_cost, cuts_cost}
+use Rattle.form_model.specs.Covers.{StockModel, Operand}
 use Rattle.cover.specs.declared.limits.Limits.{Limits}
-use Rattle.cover.specs.Inner.Asks.{Ask, after, IsSparing, AreSparing, AreStored}
+use Rattle.cover.specs.Inner.Subgoals.{SubgoalModel, after, IsSparing, AreSparing, AreStored}
 
 -- a cost is known, and is at most n
 abbrev pub AtMost : Option ℕ → ℕ → Type 0
@@ -22,74 +22,74 @@ IsHeld None = Unit {0}
 IsHeld (Some n) = n < 2 ^ 64
 
 -- a known cost is that of some cover
-abbrev pub Reached : Stock → Limits → Ask → Option ℕ → Type 0
-Reached stock limits ask None = Unit {0}
-Reached stock limits ask (Some n) = (p : Plan) × IsSparing stock limits ask p × (cost p ≡ n)
+abbrev pub IsLeastWithin : StockModel → Limits → SubgoalModel → Option ℕ → Type 0
+IsLeastWithin stock limits ask None = Unit {0}
+IsLeastWithin stock limits ask (Some n) = (p : CoverModel) × IsSparing stock limits ask p × (cost p ≡ n)
 
 -- the cost of some cover, and no cover is cheaper; none only where there is no cover
-pub record IsLeast (stock : Stock) (limits : Limits) (ask : Ask) (o : Option ℕ) : Type 0 where
-  pub reached : Reached stock limits ask o
-  pub least : (p : Plan) → IsSparing stock limits ask p → AtMost o (cost p)
+pub record IsLeast (stock : StockModel) (limits : Limits) (ask : SubgoalModel) (o : Option ℕ) : Type 0 where
+  pub reached : IsLeastWithin stock limits ask o
+  pub least : (p : CoverModel) → IsSparing stock limits ask p → AtMost o (cost p)
 
-abbrev pub OrderReached : Stock → Limits → List Operand → Option ℕ → Type 0
+abbrev pub OrderReached : StockModel → Limits → List Operand → Option ℕ → Type 0
 OrderReached stock limits ops None = Unit {0}
-OrderReached stock limits ops (Some n) = (ps : Operands) × AreSparing stock limits ops ps × (operands_cost ps ≡ n)
+OrderReached stock limits ops (Some n) = (ps : CoverOperandsModel) × AreSparing stock limits ops ps × (operands_cost ps ≡ n)
 
-pub record IsLeastOrder (stock : Stock) (limits : Limits) (ops : List Operand) (o : Option ℕ) : Type 0 where
+pub record IsLeastOrder (stock : StockModel) (limits : Limits) (ops : List Operand) (o : Option ℕ) : Type 0 where
   pub reached : OrderReached stock limits ops o
-  pub least : (ps : Operands) → AreSparing stock limits ops ps → AtMost o (operands_cost ps)
+  pub least : (ps : CoverOperandsModel) → AreSparing stock limits ops ps → AtMost o (operands_cost ps)
 
 -- the same of the operands but the one at i, whose register they spare
-abbrev pub IsLeastAfter : Stock → Limits → List Operand → ℕ → Option ℕ → Type 0
+abbrev pub IsLeastAfter : StockModel → Limits → List Operand → ℕ → Option ℕ → Type 0
 IsLeastAfter stock limits ops i o =
     (x : Operand) → slice_get ops i ≡ Some x →
     IsLeastOrder stock (after limits x.home) (remove ops i) o
 
 -- no order costs less than this; none only where there is no order
-abbrev pub IsFloor : Stock → Limits → List Operand → Option ℕ → Type 0
-IsFloor stock limits ops o = (ps : Operands) → AreSparing stock limits ops ps → AtMost o (operands_cost ps)
+abbrev pub IsFloor : StockModel → Limits → List Operand → Option ℕ → Type 0
+IsFloor stock limits ops o = (ps : CoverOperandsModel) → AreSparing stock limits ops ps → AtMost o (operands_cost ps)
 
-abbrev pub CutReached : Stock → List Term → Option ℕ → Type 0
+abbrev pub CutReached : StockModel → List ExprModel → Option ℕ → Type 0
 CutReached stock ts None = Unit {0}
-CutReached stock ts (Some n) = (cs : Cuts) × AreStored stock ts cs × (cuts_cost cs ≡ n)
+CutReached stock ts (Some n) = (cs : CoverCutsModel) × AreStored stock ts cs × (cuts_cost cs ≡ n)
 
-pub record IsLeastCut (stock : Stock) (ts : List Term) (o : Option ℕ) : Type 0 where
+pub record IsLeastCut (stock : StockModel) (ts : List ExprModel) (o : Option ℕ) : Type 0 where
   pub reached : CutReached stock ts o
-  pub least : (cs : Cuts) → AreStored stock ts cs → AtMost o (cuts_cost cs)
+  pub least : (cs : CoverCutsModel) → AreStored stock ts cs → AtMost o (cuts_cost cs)
 
 -- the orders that begin with the operand at i
-abbrev pub FromReached : Stock → Limits → List Operand → ℕ → Option ℕ → Type 0
+abbrev pub FromReached : StockModel → Limits → List Operand → ℕ → Option ℕ → Type 0
 FromReached stock limits ops i None = Unit {0}
 FromReached stock limits ops i (Some n) =
-    (p : Plan) × (ps : Operands) × AreSparing stock limits ops (operand_then i p ps)
+    (p : CoverModel) × (ps : CoverOperandsModel) × AreSparing stock limits ops (operand_then i p ps)
     × (cost p + operands_cost ps ≡ n)
 
-pub record IsLeastFrom (stock : Stock) (limits : Limits) (ops : List Operand) (i : ℕ) (o : Option ℕ) : Type 0 where
+pub record IsLeastFrom (stock : StockModel) (limits : Limits) (ops : List Operand) (i : ℕ) (o : Option ℕ) : Type 0 where
   pub reached : FromReached stock limits ops i o
-  pub least : (p : Plan) (ps : Operands) → AreSparing stock limits ops (operand_then i p ps) →
+  pub least : (p : CoverModel) (ps : CoverOperandsModel) → AreSparing stock limits ops (operand_then i p ps) →
       AtMost o (cost p + operands_cost ps)
 
-abbrev pub FirstsBelow : Stock → Limits → List Operand → ℕ → Option ℕ → Type 0
+abbrev pub FirstsBelow : StockModel → Limits → List Operand → ℕ → Option ℕ → Type 0
 FirstsBelow stock limits ops n o =
-    (i : ℕ) (p : Plan) (ps : Operands) → i < n → AreSparing stock limits ops (operand_then i p ps) →
+    (i : ℕ) (p : CoverModel) (ps : CoverOperandsModel) → i < n → AreSparing stock limits ops (operand_then i p ps) →
     AtMost o (cost p + operands_cost ps)
 
 -- the covers that begin with the form at k
-abbrev pub FormReached : Stock → Limits → Ask → ℕ → Option ℕ → Type 0
+abbrev pub FormReached : StockModel → Limits → SubgoalModel → ℕ → Option ℕ → Type 0
 FormReached stock limits ask k None = Unit {0}
 FormReached stock limits ask k (Some n) =
-    (ps : Operands) × (cs : Cuts) × IsSparing stock limits ask (use_form k ps cs)
+    (ps : CoverOperandsModel) × (cs : CoverCutsModel) × IsSparing stock limits ask (use_form k ps cs)
     × (1 + operands_cost ps + cuts_cost cs ≡ n)
 
-pub record IsLeastForm (stock : Stock) (limits : Limits) (ask : Ask) (k : ℕ) (o : Option ℕ) : Type 0 where
+pub record IsLeastForm (stock : StockModel) (limits : Limits) (ask : SubgoalModel) (k : ℕ) (o : Option ℕ) : Type 0 where
   pub reached : FormReached stock limits ask k o
-  pub least : (ps : Operands) (cs : Cuts) → IsSparing stock limits ask (use_form k ps cs) →
+  pub least : (ps : CoverOperandsModel) (cs : CoverCutsModel) → IsSparing stock limits ask (use_form k ps cs) →
       AtMost o (1 + operands_cost ps + cuts_cost cs)
 
 -- the covers that begin with one of the first n forms
-abbrev pub FormsBelow : Stock → Limits → Ask → ℕ → Option ℕ → Type 0
+abbrev pub FormsBelow : StockModel → Limits → SubgoalModel → ℕ → Option ℕ → Type 0
 FormsBelow stock limits ask n o =
-    (k : ℕ) (ps : Operands) (cs : Cuts) → k < n → IsSparing stock limits ask (use_form k ps cs) →
+    (k : ℕ) (ps : CoverOperandsModel) (cs : CoverCutsModel) → k < n → IsSparing stock limits ask (use_form k ps cs) →
     AtMost o (1 + operands_cost ps + cuts_cost cs)
 
 -- the lesser of two costs
@@ -105,7 +105,7 @@ summed (Some m) None = None
 summed (Some m) (Some n) = Some (m + n)
 
 -- the least cost of a form with these parts
-pub record IsPartsCost (stock : Stock) (limits : Limits) (ops : List Operand) (ts : List Term) (o : Option ℕ) : Type 0 where
+pub record IsPartsCost (stock : StockModel) (limits : Limits) (ops : List Operand) (ts : List ExprModel) (o : Option ℕ) : Type 0 where
   pub operands : Option ℕ
   pub cuts : Option ℕ
   pub order : IsLeastOrder stock limits ops operands
@@ -113,7 +113,7 @@ pub record IsPartsCost (stock : Stock) (limits : Limits) (ops : List Operand) (t
   pub sum : o ≡ summed (summed (Some 1) operands) cuts
 
 -- a form with these parts costs no less than what is known
-pub record IsDear (stock : Stock) (limits : Limits) (ops : List Operand) (ts : List Term) (known : Option ℕ) : Type 0 where
+pub record IsDear (stock : StockModel) (limits : Limits) (ops : List Operand) (ts : List ExprModel) (known : Option ℕ) : Type 0 where
   pub operands : Option ℕ
   pub cuts : Option ℕ
   pub floor : IsFloor stock limits ops operands
@@ -121,6 +121,6 @@ pub record IsDear (stock : Stock) (limits : Limits) (ops : List Operand) (ts : L
   pub dear : (n : ℕ) → AtMost (summed (summed (Some 1) operands) cuts) n → AtMost known n
 
 -- the least cost of a form with these parts, or nothing where it isn't less than what is known
-abbrev pub IsCostBelow : Stock → Limits → List Operand → List Term → Option ℕ → Option ℕ → Type 0
+abbrev pub IsCostBelow : StockModel → Limits → List Operand → List ExprModel → Option ℕ → Option ℕ → Type 0
 IsCostBelow stock limits ops ts known o =
     IsPartsCost stock limits ops ts o ⊎ ((o ≡ None) × IsDear stock limits ops ts known)

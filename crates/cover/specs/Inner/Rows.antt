@@ -2,17 +2,17 @@
 -- temporary cell.
 use Rattle.std.specs.Prelude.{ℕ, ◌+◌, ◌*◌, ◌<◌, ◌≤◌, ◌≡◌, ◌⊎◌, ◌^◌, Bool, true, false, List, [], ◌∷◌, ◌++◌, Option, Some, None, length, slice_get, slice_set, slice_index_or}
 use Rattle.std.specs.List.{sum_by}
-use Rattle.net_model.specs.Terms.{Term, size_of}
-use Rattle.form_model.specs.Plans.{Plan, use_form, Operands, Cuts, cost}
-use Rattle.form_model.specs.Covers.{Stock}
+use Rattle.net_model.specs.Exprs.{ExprModel, size_of}
+use Rattle.form_model.specs.CoverModels.{CoverModel, use_form, CoverOperandsModel, CoverCutsModel, cost}
+use Rattle.form_model.specs.Covers.{StockModel}
 use Rattle.cover.specs.declared.limits.Limits.{Limits}
 use Rattle.cover.specs.declared.slots.Slot.{Slot}
 use Rattle.cover.specs.declared.rows.ChainRule.{ChainRule}
 use Rattle.cover.specs.declared.rows.Offer.{Offer}
 use Rattle.cover.specs.declared.matches.FormMatch.{FormMatch}
 use Rattle.cover.specs.declared.rows.Offer.TheVariants.{Nothing, Chains, Reaches}
-use Rattle.cover.specs.Inner.Asks.{Ask, IsSparing}
-use Rattle.cover.specs.Inner.Least.{AtMost, NoMore, Reached, IsLeast}
+use Rattle.cover.specs.Inner.Subgoals.{SubgoalModel, IsSparing}
+use Rattle.cover.specs.Inner.Least.{AtMost, NoMore, IsLeastWithin, IsLeast}
 use Rattle.cover.specs.Inner.Slots.{place, IsEntry, IsSlot, entry_destination}
 
 abbrev pub Row : Type 0
@@ -26,8 +26,8 @@ abbrev pub IsBlank : Row → Type 0
 IsBlank row = (s : Slot) → entry row s ≡ None
 
 -- what is asked for an entry of the row of a tree
-abbrev pub row_ask : Term → Bool → Slot → Ask
-row_ask tree whole s = record { destination = entry_destination s; tree = tree; whole = whole }
+abbrev pub row_subgoal : ExprModel → Bool → Slot → SubgoalModel
+row_subgoal tree whole s = record { destination = entry_destination s; tree = tree; whole = whole }
 
 -- a cost is less than what is known
 abbrev pub IsBelow : ℕ → Option ℕ → Type 0
@@ -35,24 +35,24 @@ IsBelow n None = Unit {0}
 IsBelow n (Some m) = n < m
 
 -- each entry is that of some cover
-abbrev pub Sound : Stock → Limits → Term → Bool → Row → Type 0
-Sound stock limits tree whole row = (r : Slot) → IsSlot whole r → Reached stock limits (row_ask tree whole r) (entry row r)
+abbrev pub Sound : StockModel → Limits → ExprModel → Bool → Row → Type 0
+Sound stock limits tree whole row = (r : Slot) → IsSlot whole r → IsLeastWithin stock limits (row_subgoal tree whole r) (entry row r)
 
 -- each entry is the least
-abbrev pub IsLeastRow : Stock → Limits → Term → Bool → Row → Type 0
+abbrev pub IsLeastRow : StockModel → Limits → ExprModel → Bool → Row → Type 0
 IsLeastRow stock limits tree whole row =
-    (r : Slot) → IsSlot whole r → IsLeast stock limits (row_ask tree whole r) (entry row r)
+    (r : Slot) → IsSlot whole r → IsLeast stock limits (row_subgoal tree whole r) (entry row r)
 
 -- ---- chain rules: forms that go on from another entry of the same row
 
 -- a cover for the one entry gives one for the other, which costs 1 more
-pub record IsLift (stock : Stock) (limits : Limits) (tree : Term) (whole : Bool) (m : ChainRule) : Type 0 where
+pub record IsLift (stock : StockModel) (limits : Limits) (tree : ExprModel) (whole : Bool) (m : ChainRule) : Type 0 where
   pub start : IsSlot whole m.start
   pub goal : IsSlot whole m.goal
-  pub lift : (p : Plan) → IsSparing stock limits (row_ask tree whole m.start) p →
-      (q : Plan) × IsSparing stock limits (row_ask tree whole m.goal) q × (cost q ≡ cost p + 1)
+  pub lift : (p : CoverModel) → IsSparing stock limits (row_subgoal tree whole m.start) p →
+      (q : CoverModel) × IsSparing stock limits (row_subgoal tree whole m.goal) q × (cost q ≡ cost p + 1)
 
-abbrev pub AreLifts : Stock → Limits → Term → Bool → List ChainRule → Type 0
+abbrev pub AreLifts : StockModel → Limits → ExprModel → Bool → List ChainRule → Type 0
 AreLifts stock limits tree whole chains =
     (i : ℕ) (m : ChainRule) → slice_get chains i ≡ Some m → IsLift stock limits tree whole m
 
@@ -62,39 +62,39 @@ AreWithin chains = (i : ℕ) (m : ChainRule) → slice_get chains i ≡ Some m �
 
 -- a cover of an entry is no cheaper than the entry, or begins with a chain rule and goes on with a
 -- cover of its start
-abbrev pub IsMet : Stock → Limits → Term → Bool → List ChainRule → Row → Slot → ℕ → Type 0
+abbrev pub IsMet : StockModel → Limits → ExprModel → Bool → List ChainRule → Row → Slot → ℕ → Type 0
 IsMet stock limits tree whole chains row r n =
     AtMost (entry row r) n
-    ⊎ ((i : ℕ) × (m : ChainRule) × (slice_get chains i ≡ Some m) × (m.goal ≡ r) × (q : Plan)
-    × IsSparing stock limits (row_ask tree whole m.start) q × (cost q + 1 ≤ n))
+    ⊎ ((i : ℕ) × (m : ChainRule) × (slice_get chains i ≡ Some m) × (m.goal ≡ r) × (q : CoverModel)
+    × IsSparing stock limits (row_subgoal tree whole m.start) q × (cost q + 1 ≤ n))
 
 -- what is known of a tree after the first n matches were tried
-pub record IsTried (stock : Stock) (limits : Limits) (tree : Term) (whole : Bool) (list : List FormMatch)
+pub record IsTried (stock : StockModel) (limits : Limits) (tree : ExprModel) (whole : Bool) (list : List FormMatch)
     (n : ℕ) (chains : List ChainRule) (row : Row) : Type 0 where
   pub sound : Sound stock limits tree whole row
   pub lifts : AreLifts stock limits tree whole chains
-  pub met : (i : ℕ) (m : FormMatch) (ps : Operands) (cs : Cuts) (r : Slot) → i < n →
+  pub met : (i : ℕ) (m : FormMatch) (ps : CoverOperandsModel) (cs : CoverCutsModel) (r : Slot) → i < n →
       slice_get list i ≡ Some m → IsSlot whole r →
-      IsSparing stock limits (row_ask tree whole r) (use_form m.form ps cs) →
+      IsSparing stock limits (row_subgoal tree whole r) (use_form m.form ps cs) →
       IsMet stock limits tree whole chains row r (cost (use_form m.form ps cs))
 
 -- what the form at k gives for a row: no cover that is cheaper than what is known, a chain rule, or
 -- a cost of its entry
-abbrev pub IsOffer : Stock → Limits → Term → Bool → Row → ℕ → Offer → Type 0
+abbrev pub IsOffer : StockModel → Limits → ExprModel → Bool → Row → ℕ → Offer → Type 0
 IsOffer stock limits tree whole row k Nothing =
-    (ps : Operands) (cs : Cuts) (r : Slot) → IsSlot whole r →
-    IsSparing stock limits (row_ask tree whole r) (use_form k ps cs) →
+    (ps : CoverOperandsModel) (cs : CoverCutsModel) (r : Slot) → IsSlot whole r →
+    IsSparing stock limits (row_subgoal tree whole r) (use_form k ps cs) →
     AtMost (entry row r) (cost (use_form k ps cs))
 IsOffer stock limits tree whole row k (Chains m) =
     IsLift stock limits tree whole m
-    × ((ps : Operands) (cs : Cuts) (r : Slot) → IsSlot whole r →
-    IsSparing stock limits (row_ask tree whole r) (use_form k ps cs) →
-    (m.goal ≡ r) × (q : Plan) × IsSparing stock limits (row_ask tree whole m.start) q
+    × ((ps : CoverOperandsModel) (cs : CoverCutsModel) (r : Slot) → IsSlot whole r →
+    IsSparing stock limits (row_subgoal tree whole r) (use_form k ps cs) →
+    (m.goal ≡ r) × (q : CoverModel) × IsSparing stock limits (row_subgoal tree whole m.start) q
     × (cost q + 1 ≤ cost (use_form k ps cs)))
 IsOffer stock limits tree whole row k (Reaches slot n) =
-    IsSlot whole slot × Reached stock limits (row_ask tree whole slot) (Some n)
-    × ((ps : Operands) (cs : Cuts) (r : Slot) → IsSlot whole r →
-    IsSparing stock limits (row_ask tree whole r) (use_form k ps cs) →
+    IsSlot whole slot × IsLeastWithin stock limits (row_subgoal tree whole slot) (Some n)
+    × ((ps : CoverOperandsModel) (cs : CoverCutsModel) (r : Slot) → IsSlot whole r →
+    IsSparing stock limits (row_subgoal tree whole r) (use_form k ps cs) →
     (slot ≡ r) × (n ≤ cost (use_form k ps cs)))
 
 -- what an entry weighs
@@ -148,7 +148,7 @@ Changed chains n false old new = (new ≡ old) × ChainsBelow chains n new
 -- entries that are those of covers stay so
 abbrev pub Keeps : List ChainRule → Row → Row → Type 0
 Keeps chains old new =
-    (stock : Stock) (limits : Limits) (tree : Term) (whole : Bool) →
+    (stock : StockModel) (limits : Limits) (tree : ExprModel) (whole : Bool) →
     AreLifts stock limits tree whole chains → Sound stock limits tree whole old →
     Sound stock limits tree whole new
 
@@ -183,7 +183,7 @@ IsWithin (Chains m) = Unit {0}
 IsWithin (Reaches slot n) = IsEntry slot
 
 -- what a form offers for a tree of n subtrees costs at most 36 n - 17
-abbrev pub IsCheapOffer : Term → Offer → Type 0
+abbrev pub IsCheapOffer : ExprModel → Offer → Type 0
 IsCheapOffer tree Nothing = Unit {0}
 IsCheapOffer tree (Chains m) = Unit {0}
 IsCheapOffer tree (Reaches slot n) = n + 17 ≤ 36 * size_of tree

@@ -3,23 +3,23 @@ use Rattle.std.specs.Prelude.{◌≡◌, ℕ, max, true, List, [], ◌∷◌, �
 use Rattle.net_model.specs.declared.hardware.Netlist.{Netlist}
 use Rattle.net_model.specs.Patterns.{Pattern}
 use Rattle.sym_expr.specs.declared.pool.Node.{Node}
-use Rattle.form_model.specs.Rules.{Rule}
+use Rattle.form_model.specs.Forms.{FormModel}
 use Rattle.form_model.specs.Shapes.{reach_of}
 use Rattle.form_set.specs.declared.branches.BranchIds.{BranchIds}
 use Rattle.form_set.specs.declared.classes.Class.{Class}
 use Rattle.form_set.specs.declared.classes.Class.TheVariants.{Plain, Jump, Branch, Other}
 use Rattle.form_set.specs.Inner.Copies.{AreBranchIds, ids_branch}
 use Rattle.net_model.specs.Occurs.{IsLinear}
-use Rattle.form_set.specs.Static.{cells_shown, is_file_at, move_shaped}
+use Rattle.form_set.specs.Static.{cells_shown, is_file_at, transfer_shaped}
 use Rattle.form_set.specs.Tied.{counted}
-use Rattle.form_set.specs.Listing.{AreRulesOf, IsBranch, IsJump, IsPlain}
+use Rattle.form_set.specs.Listing.{AreFormModelsOf, IsBranch, IsJump, IsPlain}
 use Rattle.form_set.specs.Targets.{Branch as Parts}
 use Rattle.form_set.specs.Words.{AreClobbers}
 
 -- the expressions of a pattern are those of a plain one
 pub record IsApt (netlist : Netlist) (pattern : Pattern) : Type 0 where
   pub linear : IsLinear 0 (counted (is_file_at netlist pattern.storage) pattern.move)
-  pub shapes : move_shaped netlist.edition pattern.move ≡ true
+  pub shapes : transfer_shaped netlist.edition pattern.move ≡ true
   pub cells : cells_shown netlist pattern ≡ true
 
 -- a plain pattern with its clobbers, or none
@@ -43,9 +43,9 @@ IsClass netlist pool reach pattern Other =
     × ((parts : Parts) → IsBranch netlist reach pattern parts → ⊥)
 
 -- a list with the forms of a pattern after the others
-pub record HasAdded (netlist : Netlist) (reach number : ℕ) (pattern : Pattern) (old new : List Rule) : Type 0 where
-  pub rules : List Rule
-  pub of : AreRulesOf netlist reach number pattern rules
+pub record HasAdded (netlist : Netlist) (reach number : ℕ) (pattern : Pattern) (old new : List FormModel) : Type 0 where
+  pub rules : List FormModel
+  pub of : AreFormModelsOf netlist reach number pattern rules
   pub is : new ≡ old ++ rules
 
 -- how far a jump form of a pattern reaches, and 0 where it gives none

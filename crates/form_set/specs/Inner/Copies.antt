@@ -1,34 +1,34 @@
 -- Addresses and values as the code holds them.
 use Rattle.std.specs.Prelude.{◌≡◌, option_map, ℕ, ◌^◌, ◌<◌, ◌≤◌, length, List, Option, if◌then◌else◌}
-use Rattle.net_model.specs.Terms.{term_of, term_width}
+use Rattle.net_model.specs.Exprs.{model_of_expr, expr_width}
 use Rattle.sym_expr.specs.declared.pool.Node.{Node}
-use Rattle.sym_expr.specs.Pools.{term_at}
-use Rattle.form_set.specs.declared.swaps.Sides.{Sides as TheSides}
+use Rattle.sym_expr.specs.Pools.{expr_of_id}
+use Rattle.form_set.specs.declared.swaps.Sides.{Sides}
 use Rattle.form_set.specs.declared.branches.BranchIds.{BranchIds}
 use Rattle.form_set.specs.declared.branches.TargetId.{TargetId}
-use Rattle.form_model.specs.Rules.{BranchTarget, absolute, relative}
+use Rattle.form_model.specs.Forms.{TargetModel, absolute, relative}
 use Rattle.form_model.specs.Shapes.{Sum}
 use Rattle.form_set.specs.declared.shapes.SumIds.{SumIds}
 use Rattle.form_set.specs.Targets.{Branch}
-use Rattle.form_set.specs.Swaps.{Sides}
+use Rattle.form_set.specs.Swaps.{SidesModel}
 
-abbrev pub copied_sides : TheSides → Sides
-copied_sides sides = record { addr = option_map term_of sides.addr; value = term_of sides.value }
+abbrev pub model_of_sides : Sides → SidesModel
+model_of_sides sides = record { addr = option_map model_of_expr sides.addr; value = model_of_expr sides.value }
 
 -- those of a pattern by its ids
-abbrev pub ids_sides : List Node → Option ℕ → ℕ → Sides
-ids_sides pool addr value = record { addr = option_map (term_at pool) addr; value = term_at pool value }
+abbrev pub ids_sides : List Node → Option ℕ → ℕ → SidesModel
+ids_sides pool addr value = record { addr = option_map (expr_of_id pool) addr; value = expr_of_id pool value }
 
 -- a target by its id
-abbrev pub id_target : List Node → TargetId → BranchTarget
+abbrev pub id_target : List Node → TargetId → TargetModel
 id_target pool target =
-    if target.relative then relative (term_at pool target.expr)
-    else absolute (term_at pool target.expr)
+    if target.relative then relative (expr_of_id pool target.expr)
+    else absolute (expr_of_id pool target.expr)
 
 -- a branch by its ids
 abbrev pub ids_branch : List Node → BranchIds → Branch
 ids_branch pool parts =
-    record { when_one = parts.when_one; test = term_at pool parts.test; to = id_target pool parts.target }
+    record { when_one = parts.when_one; test = expr_of_id pool parts.test; to = id_target pool parts.target }
 
 pub record AreBranchIds (size : ℕ) (parts : BranchIds) : Type 0 where
   pub test : parts.test < size
@@ -36,7 +36,7 @@ pub record AreBranchIds (size : ℕ) (parts : BranchIds) : Type 0 where
 
 -- a constant, with its width, and what it is added to, by its id
 abbrev pub ids_sum : List Node → SumIds → Sum
-ids_sum pool sum = record { width = sum.width; added = sum.added; to = term_at pool sum.to }
+ids_sum pool sum = record { width = sum.width; added = sum.added; to = expr_of_id pool sum.to }
 
 -- what is known of a sum's parts
 pub record IsSumOf (pool : List Node) (sum : SumIds) : Type 0 where
@@ -44,4 +44,4 @@ pub record IsSumOf (pool : List Node) (sum : SumIds) : Type 0 where
   pub low : 1 ≤ sum.width
   pub high : sum.width ≤ 64
   pub added : sum.added < 2 ^ sum.width
-  pub wide : term_width (term_at pool sum.to) ≡ sum.width
+  pub wide : expr_width (expr_of_id pool sum.to) ≡ sum.width

@@ -3,8 +3,8 @@ use Rattle.std.specs.Prelude.{◌≡◌, ◌≢◌, ℕ}
 use Rattle.net_model.specs.declared.hardware.Netlist.{Netlist}
 use Rattle.net_model.specs.Nets.{memory_id}
 use Rattle.net_model.specs.Patterns.{IsWordOf, Pattern}
-use Rattle.net_model.specs.Terms.{keep}
-use Rattle.net_model.specs.Transfers.{StepsOn, memory_move}
+use Rattle.net_model.specs.Exprs.{keep}
+use Rattle.net_model.specs.Transfers.{StepsOn, memory_transfer}
 
 -- the word is in the pattern's set and steps
 abbrev pub StepsTo : Netlist → Pattern → ℕ → Type 0
@@ -13,4 +13,4 @@ StepsTo netlist pattern word = IsWordOf netlist pattern word × StepsOn netlist 
 -- and it keeps the data memory unless that is the pattern's storage
 abbrev pub KeepsMemory : Netlist → Pattern → ℕ → Type 0
 KeepsMemory netlist pattern word =
-    StepsTo netlist pattern word × (pattern.storage ≢ memory_id netlist.storages → memory_move netlist word ≡ keep)
+    StepsTo netlist pattern word × (pattern.storage ≢ memory_id netlist.storages → memory_transfer netlist word ≡ keep)

@@ -2,16 +2,16 @@
 -- passed.
 use Rattle.std.specs.Prelude.{ℕ, zero, suc, ◌+◌, ◌-◌, ◌/◌, ◌==◌, ◌&&◌, if◌then◌else◌, Option, Some, None, List, [], ◌∷◌}
 use Rattle.std.specs.Int.{bit_at}
-use Rattle.net_model.specs.Terms.{Term, read, un, bin, slice, cat, zext, sext, select}
+use Rattle.net_model.specs.Exprs.{ExprModel, read, un, bin, slice, cat, zext, sext, select}
 use Rattle.form_set.specs.Swaps.{Path, at_level, ordered, swaps_here}
 
 -- 1 for an expression that has an operator at its root that can be swapped
-abbrev pub root_swaps : Term → ℕ
+abbrev pub root_swaps : ExprModel → ℕ
 root_swaps (bin o a b) = if swaps_here o a b then 1 else 0
 root_swaps _ = 0
 
 -- how many there are in an expression
-abbrev pub swaps_of : Term → ℕ
+abbrev pub swaps_of : ExprModel → ℕ
 swaps_of (read space a w) = swaps_of a
 swaps_of (un o a) = swaps_of a
 swaps_of (bin o a b) = root_swaps (bin o a b) + (swaps_of a + swaps_of b)
@@ -22,12 +22,12 @@ swaps_of (sext a w) = swaps_of a
 swaps_of (select c a b) = swaps_of c + (swaps_of a + swaps_of b)
 swaps_of _ = 0
 
-abbrev pub addr_swaps : Option Term → ℕ
+abbrev pub addr_swaps : Option ExprModel → ℕ
 addr_swaps None = 0
 addr_swaps (Some a) = swaps_of a
 
 -- a choice without the bits of those in a level
-abbrev pub left_of : ℕ → ℕ → Term → ℕ
+abbrev pub left_of : ℕ → ℕ → ExprModel → ℕ
 left_of level choice (read space a w) = at_level level choice (left_of (level - 1) choice a)
 left_of level choice (un o a) = at_level level choice (left_of (level - 1) choice a)
 left_of level choice (bin o a b) =
@@ -41,7 +41,7 @@ left_of level choice (select c a b) =
 left_of level choice t = choice
 
 -- an expression with those of a level swapped
-abbrev pub swap_level : ℕ → ℕ → Term → Term
+abbrev pub swap_level : ℕ → ℕ → ExprModel → ExprModel
 swap_level level choice (read space a w) = at_level level (read space a w) (read space (swap_level (level - 1) choice a) w)
 swap_level level choice (un o a) = at_level level (un o a) (un o (swap_level (level - 1) choice a))
 swap_level level choice (bin o a b) =
@@ -62,7 +62,7 @@ swap_level level choice t = t
 
 -- those of so many levels from this one on, the deepest first: what is swapped in a level moves those
 -- below it
-abbrev pub swap_levels : ℕ → ℕ → ℕ → Term → Term
+abbrev pub swap_levels : ℕ → ℕ → ℕ → ExprModel → ExprModel
 swap_levels zero level choice t = t
 swap_levels (suc more) level choice t =
     swap_level level choice (swap_levels more (level + 1) (left_of level choice t) t)
@@ -73,6 +73,6 @@ left_behind choice [] = choice
 left_behind choice (path ∷ paths) = left_behind (choice / 2) paths
 
 -- and without those of so many levels
-abbrev pub left_levels : ℕ → ℕ → ℕ → Term → ℕ
+abbrev pub left_levels : ℕ → ℕ → ℕ → ExprModel → ℕ
 left_levels zero level choice t = choice
 left_levels (suc more) level choice t = left_levels more (level + 1) (left_of level choice t) t

@@ -1,7 +1,7 @@
 -- Whether a register or an instruction bit occurs twice in an expression, computed from the sets of
 -- those that occur in its parts.
 use Rattle.std.specs.Prelude.{ℕ, ◌==◌, ◌&&◌, Bool, true, bit_and, bit_or}
-use Rattle.net_model.specs.Terms.{Term, word, reg, const, read, un, bin, slice, cat, zext, sext, select, Move, keep, write, write_at}
+use Rattle.net_model.specs.Exprs.{ExprModel, word, reg, const, read, un, bin, slice, cat, zext, sext, select, TransferModel, keep, write, write_at}
 use Rattle.net_model.specs.Fields.{fields}
 use Rattle.net_model.specs.Occurs.{registers}
 
@@ -10,12 +10,12 @@ abbrev pub meet_in : ℕ → ℕ → ℕ → Bool
 meet_in set a b = bit_or (bit_and a b) set == set
 
 -- two expressions have no instruction bit in common, and no register but the free ones
-abbrev pub are_apart : ℕ → Term → Term → Bool
+abbrev pub are_apart : ℕ → ExprModel → ExprModel → Bool
 are_apart free a b = meet_in free (registers a) (registers b) && meet_in 0 (fields a) (fields b)
 
 -- no register but the free ones and no instruction bit occurs twice in an expression: no two
 -- operands have one in common
-abbrev pub is_linear : ℕ → Term → Bool
+abbrev pub is_linear : ℕ → ExprModel → Bool
 is_linear free (word w) = true
 is_linear free (reg r w) = true
 is_linear free (const w v) = true
@@ -31,7 +31,7 @@ is_linear free (select c a b) =
     && (is_linear free c && (is_linear free a && is_linear free b))
 
 -- so it is for a transfer, address and value together
-abbrev pub move_linear : ℕ → Move → Bool
-move_linear free keep = true
-move_linear free (write e) = is_linear free e
-move_linear free (write_at a e) = are_apart free a e && (is_linear free a && is_linear free e)
+abbrev pub transfer_linear : ℕ → TransferModel → Bool
+transfer_linear free keep = true
+transfer_linear free (write e) = is_linear free e
+transfer_linear free (write_at a e) = are_apart free a e && (is_linear free a && is_linear free e)

@@ -1,52 +1,52 @@
 -- The plan of a job in one mode, and the best among those of the first modes.
 use Rattle.std.specs.Prelude.{ℕ, ◌<◌, ◌≤◌, ◌≡◌, ◌⊎◌, nat_le, if◌then◌else◌, List, Option, Some, None}
-use Rattle.net_model.specs.Terms.{Term}
-use Rattle.form_model.specs.Rules.{Destination}
-use Rattle.form_model.specs.Covers.{Choice, HasNoCover, IsChosen, job_cost, Stock}
+use Rattle.net_model.specs.Exprs.{ExprModel}
+use Rattle.form_model.specs.Forms.{DestinationModel}
+use Rattle.form_model.specs.Covers.{JobCoverModel, HasNoCover, IsChosen, job_cost, StockModel}
 use Rattle.mode_set.specs.declared.plans.Priced.{Priced}
 use Rattle.mode_set.specs.Costs.{CoversIn, MayRunIn, mode_cost}
-use Rattle.mode_set.specs.Plans.{planned_of}
+use Rattle.mode_set.specs.Plans.{model_of_plan}
 
 -- the cover that is chosen by these forms, which are those of a mode, and what it costs there
-pub record IsPricedBy (forms : Stock) (destination : Destination) (trees : List Term) (v : ℕ)
+pub record IsPricedBy (forms : StockModel) (destination : DestinationModel) (trees : List ExprModel) (v : ℕ)
     (priced : Priced) : Type 0 where
   pub mode : priced.plan.mode ≡ v
-  pub chosen : IsChosen forms destination trees (planned_of priced.plan).choice
-  pub own : priced.plan.cover.cost ≡ job_cost destination (planned_of priced.plan).choice.plan
-  pub cost : priced.cost ≡ mode_cost v destination (planned_of priced.plan).choice.plan
+  pub chosen : IsChosen forms destination trees (model_of_plan priced.plan).choice
+  pub own : priced.plan.cover.cost ≡ job_cost destination (model_of_plan priced.plan).choice.plan
+  pub cost : priced.cost ≡ mode_cost v destination (model_of_plan priced.plan).choice.plan
 
 -- this one, or that they cover the job in no way
-abbrev pub IsPriceBy : Stock → Destination → List Term → ℕ → Option Priced → Type 0
+abbrev pub IsPriceBy : StockModel → DestinationModel → List ExprModel → ℕ → Option Priced → Type 0
 IsPriceBy forms destination trees v None = HasNoCover forms destination trees
 IsPriceBy forms destination trees v (Some priced) = IsPricedBy forms destination trees v priced
 
 -- a cover that is chosen in a mode in which the job may run, and what it costs there
-pub record IsPriced (stock : ℕ → Stock) (Usable : ℕ → Type 0) (destination : Destination)
-    (trees : List Term) (priced : Priced) : Type 0 where
+pub record IsPriced (stock : ℕ → StockModel) (Usable : ℕ → Type 0) (destination : DestinationModel)
+    (trees : List ExprModel) (priced : Priced) : Type 0 where
   pub can : Usable priced.plan.mode
   pub may : MayRunIn destination priced.plan.mode
-  pub chosen : IsChosen (stock priced.plan.mode) destination trees (planned_of priced.plan).choice
-  pub own : priced.plan.cover.cost ≡ job_cost destination (planned_of priced.plan).choice.plan
-  pub cost : priced.cost ≡ mode_cost priced.plan.mode destination (planned_of priced.plan).choice.plan
+  pub chosen : IsChosen (stock priced.plan.mode) destination trees (model_of_plan priced.plan).choice
+  pub own : priced.plan.cover.cost ≡ job_cost destination (model_of_plan priced.plan).choice.plan
+  pub cost : priced.cost ≡ mode_cost priced.plan.mode destination (model_of_plan priced.plan).choice.plan
 
 -- the plan in a mode, or that there is none
-abbrev pub IsPlanIn : (ℕ → Stock) → (ℕ → Type 0) → Destination → List Term → ℕ → Option Priced → Type 0
-IsPlanIn stock Usable destination trees v None = (choice : Choice) → CoversIn stock Usable destination trees v choice → ⊥
+abbrev pub IsPlanIn : (ℕ → StockModel) → (ℕ → Type 0) → DestinationModel → List ExprModel → ℕ → Option Priced → Type 0
+IsPlanIn stock Usable destination trees v None = (choice : JobCoverModel) → CoversIn stock Usable destination trees v choice → ⊥
 IsPlanIn stock Usable destination trees v (Some priced) =
     (priced.plan.mode ≡ v) × IsPriced stock Usable destination trees priced
 
 -- the least mode of least cost among those below a number
-pub record IsBest (stock : ℕ → Stock) (Usable : ℕ → Type 0) (destination : Destination)
-    (trees : List Term) (n : ℕ) (priced : Priced) : Type 0 where
+pub record IsBest (stock : ℕ → StockModel) (Usable : ℕ → Type 0) (destination : DestinationModel)
+    (trees : List ExprModel) (n : ℕ) (priced : Priced) : Type 0 where
   pub is : IsPriced stock Usable destination trees priced
   pub below : priced.plan.mode < n
-  pub least : (v : ℕ) (other : Choice) → v < n → CoversIn stock Usable destination trees v other →
+  pub least : (v : ℕ) (other : JobCoverModel) → v < n → CoversIn stock Usable destination trees v other →
       (priced.cost < mode_cost v destination other.plan)
       ⊎ ((priced.cost ≡ mode_cost v destination other.plan) × (priced.plan.mode ≤ v))
 
-abbrev pub IsBestBelow : (ℕ → Stock) → (ℕ → Type 0) → Destination → List Term → ℕ → Option Priced → Type 0
+abbrev pub IsBestBelow : (ℕ → StockModel) → (ℕ → Type 0) → DestinationModel → List ExprModel → ℕ → Option Priced → Type 0
 IsBestBelow stock Usable destination trees n None =
-    (v : ℕ) (choice : Choice) → v < n → CoversIn stock Usable destination trees v choice → ⊥
+    (v : ℕ) (choice : JobCoverModel) → v < n → CoversIn stock Usable destination trees v choice → ⊥
 IsBestBelow stock Usable destination trees n (Some priced) = IsBest stock Usable destination trees n priced
 
 -- the plan that is known, or that of a later mode where it is cheaper

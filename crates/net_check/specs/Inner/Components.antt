@@ -26,8 +26,8 @@ pub record IsDone (marks : List Mark) (m : ℕ) : Type 0 where
   pub is : mark_at marks m ≡ Done told
 
 -- a net is another, or depends on it
-abbrev pub Reaches : List (List ℕ) → ℕ → ℕ → Type 0
-Reaches graph a b = (a ≡ b) ⊎ Depends (named_in graph) a b
+abbrev pub IsPathTo : List (List ℕ) → ℕ → ℕ → Type 0
+IsPathTo graph a b = (a ≡ b) ⊎ Depends (named_in graph) a b
 
 -- no component begins behind q and not behind p
 abbrev pub Uncut : List ℕ → ℕ → ℕ → Type 0
@@ -54,7 +54,7 @@ pub record IsSearch (graph : List (List ℕ)) (marks : List Mark) (met starts pa
   pub at : (i : ℕ) → i < length met → MetAt marks (slice_index met i) i
   pub back : (m i : ℕ) → MetAt marks m i → (i < length met) × (slice_index met i ≡ m)
   pub joined : (p q : ℕ) → p < length met → q < length met → Uncut starts p q →
-      Reaches graph (slice_index met p) (slice_index met q)
+      IsPathTo graph (slice_index met p) (slice_index met q)
   pub seen : (m i k : ℕ) → mark_at marks m ≡ Met i k →
       AllByRecursion (SeenFrom marks starts i) (take k (named_in graph m))
   pub ended : (m i k : ℕ) → mark_at marks m ≡ Met i k → Among m path ⊎ (length (named_in graph m) ≤ k)

@@ -3,31 +3,31 @@ use Rattle.std.specs.Prelude.{ℕ, ◌≡◌, ◌+◌, ◌<◌, ◌^◌, List, [
 use Rattle.net_model.specs.declared.hardware.Gate.{Gate}
 use Rattle.net_model.specs.declared.hardware.Net.{Net}
 use Rattle.net_model.specs.declared.hardware.Netlist.{Netlist}
-use Rattle.net_model.specs.Written.{Entry, Phrase, Rows, no_rows, row, Rest, no_rest, rest}
-use Rattle.net_model.specs.TextNames.{Scope}
+use Rattle.net_model.specs.Written.{UnitModel, NetExprModel, CaseRowsModel, no_rows, row, CaseRestModel, no_rest, rest}
+use Rattle.net_model.specs.TextNames.{ScopeModel}
 use Rattle.net_model.specs.TextWidths.{wide}
-use Rattle.net_model.specs.Numbering.{count, count_drivers, count_if, count_item, count_rest, count_rows, count_storages, NetSite, scope_at}
+use Rattle.net_model.specs.Numbering.{count, count_drivers, count_if, count_item, count_rest, count_rows, count_storages, SiteModel, scope_at}
 use Rattle.net_model.specs.Elaborated.{count_codes, elaborated_drivers, driver_pairs, item_codes, item_nets, item_storages, width_or_none, plain_net, elaborated, nets_if, nets_of_rows, nets_of_rest, out_of, out_if, row_pairs, rest_out}
-use Rattle.net_elab.specs.declared.site.Spot.{Spot}
+use Rattle.net_elab.specs.declared.site.NetRef.{NetRef}
 use Rattle.net_elab.specs.declared.expression.Pairs.{Pairs}
 
 -- ---- the rule of widths holds in each part
 
-abbrev pub AllWide : Scope → Rows → Type 0
+abbrev pub AllWide : ScopeModel → CaseRowsModel → Type 0
 AllWide s no_rows = Unit {0}
 AllWide s (row numbers a rows) = IsSome (wide s a) × AllWide s rows
 
-abbrev pub IsWideRest : Scope → Rest → Type 0
+abbrev pub IsWideRest : ScopeModel → CaseRestModel → Type 0
 IsWideRest s no_rest = Unit {0}
 IsWideRest s (rest a) = IsSome (wide s a)
 
-abbrev pub IsWideIf : Scope → Option Phrase → Type 0
+abbrev pub IsWideIf : ScopeModel → Option NetExprModel → Type 0
 IsWideIf s None = Unit {0}
 IsWideIf s (Some a) = IsSome (wide s a)
 
 -- ---- one more net of a width
 
-pub record Pushed (width : Option ℕ) (at : ℕ) (gate : Gate) (old new : List Net) (made : Spot) : Type 0 where
+pub record Pushed (width : Option ℕ) (at : ℕ) (gate : Gate) (old new : List Net) (made : NetRef) : Type 0 where
   pub nets : new ≡ old ++ plain_net at (width_or_none width) gate ∷ []
   pub long : length new ≡ length old + 1
   pub out : made.net ≡ length old
@@ -35,34 +35,34 @@ pub record Pushed (width : Option ℕ) (at : ℕ) (gate : Gate) (old new : List 
 
 -- ---- the nets of an expression, and of parts of one
 
-pub record Emitted (site : NetSite) (at : ℕ) (a : Phrase) (old new : List Net) (made : Spot) : Type 0 where
+pub record Emitted (site : SiteModel) (at : ℕ) (a : NetExprModel) (old new : List Net) (made : NetRef) : Type 0 where
   pub nets : new ≡ old ++ elaborated site at (length old) a
   pub long : length new ≡ length old + count a
   pub out : made.net ≡ out_of site (length old) a
   pub width_is : wide (scope_at site) a ≡ Some made.width
 
 -- the width of the last of some rows
-abbrev pub last_width : Scope → ℕ → Rows → ℕ
+abbrev pub last_width : ScopeModel → ℕ → CaseRowsModel → ℕ
 last_width s before no_rows = before
 last_width s before (row numbers a rows) = last_width s (width_or_none (wide s a)) rows
 
-pub record EmittedRows (site : NetSite) (at : ℕ) (rows : Rows) (old new : List Net) (made : Pairs) : Type 0 where
+pub record EmittedRows (site : SiteModel) (at : ℕ) (rows : CaseRowsModel) (old new : List Net) (made : Pairs) : Type 0 where
   pub nets : new ≡ old ++ nets_of_rows site at (length old) rows
   pub long : length new ≡ length old + count_rows rows
   pub pairs : made.rows ≡ row_pairs site (length old) rows
   pub width_is : made.width ≡ last_width (scope_at site) 0 rows
 
-abbrev pub rest_wide : Scope → Rest → Option ℕ
+abbrev pub rest_wide : ScopeModel → CaseRestModel → Option ℕ
 rest_wide s no_rest = None
 rest_wide s (rest a) = wide s a
 
-pub record EmittedRest (site : NetSite) (at : ℕ) (other : Rest) (old new : List Net) (made : Option Spot) : Type 0 where
+pub record EmittedRest (site : SiteModel) (at : ℕ) (other : CaseRestModel) (old new : List Net) (made : Option NetRef) : Type 0 where
   pub nets : new ≡ old ++ nets_of_rest site at (length old) other
   pub long : length new ≡ length old + count_rest other
-  pub out : option_map (λ (spot : Spot). spot.net) made ≡ rest_out site (length old) other
-  pub width_is : option_map (λ (spot : Spot). spot.width) made ≡ rest_wide (scope_at site) other
+  pub out : option_map (λ (spot : NetRef). spot.net) made ≡ rest_out site (length old) other
+  pub width_is : option_map (λ (spot : NetRef). spot.width) made ≡ rest_wide (scope_at site) other
 
-pub record EmittedIf (site : NetSite) (at : ℕ) (a : Option Phrase) (old new : List Net) (made : Option ℕ) : Type 0 where
+pub record EmittedIf (site : SiteModel) (at : ℕ) (a : Option NetExprModel) (old new : List Net) (made : Option ℕ) : Type 0 where
   pub nets : new ≡ old ++ nets_if site at (length old) a
   pub long : length new ≡ length old + count_if a
   pub out : made ≡ out_if site (length old) a
@@ -74,11 +74,11 @@ pub record Grown (more : List Net) (count : ℕ) (old new : List Net) : Type 0 w
 
 -- ---- buses
 
-abbrev pub AllDriversWide : Scope → List (Phrase × Phrase) → Type 0
+abbrev pub AllDriversWide : ScopeModel → List (NetExprModel × NetExprModel) → Type 0
 AllDriversWide s [] = Unit {0}
 AllDriversWide s (driver ∷ drivers) = IsSome (wide s driver.0) × IsSome (wide s driver.1) × AllDriversWide s drivers
 
-pub record EmittedDrivers (site : NetSite) (at : ℕ) (drivers : List (Phrase × Phrase))
+pub record EmittedDrivers (site : SiteModel) (at : ℕ) (drivers : List (NetExprModel × NetExprModel))
     (old new : List Net) (made : List (ℕ × ℕ)) : Type 0 where
   pub nets : new ≡ old ++ elaborated_drivers site at (length old) drivers
   pub long : length new ≡ length old + count_drivers drivers
@@ -87,13 +87,13 @@ pub record EmittedDrivers (site : NetSite) (at : ℕ) (drivers : List (Phrase ×
 -- ---- items
 
 -- numbers fit
-pub record HasRoom (text : List Entry) (e : Entry) (old : Netlist) : Type 0 where
+pub record HasRoom (text : List UnitModel) (e : UnitModel) (old : Netlist) : Type 0 where
   pub nets : length old.nets + count_item text e < 2 ^ 32
   pub storages : length old.storages < 2 ^ 32
   pub codes : length old.codes < 2 ^ 32
 
 -- the item's nets, storage and code stand at the end
-pub record ItemDone (text : List Entry) (e : Entry) (old new : Netlist) : Type 0 where
+pub record ItemDone (text : List UnitModel) (e : UnitModel) (old new : Netlist) : Type 0 where
   pub nets : new.nets ≡ old.nets ++ item_nets text (length old.nets) (length old.storages) (length old.codes) e
   pub storages : new.storages ≡ old.storages ++ item_storages text (length old.nets) e
   pub codes : new.codes ≡ old.codes ++ item_codes text e

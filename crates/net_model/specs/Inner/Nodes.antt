@@ -1,9 +1,9 @@
 -- How many nodes an expression has, by which the calls on its parts go down.
 use Rattle.std.specs.Prelude.{ℕ, ◌+◌}
-use Rattle.net_model.specs.Written.{Phrase, named, const, un, bin, cat, slice, zext, sext, read, case, Rows, no_rows, row, Rest, no_rest, rest}
+use Rattle.net_model.specs.Written.{NetExprModel, named, const, un, bin, cat, slice, zext, sext, read, case, CaseRowsModel, no_rows, row, CaseRestModel, no_rest, rest}
 
 abbrev mutual
-  pub nodes : Phrase → ℕ
+  pub nodes : NetExprModel → ℕ
   nodes (named name field bits) = 1
   nodes (const value width) = 1
   nodes (un op a) = nodes a + 1
@@ -15,10 +15,10 @@ abbrev mutual
   nodes (read name a) = nodes a + 1
   nodes (case selector rows other) = nodes selector + nodes_rows rows + nodes_rest other + 2
 
-  pub nodes_rows : Rows → ℕ
+  pub nodes_rows : CaseRowsModel → ℕ
   nodes_rows no_rows = 0
   nodes_rows (row numbers a rows) = nodes a + nodes_rows rows + 1
 
-  pub nodes_rest : Rest → ℕ
+  pub nodes_rest : CaseRestModel → ℕ
   nodes_rest no_rest = 0
   nodes_rest (rest a) = nodes a + 1

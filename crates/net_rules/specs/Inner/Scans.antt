@@ -1,7 +1,7 @@
 -- How far a scan has come.
 use Rattle.std.specs.Prelude.{◌≡◌, ℕ, List, Option, Bool, is_some}
 use Rattle.std.specs.Map.{lookup}
-use Rattle.rec_bits.specs.Faults.{sooner, least}
+use Rattle.rec_bits.specs.Faults.{lesser_offset, least}
 use Rattle.grammar.specs.declared.words.Ident.{Ident}
 use Rattle.rec_bits.specs.Faults.{same_name}
 use Rattle.net_model.specs.NameRules.{is_among, repeated}
@@ -15,7 +15,7 @@ HasSeen table names = (name : List ℕ) → is_some (lookup (same_name name) tab
 pub record Repeating (table : List (List ℕ × ℕ)) (found : Option ℕ) (rest : List Ident) (all : Option ℕ) : Type 0 where
   pub names : List (List ℕ)
   pub seen : HasSeen table names
-  pub all_is : sooner found (least (repeated names rest)) ≡ all
+  pub all_is : lesser_offset found (least (repeated names rest)) ≡ all
 
 -- the names so far and further on are new where all are
 pub record AllNew (table : List (List ℕ × ℕ)) (rest : List (List ℕ)) (all : Bool) : Type 0 where

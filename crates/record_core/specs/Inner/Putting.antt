@@ -4,7 +4,7 @@ use Rattle.rec_io.specs.Shelf.{ShelfState}
 use Rattle.rec_io.specs.Sink.{SinkState}
 use Rattle.rec_io.specs.declared.sink.WriteFault.{WriteFault}
 use Rattle.right_code.specs.Tasks.{Task}
-use Rattle.net_watch.specs.Puts.{Puts}
+use Rattle.checkpoint_watch.specs.Puts.{Puts}
 use Rattle.record_core.specs.Answers.{Answers, GoAnswers, TextAnswers}
 use Rattle.record_core.specs.Watching.{IsWatched, LacksMemory}
 use Rattle.record_core.specs.declared.words.Command.{Command}

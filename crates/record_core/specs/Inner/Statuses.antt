@@ -2,18 +2,18 @@
 use Rattle.std.specs.Prelude.{None, Some}
 use Rattle.net_front.specs.declared.front.NetRefusal.{NetRefusal}
 use Rattle.net_front.specs.declared.front.NetRefusal.TheVariants.{Text as NoNet, Fault as BrokenNet, Memory as NetMemory}
-use Rattle.net_compile.specs.declared.fault.CompileFault.{CompileFault}
-use Rattle.net_compile.specs.declared.fault.CompileFault.TheVariants.{NetText as CompileNetText, Net as CompileNet, SrcText as CompileSrcText, Src as CompileSrc, DataFull as NoRoom, NoStep as Stepless, NoJump as Jumpless, NoCover as Uncovered, NoReach as Beyond, ImageFull as Overlong, Memory as CompileMemory}
-use Rattle.dual_code.specs.declared.fault.DualFault.{DualFault}
-use Rattle.dual_code.specs.declared.fault.DualFault.TheVariants.{PartText as NoPart, Compile as NoCode}
-use Rattle.net_asm.specs.declared.fault.AsmFault.{AsmFault}
-use Rattle.net_asm.specs.declared.fault.AsmFault.TheVariants as assembling
-use Rattle.net_asm.specs.declared.fault.DisFault.{DisFault}
-use Rattle.net_asm.specs.declared.fault.DisFault.TheVariants as showing
-use Rattle.net_test.specs.declared.fault.TestFault.{TestFault}
-use Rattle.net_test.specs.declared.fault.TestFault.TheVariants as testing
-use Rattle.net_run.specs.declared.machine.RunFault.{RunFault}
-use Rattle.net_run.specs.declared.machine.RunFault.TheVariants.{NetText as RunNetText, Net as RunNet, ImageText as NoImage, MemText as NoMemoryText, Clash as Clashed, Memory as RunMemory}
+use Rattle.compile_command.specs.declared.fault.CompileFault.{CompileFault}
+use Rattle.compile_command.specs.declared.fault.CompileFault.TheVariants.{NetText as CompileNetText, Net as CompileNet, SrcText as CompileSrcText, Src as CompileSrc, DataFull as NoRoom, NoStep as Stepless, NoJump as Jumpless, NoCover as Uncovered, NoReach as Beyond, ImageFull as Overlong, Memory as CompileMemory}
+use Rattle.dual_command.specs.declared.fault.DualFault.{DualFault}
+use Rattle.dual_command.specs.declared.fault.DualFault.TheVariants.{PartText as NoPart, Compile as NoCode}
+use Rattle.asm_command.specs.declared.fault.AsmFault.{AsmFault}
+use Rattle.asm_command.specs.declared.fault.AsmFault.TheVariants as assembling
+use Rattle.asm_command.specs.declared.fault.DisFault.{DisFault}
+use Rattle.asm_command.specs.declared.fault.DisFault.TheVariants as showing
+use Rattle.test_command.specs.declared.fault.TestFault.{TestFault}
+use Rattle.test_command.specs.declared.fault.TestFault.TheVariants as testing
+use Rattle.run_command.specs.declared.machine.RunFault.{RunFault}
+use Rattle.run_command.specs.declared.machine.RunFault.TheVariants.{NetText as RunNetText, Net as RunNet, ImageText as NoImage, MemText as NoMemoryText, Clash as Clashed, Memory as RunMemory}
 use Rattle.rec_bits.specs.declared.fault.ParseFault.{ParseFault}
 use Rattle.rec_bits.specs.declared.fault.ParseFault.TheVariants.{Text as NoState, Memory as NoStateMemory}
 use Rattle.record_core.specs.declared.status.Status.{Status}

@@ -4,8 +4,8 @@ use Rattle.std.specs.List.{AllByRecursion}
 use Rattle.net_model.specs.CheckedRules.{KeepsRules}
 use Rattle.net_model.specs.declared.hardware.Space.TheVariants.{File as InFile}
 use Rattle.net_model.specs.Nets.{IsRegister, file_place, size_in}
-use Rattle.net_model.specs.Terms.{Term, keep, write}
-use Rattle.net_model.specs.Transfers.{IsClean, Steps, memory_move, move_at}
+use Rattle.net_model.specs.Exprs.{ExprModel, keep, write}
+use Rattle.net_model.specs.Transfers.{IsClean, Steps, memory_transfer, transfer_at}
 use Rattle.code_model.specs.Words.{IsFixedAt, KeepsMode}
 use Rattle.net_model.specs.Fixed.{mode_in}
 use Rattle.net_model.specs.Modes.{IsBase}
@@ -15,7 +15,7 @@ use Rattle.net_model.specs.declared.states.State.{State}
 use Rattle.net_model.specs.Patterns.{Pattern}
 use Rattle.code_model.specs.declared.image.Image.{Image}
 use Rattle.code_model.specs.Places.{words_of}
-use Rattle.form_model.specs.Covers.{Stock, Choice}
+use Rattle.form_model.specs.Covers.{StockModel, JobCoverModel}
 use Rattle.block_words.specs.Laws.{operation_in}
 use Rattle.form_model.specs.declared.forms.Step.{Step}
 use Rattle.form_model.specs.Live.{Regs}
@@ -23,7 +23,7 @@ use Rattle.word_fit.specs.Fits.{fits_over}
 use Rattle.word_fit.specs.Groups.{Agree, GroupsFit}
 use Rattle.word_fit.specs.Runs.{StandAt}
 use Rattle.compaction.specs.Meant.{MeansSteps}
-use Rattle.src_trees.specs.Lowered.{Work}
+use Rattle.src_trees.specs.Lowered.{JobModel}
 use Rattle.branch_fix.specs.Made.{Walks, image_word}
 use Rattle.branch_fix.specs.Sections.{Section, section_jobs, section_room, sections_room}
 use Rattle.right_code.specs.Jobs.{jobs_steps}
@@ -41,8 +41,8 @@ pub record WalksTo (netlist : Netlist) (v : ℕ) (image : Image) (at n : ℕ)
 -- so many words from an address on fit groups, which mean the steps of the jobs' covers, and keep
 -- the mode
 pub record IsBlockMade (netlist : Netlist) (special : Option ℕ) (patterns : List Pattern)
-    (stock : Stock) (image : Image) (jobs : List Work) (at n : ℕ) : Type 0 where
-  pub choices : List Choice
+    (stock : StockModel) (image : Image) (jobs : List JobModel) (at n : ℕ) : Type 0 where
+  pub choices : List JobCoverModel
   pub covered : AreCovered stock jobs choices
   pub live : Regs
   pub groups : List (List Step)
@@ -64,7 +64,7 @@ pub record Machine : Type 0 where
 pub record Kit : Type 0 where
   pub netlist : Netlist
   pub patterns : List Pattern
-  pub stock : Stock
+  pub stock : StockModel
 
 -- it is that of a machine in the mode v
 pub record IsKit (m : Machine) (v : ℕ) (kit : Kit) : Type 0 where
@@ -81,15 +81,15 @@ pub record IsModeWordMade (netlist : Netlist) (special : Option ℕ) (i to : ℕ
   pub id : ℕ
   pub is : special ≡ Some id
   pub register : IsRegister (slice_get netlist.storages id)
-  pub value : Term
-  pub move : move_at netlist i id ≡ write value
+  pub value : ExprModel
+  pub move : transfer_at netlist i id ≡ write value
   pub puts : IsFixedAt i value to
   pub steps : Steps netlist i
-  pub memory : memory_move netlist i ≡ keep
+  pub memory : memory_transfer netlist i ≡ keep
 
 -- the words of a section: those of its jobs in its mode, between the mode words of one other than 0;
 -- the kit is that of mode 0
-abbrev pub IsSectionMade : Machine → Kit → Image → ℕ → List Work → ℕ → ℕ → Type 0
+abbrev pub IsSectionMade : Machine → Kit → Image → ℕ → List JobModel → ℕ → ℕ → Type 0
 IsSectionMade m kit image zero jobs at n = IsBlockMade kit.netlist m.netlist.special kit.patterns kit.stock image jobs at n
 IsSectionMade m kit image (suc v) jobs at n =
     (other : Kit) × IsKit m (suc v) other
@@ -104,7 +104,7 @@ AreSectionsMade m kit image (x ∷ sections) at =
     × AreSectionsMade m kit image sections (at + section_room x.mode x.words)
 
 -- so many words from an address on are those of sections with these jobs
-pub record IsModeBlockMade (m : Machine) (kit : Kit) (image : Image) (jobs : List Work) (at n : ℕ) : Type 0 where
+pub record IsModeBlockMade (m : Machine) (kit : Kit) (image : Image) (jobs : List JobModel) (at n : ℕ) : Type 0 where
   pub sections : List Section
   pub are : jobs ≡ section_jobs sections
   pub room : n ≡ sections_room sections

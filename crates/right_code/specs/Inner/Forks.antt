@@ -3,7 +3,7 @@ use Rattle.std.specs.Prelude.{ℕ, ◌+◌, ◌^◌, ◌<◌, ◌≡◌, ◌⊎�
 use Rattle.std.specs.List.{AllByRecursion}
 use Rattle.code_model.specs.Words.{KeepsMode}
 use Rattle.net_model.specs.declared.hardware.Netlist.{Netlist}
-use Rattle.net_model.specs.Terms.{Term, reg, bin, select, term_width, write, EitherNext}
+use Rattle.net_model.specs.Exprs.{ExprModel, reg, bin, select, expr_width, write, EitherNext}
 use Rattle.rec_bits.specs.declared.operator.Op2.TheVariants.{Add}
 use Rattle.net_model.specs.Nets.{counter_of, counter_width}
 use Rattle.net_model.specs.Patterns.{Pattern}
@@ -11,8 +11,8 @@ use Rattle.code_model.specs.declared.image.Image.{Image}
 use Rattle.code_model.specs.Places.{words_of}
 use Rattle.net_model.specs.Fields.{fields}
 use Rattle.form_model.specs.Shapes.{is_shape, shape_setting}
-use Rattle.form_model.specs.Rules.{Rule, BranchTarget, absolute, relative, branches, tested}
-use Rattle.form_model.specs.Covers.{Stock, Choice}
+use Rattle.form_model.specs.Forms.{FormModel, TargetModel, absolute, relative, branches, tested}
+use Rattle.form_model.specs.Covers.{StockModel, JobCoverModel}
 use Rattle.block_words.specs.Laws.{operation_in}
 use Rattle.form_model.specs.declared.forms.Step.{Step}
 use Rattle.form_model.specs.Live.{Regs}
@@ -23,57 +23,57 @@ use Rattle.word_fit.specs.Fits.{fits_over, FitsJump}
 use Rattle.word_fit.specs.Groups.{GroupsFit}
 use Rattle.word_fit.specs.Runs.{StandAt}
 use Rattle.compaction.specs.Meant.{MeansSteps}
-use Rattle.src_trees.specs.Lowered.{Work}
+use Rattle.src_trees.specs.Lowered.{JobModel}
 use Rattle.branch_fix.specs.Made.{image_word}
 use Rattle.branch_fix.specs.Rounds.{distance}
-use Rattle.branch_fix.specs.declared.part.Fork.{Fork}
+use Rattle.branch_fix.specs.declared.part.BranchedTest.{BranchedTest}
 use Rattle.right_code.specs.Jobs.{tree_used, job_steps, IsCovered}
-use Rattle.right_code.specs.Forks.{plan_rule}
+use Rattle.right_code.specs.Forks.{cover_form}
 
 -- one of two terms, and the other one
-abbrev pub one_side : Bool → Term → Term → Term
+abbrev pub one_side : Bool → ExprModel → ExprModel → ExprModel
 one_side b x y = if b then x else y
 
 -- the program counter plus 1
-abbrev pub IsNextTerm : Netlist → Term → Type 0
-IsNextTerm netlist e = EitherNext (counter_of netlist.codes) (counter_width netlist) (λ next. e ≡ next)
+abbrev pub IsNextExpr : Netlist → ExprModel → Type 0
+IsNextExpr netlist e = EitherNext (counter_of netlist.codes) (counter_width netlist) (λ next. e ≡ next)
 
 -- what a branch form goes to: an address that the word shows, or one that lies so far behind as the
 -- word shows
-abbrev pub IsTargetTerm : Netlist → BranchTarget → Term → Type 0
-IsTargetTerm netlist (absolute shape) e = e ≡ shape
-IsTargetTerm netlist (relative shape) e =
-    (is_shape shape ≡ true) × (term_width shape ≡ counter_width netlist)
+abbrev pub IsTargetExpr : Netlist → TargetModel → ExprModel → Type 0
+IsTargetExpr netlist (absolute shape) e = e ≡ shape
+IsTargetExpr netlist (relative shape) e =
+    (is_shape shape ≡ true) × (expr_width shape ≡ counter_width netlist)
     × ((e ≡ bin Add (reg (counter_of netlist.codes) (counter_width netlist)) shape)
     ⊎ (e ≡ bin Add shape (reg (counter_of netlist.codes) (counter_width netlist))))
 
 -- a branch form and its pattern: PC := select(c, target, step) or PC := select(c, step, target),
 -- with no bit both in the condition and the target
-pub record IsBranchForm (netlist : Netlist) (patterns : List Pattern) (rule : Rule)
-    (when_one : Bool) (way : BranchTarget) : Type 0 where
+pub record IsBranchForm (netlist : Netlist) (patterns : List Pattern) (rule : FormModel)
+    (when_one : Bool) (way : TargetModel) : Type 0 where
   pub goal : rule.goal ≡ branches when_one way
-  pub condition : Term
-  pub target : Term
-  pub step : Term
+  pub condition : ExprModel
+  pub target : ExprModel
+  pub step : ExprModel
   pub is : slice_get patterns rule.pattern
       ≡ Some (record {
         storage = counter_of netlist.codes;
         move = write (select condition (one_side when_one target step) (one_side when_one step target));
       })
-  pub goes : IsTargetTerm netlist way target
-  pub steps : IsNextTerm netlist step
+  pub goes : IsTargetExpr netlist way target
+  pub steps : IsNextExpr netlist step
   pub alike : MeansAlike rule.value condition
   pub same_fields : fields rule.value ≡ fields condition
   pub apart : bit_and (fields condition) (fields target) ≡ 0
 
 -- a jump form and its pattern
-pub record IsJumpForm (netlist : Netlist) (patterns : List Pattern) (rule : Rule) : Type 0 where
+pub record IsJumpForm (netlist : Netlist) (patterns : List Pattern) (rule : FormModel) : Type 0 where
   pub is : slice_get patterns rule.pattern
       ≡ Some (record { storage = counter_of netlist.codes; move = write rule.value })
 
 -- the word is one of a jump form to an address
 pub record IsJumpMade (netlist : Netlist) (special : Option ℕ) (patterns : List Pattern) (i to : ℕ) : Type 0 where
-  pub rule : Rule
+  pub rule : FormModel
   pub form : IsJumpForm netlist patterns rule
   pub bits : ℕ
   pub shown : shape_setting rule.value to ≡ Some bits
@@ -82,14 +82,14 @@ pub record IsJumpMade (netlist : Netlist) (special : Option ℕ) (patterns : Lis
 
 -- the bits for a target: an absolute one is shown as it stands, a relative one, which is an
 -- address, as its distance, or as the two words to the jump behind a long branch
-abbrev pub IsTargetShown : Netlist → BranchTarget → ℕ → ℕ → Bool → ℕ → Type 0
+abbrev pub IsTargetShown : Netlist → TargetModel → ℕ → ℕ → Bool → ℕ → Type 0
 IsTargetShown netlist (absolute shape) from to long bits = (long ≡ false) × (shape_setting shape to ≡ Some bits)
 IsTargetShown netlist (relative shape) from to true bits = shape_setting shape 2 ≡ Some bits
 IsTargetShown netlist (relative shape) from to false bits =
-    (to < 2 ^ counter_width netlist) × (shape_setting shape (distance (term_width shape) from to) ≡ Some bits)
+    (to < 2 ^ counter_width netlist) × (shape_setting shape (distance (expr_width shape) from to) ≡ Some bits)
 
 -- a test's job: nothing is stored
-abbrev pub test_of : Work → Work
+abbrev pub test_of : JobModel → JobModel
 test_of job = record { destination = tested; trees = job.trees }
 
 -- the words behind a branch word
@@ -104,7 +104,7 @@ BehindMade netlist special patterns image false false at to other =
 -- the words of a test's operands fit groups, which mean the steps of its cover where the registers
 -- of the condition are live behind them
 pub record IsTestMade (netlist : Netlist) (special : Option ℕ) (patterns : List Pattern)
-    (stock : Stock) (image : Image) (job : Work) (choice : Choice) (at n : ℕ) : Type 0 where
+    (stock : StockModel) (image : Image) (job : JobModel) (choice : JobCoverModel) (at n : ℕ) : Type 0 where
   pub covered : IsCovered stock (test_of job) choice
   pub live : Regs
   pub groups : List (List Step)
@@ -119,16 +119,16 @@ pub record IsTestMade (netlist : Netlist) (special : Option ℕ) (patterns : Lis
 -- those, the branch word, whose bits are those of the condition and of the target, and the jumps
 -- behind it
 pub record IsForkMade (netlist : Netlist) (special : Option ℕ) (patterns : List Pattern)
-    (stock : Stock) (image : Image) (job : Work) (when_one : Bool) (f : Fork) (at to other : ℕ) : Type 0 where
-  pub choice : Choice
+    (stock : StockModel) (image : Image) (job : JobModel) (when_one : Bool) (f : BranchedTest) (at to other : ℕ) : Type 0 where
+  pub choice : JobCoverModel
   pub operands : IsTestMade netlist special patterns stock image job choice at f.words
-  pub way : BranchTarget
-  pub form : IsBranchForm netlist patterns (plan_rule stock choice.plan) when_one way
+  pub way : TargetModel
+  pub form : IsBranchForm netlist patterns (cover_form stock choice.plan) when_one way
   pub bits : ℕ
   pub shown : IsTargetShown netlist way (at + f.words) to f.long bits
   pub word : FitsJump netlist (image_word image (at + f.words))
       (operation_in netlist patterns (record {
-        pattern = (plan_rule stock choice.plan).pattern;
+        pattern = (cover_form stock choice.plan).pattern;
         setting = bit_or (branch_setting stock (tree_used (test_of job) choice) choice.plan) bits;
       }))
   pub mode : KeepsMode special netlist (image_word image (at + f.words))

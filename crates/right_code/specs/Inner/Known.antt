@@ -2,14 +2,14 @@
 use Rattle.std.specs.Prelude.{ℕ, ◌≡◌, List, Some, slice_get}
 use Rattle.net_model.specs.declared.hardware.Netlist.{Netlist}
 use Rattle.net_model.specs.Patterns.{IsPattern, Pattern}
-use Rattle.transfer_set.specs.Inner.Widths.{MoveFits}
-use Rattle.transfer_set.specs.TextMarks.{IsMoveOf}
+use Rattle.transfer_set.specs.Inner.Widths.{TransferFits}
+use Rattle.transfer_set.specs.TextMarks.{IsTransferOf}
 
 -- a pattern of the netlist, of its expressions
 pub record IsKnownPattern (netlist : Netlist) (pattern : Pattern) : Type 0 where
   pub is : IsPattern netlist pattern
-  pub terms : IsMoveOf netlist pattern.move
-  pub fits : MoveFits pattern.move
+  pub terms : IsTransferOf netlist pattern.move
+  pub fits : TransferFits pattern.move
 
 abbrev pub AreKnown : Netlist → List Pattern → Type 0
 AreKnown netlist patterns =

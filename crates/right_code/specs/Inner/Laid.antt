@@ -8,24 +8,24 @@ use Rattle.code_model.specs.declared.image.Image.{Image}
 use Rattle.code_model.specs.Places.{words_of}
 use Rattle.form_model.specs.declared.flow.Flow.{Flow}
 use Rattle.form_model.specs.Shapes.{shows}
-use Rattle.form_model.specs.Rules.{Rule, BranchTarget, absolute, relative, branches, tested}
-use Rattle.form_model.specs.Covers.{Stock, Choice}
+use Rattle.form_model.specs.Forms.{FormModel, TargetModel, absolute, relative, branches, tested}
+use Rattle.form_model.specs.Covers.{StockModel, JobCoverModel}
 use Rattle.form_model.specs.declared.forms.Step.{Step}
 use Rattle.block_words.specs.Laws.{operation_in}
 use Rattle.form_model.specs.Live.{Regs}
 use Rattle.form_model.specs.Steps.{branch_setting}
 use Rattle.emit_seq.specs.Spares.{wanted}
 use Rattle.compaction.specs.Meant.{MeansSteps}
-use Rattle.src_trees.specs.Lowered.{Work}
+use Rattle.src_trees.specs.Lowered.{JobModel}
 use Rattle.src_trees.specs.Blocks.{IsAssignBlock, jobs_at}
 use Rattle.branch_fix.specs.Parts.{total, starts, marks_from}
 use Rattle.branch_fix.specs.Items.{jump_form, items_from}
-use Rattle.branch_fix.specs.declared.part.Fork.{Fork}
-use Rattle.branch_fix.specs.declared.part.Part.{Part}
-use Rattle.branch_fix.specs.declared.part.Part.TheVariants.{Block, Test}
+use Rattle.branch_fix.specs.declared.part.BranchedTest.{BranchedTest}
+use Rattle.branch_fix.specs.declared.part.LayoutPart.{LayoutPart}
+use Rattle.branch_fix.specs.declared.part.LayoutPart.TheVariants.{Block, Test}
 use Rattle.right_code.specs.Jobs.{IsCovered, jobs_steps, job_steps, tree_used}
 use Rattle.right_code.specs.Inner.Jobs.{AreCovered}
-use Rattle.right_code.specs.Forks.{plan_rule}
+use Rattle.right_code.specs.Forks.{cover_form}
 use Rattle.right_code.specs.Inner.Forks.{IsBranchForm, IsJumpForm, test_of}
 use Rattle.std.specs.List.{AllByRecursion}
 use Rattle.code_model.specs.Words.{KeepsMode}
@@ -38,22 +38,22 @@ use Rattle.right_code.specs.Laid.{IsLayout}
 
 -- the target shows each address of the code, a relative one the two words to the jump behind a long
 -- branch
-abbrev pub TargetReaches : ℕ → BranchTarget → Type 0
+abbrev pub TargetReaches : ℕ → TargetModel → Type 0
 TargetReaches reach (absolute shape) = (v : ℕ) → v < reach → shows shape v ≡ true
 TargetReaches reach (relative shape) = shows shape 2 ≡ true
 
 -- the first jump form of this reach shows each address below it, and each branch form is made of
 -- its pattern
-pub record AreTurns (netlist : Netlist) (patterns : List Pattern) (rules : List Rule) (reach : ℕ) : Type 0 where
-  pub rule : Rule
+pub record AreTurns (netlist : Netlist) (patterns : List Pattern) (rules : List FormModel) (reach : ℕ) : Type 0 where
+  pub rule : FormModel
   pub first : jump_form rules reach ≡ Some rule
   pub jump : IsJumpForm netlist patterns rule
   pub shown : (v : ℕ) → v < reach → shows rule.value v ≡ true
   pub narrow : reach ≤ 2 ^ counter_width netlist
-  pub forks : (k : ℕ) (turn : Rule) (when_one : Bool) (way : BranchTarget) →
+  pub forks : (k : ℕ) (turn : FormModel) (when_one : Bool) (way : TargetModel) →
       slice_get rules k ≡ Some turn → turn.goal ≡ branches when_one way →
       IsBranchForm netlist patterns turn when_one way
-  pub reaches : (k : ℕ) (turn : Rule) (when_one : Bool) (way : BranchTarget) →
+  pub reaches : (k : ℕ) (turn : FormModel) (when_one : Bool) (way : TargetModel) →
       slice_get rules k ≡ Some turn → turn.goal ≡ branches when_one way → TargetReaches reach way
 
 -- ---- blocks and tests
@@ -61,8 +61,8 @@ pub record AreTurns (netlist : Netlist) (patterns : List Pattern) (rules : List 
 -- a block's words are those of groups that mean the steps of its jobs' covers, so many, and keep
 -- the mode
 pub record IsBlockReady (netlist : Netlist) (special : Option ℕ) (patterns : List Pattern)
-    (stock : Stock) (jobs : List Work) (words : List ℕ) (size : ℕ) : Type 0 where
-  pub choices : List Choice
+    (stock : StockModel) (jobs : List JobModel) (words : List ℕ) (size : ℕ) : Type 0 where
+  pub choices : List JobCoverModel
   pub covered : AreCovered stock jobs choices
   pub live : Regs
   pub groups : List (List Step)
@@ -73,7 +73,7 @@ pub record IsBlockReady (netlist : Netlist) (special : Option ℕ) (patterns : L
 
 -- the words of a section: those of its jobs in its mode, between the mode words of one other than 0;
 -- the kit is that of mode 0
-abbrev pub IsSectionReady : Machine → Kit → ℕ → List Work → ℕ → List ℕ → Type 0
+abbrev pub IsSectionReady : Machine → Kit → ℕ → List JobModel → ℕ → List ℕ → Type 0
 IsSectionReady m kit zero jobs n words = IsBlockReady kit.netlist m.netlist.special kit.patterns kit.stock jobs words n
 IsSectionReady m kit (suc v) jobs n words =
     (other : Kit) × IsKit m (suc v) other
@@ -89,7 +89,7 @@ AreSectionsReady m kit (x ∷ sections) words =
     × IsSectionReady m kit x.mode x.jobs x.words own × AreSectionsReady m kit sections rest
 
 -- a block's words are those of sections with its jobs, so many
-pub record IsModeBlockReady (m : Machine) (kit : Kit) (jobs : List Work)
+pub record IsModeBlockReady (m : Machine) (kit : Kit) (jobs : List JobModel)
     (words : List ℕ) (size : ℕ) : Type 0 where
   pub sections : List Section
   pub are : jobs ≡ section_jobs sections
@@ -99,8 +99,8 @@ pub record IsModeBlockReady (m : Machine) (kit : Kit) (jobs : List Work)
 -- a test's words are those of groups that mean the steps of its cover, with the registers of the
 -- condition live behind them, and its branch has the cover's form and setting
 pub record IsForkReady (netlist : Netlist) (special : Option ℕ) (patterns : List Pattern)
-    (stock : Stock) (job : Work) (words : List ℕ) (f : Fork) : Type 0 where
-  pub choice : Choice
+    (stock : StockModel) (job : JobModel) (words : List ℕ) (f : BranchedTest) : Type 0 where
+  pub choice : JobCoverModel
   pub covered : IsCovered stock (test_of job) choice
   pub live : Regs
   pub groups : List (List Step)
@@ -109,7 +109,7 @@ pub record IsForkReady (netlist : Netlist) (special : Option ℕ) (patterns : Li
   pub long : f.words ≡ length words
   pub kept : AllByRecursion (KeepsMode special netlist) words
   pub wants : (r : ℕ) → wanted stock tested (tree_used (test_of job) choice) choice.plan r ≡ true → live r ≡ true
-  pub form : slice_get stock.rules f.form ≡ Some (plan_rule stock choice.plan)
+  pub form : slice_get stock.rules f.form ≡ Some (cover_form stock choice.plan)
   pub setting : f.setting ≡ branch_setting stock (tree_used (test_of job) choice) choice.plan
 
 -- ---- the code
@@ -117,7 +117,7 @@ pub record IsForkReady (netlist : Netlist) (special : Option ℕ) (patterns : Li
 -- an image holds the words of the layout's items in their order, where each block and each test is
 -- ready. Tests and jumps are of mode 0
 pub record IsLaidCode (m : Machine) (kit : Kit) (image : Image) (flow : List Flow)
-    (jobs : List Work) (parts : List Part) (reach : ℕ) : Type 0 where
+    (jobs : List JobModel) (parts : List LayoutPart) (reach : ℕ) : Type 0 where
   pub layout : IsLayout kit.stock.rules flow parts reach
   pub room : total parts ≤ code_size kit.netlist.codes
   pub marks : image.marks ≡ marks_from 0 parts
@@ -128,6 +128,6 @@ pub record IsLaidCode (m : Machine) (kit : Kit) (image : Image) (flow : List Flo
   pub blocks : (at n block size : ℕ) → IsAssignBlock flow at n →
       slice_get parts at ≡ Some (Block block size) →
       IsModeBlockReady m kit (jobs_at flow jobs at n) (words block) size
-  pub forks : (at : ℕ) (f : Fork) → slice_get parts at ≡ Some (Test f) →
-      (job : Work) → slice_get jobs f.tree ≡ Some job →
+  pub forks : (at : ℕ) (f : BranchedTest) → slice_get parts at ≡ Some (Test f) →
+      (job : JobModel) → slice_get jobs f.tree ≡ Some job →
       IsForkReady kit.netlist m.netlist.special kit.patterns kit.stock job (words f.block) f

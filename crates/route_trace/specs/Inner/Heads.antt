@@ -1,6 +1,6 @@
 -- Operators that lack their last operand.
 use Rattle.std.specs.Prelude.{◌≡◌, ℕ, ◌+◌, ◌<◌, ◌≤◌, List, [], ◌∷◌, Option, None, Some}
-use Rattle.net_model.specs.Terms.{Term, read, un, bin, cat, zext, sext, select, term_width}
+use Rattle.net_model.specs.Exprs.{ExprModel, read, un, bin, cat, zext, sext, select, expr_width}
 use Rattle.net_model.specs.Symbolic.{sliced}
 use Rattle.sym_expr.specs.declared.pool.Node.{Node}
 use Rattle.sym_expr.specs.declared.pool.Node.TheVariants.{Slice as SliceNode}
@@ -14,16 +14,16 @@ slice_parts (SliceNode a h l) = Some (a, h, l)
 slice_parts _ = None
 
 -- the expression once the last operand is there
-abbrev pub head_term : Head → (ℕ → Term) → Term → Term
-head_term Same t last = last
-head_term (Read space w) t last = read space last w
-head_term (Un o) t last = un o last
-head_term (Slice h l) t last = sliced last h l
-head_term (Zext w) t last = zext last w
-head_term (Sext w) t last = sext last w
-head_term (Bin o a) t last = bin o (t a) last
-head_term (Cat a) t last = cat (t a) last
-head_term (Select c a) t last = select (t c) (t a) last
+abbrev pub head_expr : Head → (ℕ → ExprModel) → ExprModel → ExprModel
+head_expr Same t last = last
+head_expr (Read space w) t last = read space last w
+head_expr (Un o) t last = un o last
+head_expr (Slice h l) t last = sliced last h l
+head_expr (Zext w) t last = zext last w
+head_expr (Sext w) t last = sext last w
+head_expr (Bin o a) t last = bin o (t a) last
+head_expr (Cat a) t last = cat (t a) last
+head_expr (Select c a) t last = select (t c) (t a) last
 
 abbrev pub head_parts : Head → List ℕ
 head_parts Same = []
@@ -37,16 +37,16 @@ head_parts (Cat a) = a ∷ []
 head_parts (Select c a) = c ∷ a ∷ []
 
 -- an operand of this width is what is asked for
-abbrev pub LastFits : Head → (ℕ → Term) → ℕ → Type 0
+abbrev pub LastFits : Head → (ℕ → ExprModel) → ℕ → Type 0
 LastFits Same t width = Unit {0}
 LastFits (Read space w) t width = (1 ≤ w) × (w ≤ 64)
 LastFits (Un o) t width = Unit {0}
 LastFits (Slice h l) t width = (l ≤ h) × (h < width)
 LastFits (Zext w) t width = (width < w) × (w ≤ 64)
 LastFits (Sext w) t width = (width < w) × (w ≤ 64)
-LastFits (Bin o a) t width = width ≡ term_width (t a)
-LastFits (Cat a) t width = term_width (t a) + width ≤ 64
-LastFits (Select c a) t width = (term_width (t c) ≡ 1) × (width ≡ term_width (t a))
+LastFits (Bin o a) t width = width ≡ expr_width (t a)
+LastFits (Cat a) t width = expr_width (t a) + width ≤ 64
+LastFits (Select c a) t width = (expr_width (t c) ≡ 1) × (width ≡ expr_width (t a))
 
 abbrev pub binary_head : Binary → ℕ → Head
 binary_head (BinaryBin o) a = Bin o a
@@ -59,7 +59,7 @@ binary_parts BinaryCat = []
 binary_parts (BinarySelect c) = c ∷ []
 
 -- the expression once both operands are there
-abbrev pub binary_term : Binary → (ℕ → Term) → Term → Term → Term
-binary_term (BinaryBin o) t a b = bin o a b
-binary_term BinaryCat t a b = cat a b
-binary_term (BinarySelect c) t a b = select (t c) a b
+abbrev pub binary_expr : Binary → (ℕ → ExprModel) → ExprModel → ExprModel → ExprModel
+binary_expr (BinaryBin o) t a b = bin o a b
+binary_expr BinaryCat t a b = cat a b
+binary_expr (BinarySelect c) t a b = select (t c) a b

@@ -1,14 +1,14 @@
 -- Lists of routes.
 use Rattle.std.specs.Prelude.{◌≡◌, ℕ, ◌^◌, ◌<◌, ◌≤◌, Bool, false, ◌||◌, if◌then◌else◌, List, [], ◌∷◌, ◌++◌, map, length, Option, None, Some, slice_get}
 use Rattle.bit_bdd.specs.Diagrams.{Diagrams, has_word}
-use Rattle.net_model.specs.Terms.{Term, term_width}
+use Rattle.net_model.specs.Exprs.{ExprModel, expr_width}
 use Rattle.sym_expr.specs.declared.pool.Node.{Node}
-use Rattle.sym_expr.specs.Pools.{term_at}
+use Rattle.sym_expr.specs.Pools.{expr_of_id}
 use Rattle.transfer_set.specs.declared.route.Route.{Route}
-use Rattle.transfer_set.specs.Routes.{Fresh, IsRouteTable, exprs_under, terms_under, routes_at}
+use Rattle.transfer_set.specs.Routes.{Fresh, IsRouteTable, exprs_under, models_under, routes_at}
 use Rattle.route_trace.specs.declared.heads.Head.{Head}
 use Rattle.route_trace.specs.declared.heads.Binary.{Binary}
-use Rattle.route_trace.specs.Inner.Heads.{LastFits, binary_head, binary_term}
+use Rattle.route_trace.specs.Inner.Heads.{LastFits, binary_head, binary_expr}
 
 -- where an expression is found
 abbrev pub Finds : ℕ → List Route → Option ℕ → Type 0
@@ -19,7 +19,7 @@ Finds expr routes (Some place) = (route : Route) × (slice_get routes place ≡ 
 abbrev pub AllFit : Head → List Node → List Route → Type 0
 AllFit head pool [] = Unit {0}
 AllFit head pool (route ∷ routes) =
-    LastFits head (term_at pool) (term_width (term_at pool route.expr)) × AllFit head pool routes
+    LastFits head (expr_of_id pool) (expr_width (expr_of_id pool route.expr)) × AllFit head pool routes
 
 -- each pair of expressions can be the two operands
 abbrev pub AllBinaryFit : Binary → List Node → List Route → List Route → Type 0
@@ -27,13 +27,13 @@ AllBinaryFit binary pool [] bs = Unit {0}
 AllBinaryFit binary pool (a ∷ rest) bs = AllFit (binary_head binary a.expr) pool bs × AllBinaryFit binary pool rest bs
 
 -- what a function gives for each term
-abbrev pub each : (Term → List Term) → List Term → List Term
+abbrev pub each : (ExprModel → List ExprModel) → List ExprModel → List ExprModel
 each f [] = []
 each f (t ∷ ts) = f t ++ each f ts
 
 -- an operator over all pairs
-abbrev pub pairs : Binary → (ℕ → Term) → List Term → List Term → List Term
-pairs binary t firsts seconds = each (λ a. map (binary_term binary t a) seconds) firsts
+abbrev pub pairs : Binary → (ℕ → ExprModel) → List ExprModel → List ExprModel → List ExprModel
+pairs binary t firsts seconds = each (λ a. map (binary_expr binary t a) seconds) firsts
 
 -- routes of nets, where at most one route of a net holds a word
 pub record AreTables (book : Diagrams) (pool : List Node) (nets : List (List Route)) : Type 0 where
@@ -49,8 +49,8 @@ abbrev pub passes : Diagrams → ℕ → List (ℕ × ℕ) → Bool
 passes book word [] = false
 passes book word (test ∷ tests) = has_word book test.0 word || passes book word tests
 
-abbrev pub first_terms : Diagrams → List Node → List (List Route) → ℕ → List (ℕ × ℕ) → List Term
-first_terms book pool nets word [] = []
-first_terms book pool nets word (test ∷ tests) =
-    if has_word book test.0 word then terms_under book pool (routes_at nets test.1) word
-    else first_terms book pool nets word tests
+abbrev pub first_exprs : Diagrams → List Node → List (List Route) → ℕ → List (ℕ × ℕ) → List ExprModel
+first_exprs book pool nets word [] = []
+first_exprs book pool nets word (test ∷ tests) =
+    if has_word book test.0 word then models_under book pool (routes_at nets test.1) word
+    else first_exprs book pool nets word tests

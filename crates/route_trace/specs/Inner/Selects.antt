@@ -1,6 +1,6 @@
 -- Choices between two operands.
 use Rattle.std.specs.Prelude.{List, [], ◌∷◌, map}
-use Rattle.net_model.specs.Terms.{Term, select}
+use Rattle.net_model.specs.Exprs.{ExprModel, select}
 use Rattle.sym_expr.specs.declared.pool.Node.{Node}
 use Rattle.transfer_set.specs.declared.route.Route.{Route}
 use Rattle.route_trace.specs.declared.heads.Binary.TheVariants.{Select}
@@ -13,8 +13,8 @@ AllSelectFit pool (c ∷ choices) firsts seconds =
     AllBinaryFit (Select c.expr) pool firsts seconds × AllSelectFit pool choices firsts seconds
 
 -- all choices under one selector
-abbrev pub under : Term → List Term → List Term → List Term
+abbrev pub under : ExprModel → List ExprModel → List ExprModel → List ExprModel
 under c firsts seconds = each (λ a. map (select c a) seconds) firsts
 
-abbrev pub selects : List Term → List Term → List Term → List Term
+abbrev pub selects : List ExprModel → List ExprModel → List ExprModel → List ExprModel
 selects choices firsts seconds = each (λ c. under c firsts seconds) choices

@@ -7,12 +7,12 @@ use Rattle.net_model.specs.declared.hardware.Gate.{Gate}
 use Rattle.net_model.specs.declared.hardware.Gate.TheVariants.{Case, Bus}
 use Rattle.net_model.specs.Nets.{width_at}
 use Rattle.net_model.specs.Symbolic.{is_static}
-use Rattle.net_model.specs.Terms.{Term, const}
+use Rattle.net_model.specs.Exprs.{ExprModel, const}
 use Rattle.sym_expr.specs.declared.pool.Node.{Node}
 use Rattle.ctl_bdd.specs.Bits.{AreSets, number_at}
 use Rattle.ctl_bdd.specs.Tables.{AreBits}
 use Rattle.transfer_set.specs.declared.route.Route.{Route}
-use Rattle.transfer_set.specs.Routes.{terms_under, only, routes_at}
+use Rattle.transfer_set.specs.Routes.{models_under, only, routes_at}
 use Rattle.route_trace.specs.Inner.Gates.{AllWide}
 
 -- the sets that stand with a net, and none where it doesn't stand there
@@ -43,9 +43,9 @@ target [] key rest = rest
 target (row ∷ rows) key rest = if row.0 == key then Some row.1 else target rows key rest
 
 -- what the net of a row gives, which is the constant 0 where there is no net
-abbrev pub target_terms : Diagrams → List Node → List (List Route) → ℕ → ℕ → Option ℕ → ℕ → List Term
-target_terms book pool nets legal width None word = only book legal word (const width 0)
-target_terms book pool nets legal width (Some n) word = terms_under book pool (routes_at nets n) word
+abbrev pub target_exprs : Diagrams → List Node → List (List Route) → ℕ → ℕ → Option ℕ → ℕ → List ExprModel
+target_exprs book pool nets legal width None word = only book legal word (const width 0)
+target_exprs book pool nets legal width (Some n) word = models_under book pool (routes_at nets n) word
 
 -- the net of a row has expressions of this width
 abbrev pub IsTargetWide : List Node → List (List Route) → ℕ → Option ℕ → Type 0

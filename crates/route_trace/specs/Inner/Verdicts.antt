@@ -3,9 +3,9 @@ use Rattle.std.specs.Prelude.{◌≡◌, ℕ, ◌+◌, ◌<◌, ◌≤◌, Bool,
 use Rattle.std.specs.List.{AllByRecursion}
 use Rattle.net_model.specs.declared.hardware.Netlist.{Netlist}
 use Rattle.net_model.specs.Depends.{Depends, named_by}
-use Rattle.net_model.specs.Terms.{size_of}
+use Rattle.net_model.specs.Exprs.{size_of}
 use Rattle.sym_expr.specs.declared.pool.Node.{Node}
-use Rattle.sym_expr.specs.Pools.{term_at}
+use Rattle.sym_expr.specs.Pools.{expr_of_id}
 use Rattle.transfer_set.specs.declared.route.Route.{Route}
 use Rattle.route_trace.specs.declared.RouteFault.{RouteFault}
 use Rattle.route_trace.specs.declared.RouteFault.TheVariants.{PatternLarge, TooMany}
@@ -18,13 +18,13 @@ pub record HasLarge (pool : List Node) (routes : List Route) : Type 0 where
   pub place : ℕ
   pub route : Route
   pub at : slice_get routes place ≡ Some route
-  pub large : 255 < size_of (term_at pool route.expr)
+  pub large : 255 < size_of (expr_of_id pool route.expr)
 
 -- what the routes of a net tell
 abbrev pub IsJudged : List Node → List Route → Verdict → Type 0
 IsJudged pool routes Kept =
     (length routes ≤ 4096)
-    × AllByRecursion (λ (route : Route). size_of (term_at pool route.expr) ≤ 255) routes
+    × AllByRecursion (λ (route : Route). size_of (expr_of_id pool route.expr) ≤ 255) routes
 IsJudged pool routes Large = (length routes ≤ 4096) × HasLarge pool routes
 IsJudged pool routes Many = 4096 < length routes
 IsJudged pool routes Skipped = ⊥

@@ -2,7 +2,7 @@
 -- on.
 use Rattle.std.specs.Prelude.{ℕ, ◌+◌, ◌<◌, ◌≤◌, ◌≡◌, ◌||◌, nat_le, Bool, IsTrue, List, [], ◌∷◌, ◌++◌, length, slice_get, Some}
 use Rattle.src_model.specs.declared.program.Var.{Var as Declared}
-use Rattle.src_model.specs.Written.{Act, assign, choice, while, count, Acts, no_acts, act, Otherwise, without, otherwise}
+use Rattle.src_model.specs.Written.{StmtModel, assign, choice, while, count, StmtsModel, no_acts, act, ElseModel, without, otherwise}
 use Rattle.src_model.specs.Sizes.{statements, statements_in}
 use Rattle.src_model.specs.Meaning.{assigned, holds}
 use Rattle.src_model.specs.Trace.{started, stepped, counting}
@@ -31,18 +31,18 @@ pub record Has (steps : List Step) (at : ℕ) (Is : Step → Type 0) : Type 0 wh
   pub is : Is step
 
 -- where statements begin; those of an empty block are what comes after it
-abbrev pub entry : Acts → ℕ → ℕ → ℕ
+abbrev pub entry : StmtsModel → ℕ → ℕ → ℕ
 entry no_acts tree next = next
 entry (act a rest) tree next = tree
 
-abbrev pub entry_else : Otherwise → ℕ → ℕ → ℕ
+abbrev pub entry_else : ElseModel → ℕ → ℕ → ℕ
 entry_else without tree next = next
 entry_else (otherwise body) tree next = entry body tree next
 
 abbrev mutual
   -- the steps of a statement, whose first tree has this number, and behind which the run goes on
   -- there
-  pub Laid : ℕ → List Declared → List Step → Act → ℕ → ℕ → Type 0
+  pub Laid : ℕ → List Declared → List Step → StmtModel → ℕ → ℕ → Type 0
   Laid word vars steps (assign place e) tree next = Has steps tree (IsDoing (assigned word vars place e) next)
   Laid word vars steps (choice test taken other) tree next =
       Has steps tree (IsAsking (holds word vars test) (entry taken (tree + 1) next)
@@ -59,13 +59,13 @@ abbrev mutual
       × LaidIn word vars steps body (tree + 2) (tree + 2 + statements_in body)
       × Has steps (tree + 2 + statements_in body) (IsDoing (stepped word vars counter) (tree + 1))
 
-  pub LaidIn : ℕ → List Declared → List Step → Acts → ℕ → ℕ → Type 0
+  pub LaidIn : ℕ → List Declared → List Step → StmtsModel → ℕ → ℕ → Type 0
   LaidIn word vars steps no_acts tree next = Unit {0}
   LaidIn word vars steps (act a rest) tree next =
       Laid word vars steps a tree (entry rest (tree + statements a) next)
       × LaidIn word vars steps rest (tree + statements a) next
 
-  pub LaidElse : ℕ → List Declared → List Step → Otherwise → ℕ → ℕ → Type 0
+  pub LaidElse : ℕ → List Declared → List Step → ElseModel → ℕ → ℕ → Type 0
   LaidElse word vars steps without tree next = Unit {0}
   LaidElse word vars steps (otherwise body) tree next = LaidIn word vars steps body tree next
 

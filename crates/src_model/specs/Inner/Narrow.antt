@@ -1,10 +1,10 @@
 -- Widths that are written in an expression.
 use Rattle.std.specs.Prelude.{◌≤◌}
-use Rattle.src_model.specs.Written.{Shape, num, plain, element, un, bin, zext, sext, low}
+use Rattle.src_model.specs.Written.{SrcNodeModel, num, plain, element, un, bin, zext, sext, low}
 
 -- the widths that are written at the root of an expression, and of its operators' operands, are at
 -- most 64
-abbrev pub IsNarrow : Shape → Type 0
+abbrev pub IsNarrow : SrcNodeModel → Type 0
 IsNarrow (num n) = Unit {0}
 IsNarrow (plain name at) = Unit {0}
 IsNarrow (element name at to x) = Unit {0}

@@ -2,7 +2,7 @@
 -- bodies of their loops.
 use Rattle.std.specs.Prelude.{ℕ, ◌+◌, ◌≡◌, ◌≤◌, true, false, List, [], ◌∷◌}
 use Rattle.src_model.specs.declared.program.Var.{Var as Declared}
-use Rattle.src_model.specs.Written.{Shape, Phrase, Place, Test, Act, assign, choice, while, count, Acts, no_acts, act, Otherwise, without, otherwise}
+use Rattle.src_model.specs.Written.{SrcNodeModel, SrcExprModel, SpotModel, SrcTestModel, StmtModel, assign, choice, while, count, StmtsModel, no_acts, act, ElseModel, without, otherwise}
 use Rattle.src_model.specs.Names.{declared, is_plain}
 use Rattle.rec_bits.specs.Faults.{same_name}
 use Rattle.src_model.specs.Loops.{Round, place_shape}
@@ -46,19 +46,19 @@ Frees (round ∷ outer) name = (same_name name round.counter ≡ false) × Frees
 -- ---- statements
 
 -- an expression that keeps the rules, given the loops round it
-pub record SoundShape (bits : ℕ) (vars : List Declared) (rounds : List Round) (asked : ℕ) (e : Shape) : Type 0 where
+pub record SoundShape (bits : ℕ) (vars : List Declared) (rounds : List Round) (asked : ℕ) (e : SrcNodeModel) : Type 0 where
   pub fits : Fitting bits asked e
   pub known : Known vars e
   pub within : loose vars rounds e ≡ []
 
-pub record SoundAssign (bits : ℕ) (vars : List Declared) (rounds : List Round) (place : Place)
-    (e : Phrase) : Type 0 where
+pub record SoundAssign (bits : ℕ) (vars : List Declared) (rounds : List Round) (place : SpotModel)
+    (e : SrcExprModel) : Type 0 where
   pub left : SoundShape bits vars rounds bits (place_shape place)
   pub right : SoundShape bits vars rounds bits e.shape
   pub width : shape_width bits bits e.shape ≡ bits
   pub free : Frees rounds place.name
 
-pub record SoundTest (bits : ℕ) (vars : List Declared) (rounds : List Round) (test : Test) : Type 0 where
+pub record SoundTest (bits : ℕ) (vars : List Declared) (rounds : List Round) (test : SrcTestModel) : Type 0 where
   pub sides : FitsSides bits test.left.shape test.right.shape
   pub left_known : Known vars test.left.shape
   pub right_known : Known vars test.right.shape
@@ -72,7 +72,7 @@ pub record SoundCount (bits : ℕ) (vars : List Declared) (rounds : List Round) 
   pub free : Frees rounds counter
 
 abbrev mutual
-  pub Sound : ℕ → List Declared → List Round → Act → Type 0
+  pub Sound : ℕ → List Declared → List Round → StmtModel → Type 0
   Sound bits vars rounds (assign place e) = SoundAssign bits vars rounds place e
   Sound bits vars rounds (choice test taken other) =
       SoundTest bits vars rounds test × SoundIn bits vars rounds taken
@@ -82,10 +82,10 @@ abbrev mutual
       SoundCount bits vars rounds counter from to
       × SoundIn bits vars (record { counter = counter; from = from; to = to } ∷ rounds) body
 
-  pub SoundIn : ℕ → List Declared → List Round → Acts → Type 0
+  pub SoundIn : ℕ → List Declared → List Round → StmtsModel → Type 0
   SoundIn bits vars rounds no_acts = Unit {0}
   SoundIn bits vars rounds (act a rest) = Sound bits vars rounds a × SoundIn bits vars rounds rest
 
-  pub SoundElse : ℕ → List Declared → List Round → Otherwise → Type 0
+  pub SoundElse : ℕ → List Declared → List Round → ElseModel → Type 0
   SoundElse bits vars rounds without = Unit {0}
   SoundElse bits vars rounds (otherwise body) = SoundIn bits vars rounds body

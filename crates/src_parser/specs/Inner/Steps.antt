@@ -1,6 +1,6 @@
 -- What the parts of the parser say of tokens.
 use Rattle.std.specs.Prelude.{◌≤◌, ℕ, zero, suc, Bool, true, false, List, Option, Some, None, nat_le, map}
-use Rattle.src_model.specs.Grammar.{Lexed, Word, rank, IsExpr, ActBehind, Signed, Enclosed, Called}
+use Rattle.src_model.specs.Grammar.{Lexed, Word, rank, IsExpr, StmtBehind, Signed, Enclosed, Called}
 use Rattle.grammar.specs.declared.words.Word.TheVariants.{Name, Symbol as Shows, Key as Keyed}
 use Rattle.src_model.specs.declared.words.Key.TheVariants.{Operator as Operates, Compare as Compares, Call as Calls}
 use Rattle.src_model.specs.declared.program.Cmp.{Cmp}
@@ -15,7 +15,7 @@ use Rattle.src_parser.specs.declared.statement.Compound.{Compound}
 use Rattle.src_parser.specs.declared.statement.Compound.TheVariants.{If as Chooses, While as Repeats, For as Counts}
 use Rattle.src_parser.specs.declared.expression.Opening.{Opening}
 use Rattle.src_parser.specs.declared.expression.Opening.TheVariants.{Sign, Paren, Call as Asks}
-use Rattle.src_model.specs.Written.{Phrase, Act, act_of}
+use Rattle.src_model.specs.Written.{SrcExprModel, StmtModel, model_of_stmt}
 
 -- how tightly a word binds what stands before it: a bracket before all operators, and what is no
 -- operator not at all
@@ -32,7 +32,7 @@ abbrev pub after : ℕ → Lexed → Bool
 after k t = may_follow k t.word
 
 -- what may stand in brackets, parentheses and calls, where so many levels are left
-abbrev pub InExpr : ℕ → List Lexed → Phrase → Type 0
+abbrev pub InExpr : ℕ → List Lexed → SrcExprModel → Type 0
 InExpr zero = IsNothing
 InExpr (suc levels) = IsExpr levels
 
@@ -52,8 +52,8 @@ least_of Paren = 3
 least_of (Asks call) = 6
 
 -- what stands behind the token that opens a level
-abbrev pub OpenBehind : (List Lexed → Phrase → Type 0) → (List Lexed → Phrase → Type 0) → Opening →
-    ℕ → List Lexed → Phrase → Type 0
+abbrev pub OpenBehind : (List Lexed → SrcExprModel → Type 0) → (List Lexed → SrcExprModel → Type 0) → Opening →
+    ℕ → List Lexed → SrcExprModel → Type 0
 OpenBehind U E (Sign op) at = Signed U op at
 OpenBehind U E Paren at = Enclosed E at
 OpenBehind U E (Asks call) at = Called E call at
@@ -108,15 +108,15 @@ compound_of (Shows While) = Some Repeats
 compound_of (Shows For) = Some Counts
 compound_of _ = None
 
-abbrev pub CompoundBehind : ℕ → (List Lexed → List Act → Type 0) → Compound → List Lexed → Act → Type 0
-CompoundBehind levels B Chooses = ActBehind levels B (Shows If) 0
-CompoundBehind levels B Repeats = ActBehind levels B (Shows While) 0
-CompoundBehind levels B Counts = ActBehind levels B (Shows For) 0
+abbrev pub CompoundBehind : ℕ → (List Lexed → List StmtModel → Type 0) → Compound → List Lexed → StmtModel → Type 0
+CompoundBehind levels B Chooses = StmtBehind levels B (Shows If) 0
+CompoundBehind levels B Repeats = StmtBehind levels B (Shows While) 0
+CompoundBehind levels B Counts = StmtBehind levels B (Shows For) 0
 
 -- an else part as the code has it
-abbrev pub others_of : Option (Vec Stmt) → Option (List Act)
+abbrev pub others_of : Option (Vec Stmt) → Option (List StmtModel)
 others_of None = None
-others_of (Some v) = Some (map act_of v.items)
+others_of (Some v) = Some (map model_of_stmt v.items)
 
 -- ---- declarations
 

@@ -4,14 +4,14 @@ use Rattle.std.specs.List.{AllByRecursion}
 use Rattle.bit_bdd.specs.Diagrams.{Diagrams, has_word}
 use Rattle.net_model.specs.declared.hardware.Netlist.{Netlist}
 use Rattle.net_model.specs.Patterns.{Pattern}
-use Rattle.net_model.specs.Terms.{Term, Move, write, write_at}
+use Rattle.net_model.specs.Exprs.{ExprModel, TransferModel, write, write_at}
 use Rattle.net_model.specs.Transfers.{same_reg}
 use Rattle.sym_expr.specs.declared.pool.Node.{Node}
-use Rattle.sym_expr.specs.Pools.{term_at}
+use Rattle.sym_expr.specs.Pools.{expr_of_id}
 use Rattle.transfer_set.specs.declared.entries.Entry.{Entry}
 use Rattle.transfer_set.specs.declared.route.Route.{Route}
 use Rattle.transfer_set.specs.Routes.{IsSet}
-use Rattle.transfer_set.specs.Entries.{ids_move, IsAddrKnown, IsWordsOf}
+use Rattle.transfer_set.specs.Entries.{ids_transfer, IsAddrKnown, IsWordsOf}
 
 -- ---- lists
 
@@ -26,22 +26,22 @@ each f (x ∷ xs) = f x ++ each f xs
 
 -- ---- entries
 
-abbrev pub entry_move : List Node → Entry → Move
-entry_move pool entry = ids_move pool entry.addr entry.value
+abbrev pub entry_transfer : List Node → Entry → TransferModel
+entry_transfer pool entry = ids_transfer pool entry.addr entry.value
 
 -- the pattern that an entry tells of
 abbrev pub pattern_of : List Node → Entry → Pattern
-pattern_of pool entry = record { storage = entry.storage; move = entry_move pool entry }
+pattern_of pool entry = record { storage = entry.storage; move = entry_transfer pool entry }
 
 abbrev pub patterns_of : List Node → List Entry → List Pattern
 patterns_of pool entries = map (pattern_of pool) entries
 
 -- the transfers of a storage whose sets hold a word
-abbrev pub moves_under : Diagrams → List Node → List Entry → ℕ → ℕ → List Move
-moves_under book pool [] id word = []
-moves_under book pool (entry ∷ entries) id word =
-    list_if ((entry.storage == id) && has_word book entry.set word) (entry_move pool entry ∷ [])
-    ++ moves_under book pool entries id word
+abbrev pub transfers_under : Diagrams → List Node → List Entry → ℕ → ℕ → List TransferModel
+transfers_under book pool [] id word = []
+transfers_under book pool (entry ∷ entries) id word =
+    list_if ((entry.storage == id) && has_word book entry.set word) (entry_transfer pool entry ∷ [])
+    ++ transfers_under book pool entries id word
 
 -- each set holds a word
 abbrev pub HaveWords : Diagrams → List Entry → Type 0
@@ -56,32 +56,32 @@ AreKnown size entries = AllByRecursion (λ (entry : Entry). IsAddrKnown size ent
 abbrev pub AreWhole : Netlist → List Node → Diagrams → List Entry → Type 0
 AreWhole netlist pool book entries =
     AllByRecursion (λ (entry : Entry). IsWordsOf netlist book.bits entry.storage
-    (entry_move pool entry) (λ word. has_word book entry.set word)) entries
+    (entry_transfer pool entry) (λ word. has_word book entry.set word)) entries
 
 -- ---- what feeds a storage
 
 -- a register takes an expression, unless it is the register itself
-abbrev pub register_moves : ℕ → Term → List Move
-register_moves id t = if same_reg t id then [] else write t ∷ []
+abbrev pub register_transfers : ℕ → ExprModel → List TransferModel
+register_transfers id t = if same_reg t id then [] else write t ∷ []
 
 -- a memory takes an expression at an address
-abbrev pub memory_moves : Term → Term → List Move
-memory_moves a t = write_at a t ∷ []
+abbrev pub memory_transfers : ExprModel → ExprModel → List TransferModel
+memory_transfers a t = write_at a t ∷ []
 
 -- where a register is on, the words of each route are all words that give the register its
 -- expression
 abbrev pub AreWrites : Netlist → List Node → Diagrams → ℕ → ℕ → List Route → Type 0
 AreWrites netlist pool book storage on routes =
     (place : ℕ) (route : Route) → slice_get routes place ≡ Some route →
-    same_reg (term_at pool route.expr) storage ≡ false →
-    IsWordsOf netlist book.bits storage (write (term_at pool route.expr))
+    same_reg (expr_of_id pool route.expr) storage ≡ false →
+    IsWordsOf netlist book.bits storage (write (expr_of_id pool route.expr))
     (λ word. has_word book on word && has_word book route.set word)
 
 -- and so for a memory at one address
 abbrev pub AreValues : Netlist → List Node → Diagrams → ℕ → ℕ → ℕ → List Route → Type 0
 AreValues netlist pool book storage addr on values =
     (place : ℕ) (value : Route) → slice_get values place ≡ Some value →
-    IsWordsOf netlist book.bits storage (write_at (term_at pool addr) (term_at pool value.expr))
+    IsWordsOf netlist book.bits storage (write_at (expr_of_id pool addr) (expr_of_id pool value.expr))
     (λ word. has_word book on word && has_word book value.set word)
 
 -- and at each address
@@ -90,7 +90,7 @@ ArePairs netlist pool book storage on addrs values =
     (place : ℕ) (addr : Route) → slice_get addrs place ≡ Some addr → (at : ℕ) (value : Route) →
     slice_get values at ≡ Some value →
     IsWordsOf netlist book.bits storage
-    (write_at (term_at pool addr.expr) (term_at pool value.expr))
+    (write_at (expr_of_id pool addr.expr) (expr_of_id pool value.expr))
     (λ word. (has_word book on word && has_word book addr.set word) && has_word book value.set word)
 
 -- ---- words that keep

@@ -9,7 +9,7 @@ use Rattle.net_model.specs.declared.hardware.Storage.{Storage}
 use Rattle.net_model.specs.declared.hardware.Cells.{Cells}
 use Rattle.net_model.specs.declared.hardware.Storage.TheVariants.{Register, Memory, File}
 use Rattle.net_model.specs.Symbolic.{no_state}
-use Rattle.net_model.specs.Terms.{Move, keep, write, write_at}
+use Rattle.net_model.specs.Exprs.{TransferModel, keep, write, write_at}
 use Rattle.net_model.specs.Clock.{is_enabled}
 use Rattle.net_model.specs.Transfers.{IsClean}
 use Rattle.net_model.specs.Value.{value_of}
@@ -18,7 +18,7 @@ use Rattle.transfer_set.specs.declared.route.Route.{Route}
 use Rattle.transfer_set.specs.Routes.{AreRoutes}
 
 -- a transfer that changes something, or none
-abbrev pub changes : Move → List Move
+abbrev pub changes : TransferModel → List TransferModel
 changes keep = []
 changes (write value) = write value ∷ []
 changes (write_at addr value) = write_at addr value ∷ []

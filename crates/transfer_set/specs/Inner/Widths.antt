@@ -1,9 +1,9 @@
 -- Transfers whose operators get operands of the widths that they ask for.
-use Rattle.net_model.specs.Terms.{Move, keep, write, write_at}
-use Rattle.sym_expr.specs.Pools.{TermFits}
+use Rattle.net_model.specs.Exprs.{TransferModel, keep, write, write_at}
+use Rattle.sym_expr.specs.Pools.{ExprFits}
 
 -- the operators of a transfer do
-abbrev pub MoveFits : Move → Type 0
-MoveFits keep = Unit {0}
-MoveFits (write e) = TermFits e
-MoveFits (write_at a e) = TermFits a × TermFits e
+abbrev pub TransferFits : TransferModel → Type 0
+TransferFits keep = Unit {0}
+TransferFits (write e) = ExprFits e
+TransferFits (write_at a e) = ExprFits a × ExprFits e

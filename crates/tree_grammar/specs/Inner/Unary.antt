@@ -1,27 +1,27 @@
 -- Operators of one operand, in a form's expression and in a tree.
 use Rattle.std.specs.Prelude.{◌==◌, ◌&&◌, if◌then◌else◌, Option, Some, None}
-use Rattle.net_model.specs.Terms.{Term, un, slice, zext, sext, term_of, term_width}
+use Rattle.net_model.specs.Exprs.{ExprModel, un, slice, zext, sext, model_of_expr, expr_width}
 use Rattle.form_model.specs.Matches.{same_op1}
-use Rattle.form_model.specs.Trees.{tree_term}
+use Rattle.form_model.specs.Trees.{model_of_tree}
 use Rattle.tree_grammar.specs.declared.terms.Pair.{Pair}
 
 -- an expression of a form, and a tree that it has to match
-pub record TermPair : Type 0 where
-  pub term : Term
-  pub tree : Term
+pub record PairModel : Type 0 where
+  pub term : ExprModel
+  pub tree : ExprModel
 
-abbrev pub pair_of : Pair → TermPair
-pair_of pair = record { term = term_of pair.expr.now; tree = tree_term pair.tree.now }
+abbrev pub model_of_pair : Pair → PairModel
+model_of_pair pair = record { term = model_of_expr pair.expr.now; tree = model_of_tree pair.tree.now }
 
 -- the operands, where the operators and the widths are equal
-abbrev pub unary_operands : Term → Term → Option TermPair
+abbrev pub unary_operands : ExprModel → ExprModel → Option PairModel
 unary_operands (un op a) (un o b) = if same_op1 o op then Some (record { term = a; tree = b }) else None
 unary_operands (slice a hi lo) (slice b h l) =
-    if (term_width b == term_width a) && ((h == hi) && (l == lo)) then Some (record { term = a; tree = b }) else None
+    if (expr_width b == expr_width a) && ((h == hi) && (l == lo)) then Some (record { term = a; tree = b }) else None
 unary_operands (zext a width) (zext b w) =
-    if (term_width b == term_width a) && (w == width) then Some (record { term = a; tree = b })
+    if (expr_width b == expr_width a) && (w == width) then Some (record { term = a; tree = b })
     else None
 unary_operands (sext a width) (sext b w) =
-    if (term_width b == term_width a) && (w == width) then Some (record { term = a; tree = b })
+    if (expr_width b == expr_width a) && (w == width) then Some (record { term = a; tree = b })
     else None
 unary_operands _ _ = None

@@ -1,8 +1,8 @@
 //! Nodes into the table, and classes joined.
 
 ghost use Rattle.std.specs.Prelude.{◌≡◌, ◌==◌, not, None, Some, IfNone, IfOk, IfSome};
-ghost use Rattle.net_model.specs.Terms.{term_width};
-ghost use Rattle.tree_laws.specs.Classes.{AreOne, FitsIn, Grows, IsJoined, IsOfClass, NodeStands, cell_bits, found_in, head_in, term_in};
+ghost use Rattle.net_model.specs.Exprs.{expr_width};
+ghost use Rattle.tree_laws.specs.Classes.{AreOne, FitsIn, Grows, IsJoined, IsOfClass, NodeStands, cell_bits, found_in, head_in, expr_in};
 ghost use Rattle.tree_laws.specs.Meanings.{Redirected};
 
 use crate::classes::{Class, Classes};
@@ -42,7 +42,7 @@ impl Classes {
     // A new class of this width, with a node.
     fn push(&mut self, width: u8, node: Node) -> Result<u64, NoMemory>
         requires fits { FitsIn self.old node }
-        requires width { width ≡ term_width (term_in self.old node) }
+        requires width { width ≡ expr_width (expr_in self.old node) }
         requires unlisted { found_in self.old node ≡ None }
         ensures listed { IfOk result (λ c. found_in self.new node ≡ Some c) }
         ensures grows { Grows self.old self.new }

@@ -1,9 +1,9 @@
 use Rattle.std.proofs.Common.{◌≡◌, ◌∙◌, List, ℕ, Option, ap, slice_get, sym}
 use Rattle.std.proofs.lemmas.Result.{on_ok_weaker}
-use Rattle.sym_expr.specs.Pools.{term_at}
-use Rattle.transfer_set.specs.Entries.{ids_move}
+use Rattle.sym_expr.specs.Pools.{expr_of_id}
+use Rattle.transfer_set.specs.Entries.{ids_transfer}
 use Rattle.asm_words.specs.Inner.Given.{row_slices, with_slices}
-use Rattle.asm_words.specs.Slices.{move_slices, slices}
+use Rattle.asm_words.specs.Slices.{transfer_slices, slices}
 use Rattle.asm_words.specs.declared.slices.Slice.{Slice}
 use Rattle.asm_words.proofs.Fitting.{expr_told}
 use Rattle.asm_words.proofs.Found.{found_two}
@@ -19,10 +19,10 @@ returns c =
     on_ok_weaker c.add_slices-2.result
     (λ e. (elim c.match-addr.branch as (λ _. c.add_slices-2.new.found ≡ with_slices found row) [
       | in-Some-addr+in_ok-add_slices w ↦
-          found_two found c.match-addr.found c.add_slices-2.new.found (slices (term_at pool w.in-Some-addr.addr)) (slices (term_at pool c.in-Some.value)) row
-          (w.found-is ∙ w.in_ok-add_slices.ensures) e (told.2 ∙ ap (λ (o : Option ℕ). move_slices (ids_move pool o c.in-Some.value)) w.in-Some-addr.is)
+          found_two found c.match-addr.found c.add_slices-2.new.found (slices (expr_of_id pool w.in-Some-addr.addr)) (slices (expr_of_id pool c.in-Some.value)) row
+          (w.found-is ∙ w.in_ok-add_slices.ensures) e (told.2 ∙ ap (λ (o : Option ℕ). transfer_slices (ids_transfer pool o c.in-Some.value)) w.in-Some-addr.is)
       | in_default-addr w ↦
-          e ∙ ap (λ (f : List Slice). with_slices f (slices (term_at pool c.in-Some.value))) w.found-is
-          ∙ ap (with_slices found) (sym (told.2 ∙ ap (λ (o : Option ℕ). move_slices (ids_move pool o c.in-Some.value)) w.in_default-addr.is))
+          e ∙ ap (λ (f : List Slice). with_slices f (slices (expr_of_id pool c.in-Some.value))) w.found-is
+          ∙ ap (with_slices found) (sym (told.2 ∙ ap (λ (o : Option ℕ). transfer_slices (ids_transfer pool o c.in-Some.value)) w.in_default-addr.is))
     ]))
     c.add_slices-2.ensures

@@ -1,5 +1,5 @@
 use Rattle.std.proofs.Common.{◌≤◌, ◌+◌, refl, ap, arith}
-use Rattle.form_model.specs.Rules.{rules_of}
+use Rattle.form_model.specs.Forms.{models_of_forms}
 use Rattle.branch_fix.specs.Parts.{total}
 use Rattle.branch_fix.specs.Bounds.{sum_of, control_words}
 use Rattle.branch_fix.proofs.Layouts.{settled_le, full, laid_by}
@@ -7,7 +7,7 @@ use Rattle.branch_fix.proofs.layout.lay_out.Goals as goal
 
 pub total-len-requires : goal.total-len-requires
 total-len-requires c =
-    let m = settled_le (rules_of c.as_slice-list.result.now) c.args.flow.now c.args.sizes.now c.args.branches.now c.in_ok-parts.parts c.in_ok-parts.ensures in
+    let m = settled_le (models_of_forms c.as_slice-list.result.now) c.args.flow.now c.args.sizes.now c.args.branches.now c.in_ok-parts.parts c.in_ok-parts.ensures in
     let e = ap total c.as_slice.ensures in
     let b : sum_of c.args.sizes.now + control_words c.args.flow.now ≤ c.args.bound = c.requires.bound in
     omega (arith, m, e, b)

@@ -2,7 +2,7 @@ use Rattle.std.proofs.Common.{arith, ◌≡◌, ◌+◌, ◌∙◌, sym, ap, ◌
 use Rattle.std.specs.List.{range_with_len}
 use Rattle.std.proofs.lemmas.List.{drop_more}
 use Rattle.std.proofs.lemmas.Option.{slice_get-get_or}
-use Rattle.branch_fix.specs.declared.part.Part.TheVariants.{Block}
+use Rattle.branch_fix.specs.declared.part.LayoutPart.TheVariants.{Block}
 use Rattle.branch_fix.specs.Parts.{address, total}
 use Rattle.branch_fix.proofs.Addresses.{address_first, address_more, starts_more}
 use Rattle.branch_fix.proofs.rooms.starts.Goals as goal

@@ -2,22 +2,22 @@ use Rattle.std.proofs.Common.{◌≡◌, ◌<◌, ◌-◌, length, arith, rules,
 use Rattle.std.specs.Prelude.{remove, slice_get}
 use Rattle.std.proofs.lemmas.Option.{slice_get_read}
 use Rattle.std.proofs.lemmas.Result.{IfOk-weaker}
-use Rattle.form_model.specs.Trees.{tree_term}
-use Rattle.form_model.specs.Plans.{use_form, operand_then, cut_then, plan_of, operands_plan, cuts_plan}
+use Rattle.form_model.specs.Trees.{model_of_tree}
+use Rattle.form_model.specs.CoverModels.{use_form, operand_then, cut_then, model_of_cover, model_of_cover_operands, model_of_cover_cuts}
 use Rattle.form_model.specs.Covers.{Operand}
 use Rattle.form_model.specs.declared.covers.Cover.{Cover}
-use Rattle.tree_grammar.specs.Parts.{home_at}
-use Rattle.cover.specs.Inner.Asks.{operand_ask, after}
+use Rattle.tree_grammar.specs.Leaves.{model_of_home}
+use Rattle.cover.specs.Inner.Subgoals.{operand_subgoal, after}
 use Rattle.cover.specs.Inner.Least.{IsLeast, IsLeastOrder}
 use Rattle.cover.specs.Inner.Jobs.{instance_stock, nodes_of, open_operand, open_operands, open_cuts, OperandsAt}
 use Rattle.cover.specs.declared.matches.FormMatch.{FormMatch}
 use Rattle.cover.specs.declared.matches.Matches.{Matches}
 use Rattle.cover.specs.Inner.Least.{IsLeastCut}
 use Rattle.cover.specs.Inner.Slots.{IsSlot, home_slot}
-use Rattle.cover.specs.Inner.Rows.{row_ask}
+use Rattle.cover.specs.Inner.Rows.{row_subgoal}
 use Rattle.cover.specs.Inner.Jobs.{CutsAt}
 use Rattle.cover.specs.Inner.Matched.{AreMatches}
-use Rattle.cover.specs.Inner.Choice.{matches_ask, NeverBegins, BeginsAt, Starts, StartsCut, IsFirst, IsFirstOrder, IsFirstFrom, IsFirstCuts, AreFirstParts}
+use Rattle.cover.specs.Inner.Choice.{matches_subgoal, NeverBegins, BeginsAt, Starts, StartsCut, IsFirst, IsFirstOrder, IsFirstFrom, IsFirstCuts, AreFirstParts}
 use Rattle.cover.proofs.MatchLemmas.{never_before, some_match, matches_later}
 use Rattle.cover.proofs.NodeLemmas.{input_get, inputs_remove}
 use Rattle.cover.proofs.InputLemmas.{home_ask, home_entry, cut_slot, inputs_at, inputs_without, length_inputs, no_stored, stored_split, stored_first, stored_later, no_inputs, tail_is}
@@ -27,9 +27,9 @@ use Rattle.cover.proofs.choice.+choosing.Goals as goal
 pub choose_entry-choose_among-requires : goal.choose_entry-choose_among-requires
 choose_entry-choose_among-requires t c =
     let e : c.deref.result.now ≡ c.in_ok-matches.matches.value = c.deref.ensures in
-    let et : tree_term c.deref.result.now.tree.now ≡ tree_term c.args.tree.now = ap (λ (ms : Matches). tree_term ms.tree.now) e ∙ c.in_ok-matches.ensures.tree in
+    let et : model_of_tree c.deref.result.now.tree.now ≡ model_of_tree c.args.tree.now = ap (λ (ms : Matches). model_of_tree ms.tree.now) e ∙ c.in_ok-matches.ensures.tree in
     let ew : c.deref.result.now.whole ≡ c.args.whole = ap (λ (ms : Matches). ms.whole) e ∙ c.in_ok-matches.ensures.whole in
-    let ask = ap (λ u. row_ask u c.deref.result.now.whole c.args.slot) et ∙ ap (λ w. row_ask (tree_term c.args.tree.now) w c.args.slot) ew in (
+    let ask = ap (λ u. row_subgoal u c.deref.result.now.whole c.args.slot) et ∙ ap (λ w. row_subgoal (model_of_tree c.args.tree.now) w c.args.slot) ew in (
       omega (arith, c.decreases),
       (
         subst (λ w. IsSlot w c.args.slot) (sym ew) c.requires.slot,
@@ -43,11 +43,11 @@ choose_entry-choose_among-requires t c =
 pub choose_entry-returns-clause-first : goal.choose_entry-returns-clause-first
 choose_entry-returns-clause-first t c =
     let e : c.deref.result.now ≡ c.in_ok-matches.matches.value = c.deref.ensures in
-    let et : tree_term c.deref.result.now.tree.now ≡ tree_term c.args.tree.now = ap (λ (ms : Matches). tree_term ms.tree.now) e ∙ c.in_ok-matches.ensures.tree in
+    let et : model_of_tree c.deref.result.now.tree.now ≡ model_of_tree c.args.tree.now = ap (λ (ms : Matches). model_of_tree ms.tree.now) e ∙ c.in_ok-matches.ensures.tree in
     let ew : c.deref.result.now.whole ≡ c.args.whole = ap (λ (ms : Matches). ms.whole) e ∙ c.in_ok-matches.ensures.whole in
-    let ask = ap (λ u. row_ask u c.deref.result.now.whole c.args.slot) et ∙ ap (λ w. row_ask (tree_term c.args.tree.now) w c.args.slot) ew in
-    IfOk-weaker c.choose_among.result (λ (x : Cover). IsFirst (instance_stock c.args.instance.now) c.args.limits (matches_ask c.deref.result.now c.args.slot) (plan_of x)) (λ (x : Cover). IsFirst (instance_stock c.args.instance.now) c.args.limits (row_ask (tree_term c.args.tree.now) c.args.whole c.args.slot) (plan_of x))
-    (λ x first. subst (λ a. IsFirst (instance_stock c.args.instance.now) c.args.limits a (plan_of x)) ask first) c.choose_among.ensures.first
+    let ask = ap (λ u. row_subgoal u c.deref.result.now.whole c.args.slot) et ∙ ap (λ w. row_subgoal (model_of_tree c.args.tree.now) w c.args.slot) ew in
+    IfOk-weaker c.choose_among.result (λ (x : Cover). IsFirst (instance_stock c.args.instance.now) c.args.limits (matches_subgoal c.deref.result.now c.args.slot) (model_of_cover x)) (λ (x : Cover). IsFirst (instance_stock c.args.instance.now) c.args.limits (row_subgoal (model_of_tree c.args.tree.now) c.args.whole c.args.slot) (model_of_cover x))
+    (λ x first. subst (λ a. IsFirst (instance_stock c.args.instance.now) c.args.limits a (model_of_cover x)) ask first) c.choose_among.ensures.first
 
 pub choose_among-returns-in-Some-clause-first : goal.choose_among-returns-in-Some-clause-first
 choose_among-returns-in-Some-clause-first t c =
@@ -57,18 +57,18 @@ choose_among-returns-in-Some-clause-first t c =
     let b : BeginsAt (instance_stock c.args.instance.now) c.args.limits c.args.matches.now c.args.slot c.args.n c.loop-i.i (Some c.in-Some.costs) =
     subst (λ o. BeginsAt (instance_stock c.args.instance.now) c.args.limits c.args.matches.now c.args.slot c.args.n c.loop-i.i o) c.in-Some.is c.in_ok-costs.ensures.begins in
     let fits = b m got in
-    IfOk-weaker c.choose_parts.result (λ (x : Cover). AreFirstParts (instance_stock c.args.instance.now) c.args.limits (open_operands c.deref.result.now) (open_cuts c.deref-in-Some.result.now) m.form x) (λ (x : Cover). IsFirst (instance_stock c.args.instance.now) c.args.limits (matches_ask c.args.matches.now c.args.slot) (plan_of x))
+    IfOk-weaker c.choose_parts.result (λ (x : Cover). AreFirstParts (instance_stock c.args.instance.now) c.args.limits (open_operands c.deref.result.now) (open_cuts c.deref-in-Some.result.now) m.form x) (λ (x : Cover). IsFirst (instance_stock c.args.instance.now) c.args.limits (matches_subgoal c.args.matches.now c.args.slot) (model_of_cover x))
     (λ x first.
-    subst (λ k. IsFirst (instance_stock c.args.instance.now) c.args.limits (matches_ask c.args.matches.now c.args.slot) (use_form k (operands_plan x.operands) (cuts_plan x.cuts))) (sym first.0)
-    (first_by_form (instance_stock c.args.instance.now) c.args.limits (matches_ask c.args.matches.now c.args.slot) c.args.n c.requires.least m.form _ _ _ _ _ _
-    (never_before c.args.instance.now c.args.limits (tree_term c.args.matches.now.tree.now) c.args.matches.now.whole c.args.slot c.args.n c.args.matches.now.list.items c.requires.slot c.requires.matches c.loop-i.i m got c.loop-i.invariant.never)
+    subst (λ k. IsFirst (instance_stock c.args.instance.now) c.args.limits (matches_subgoal c.args.matches.now c.args.slot) (use_form k (model_of_cover_operands x.operands) (model_of_cover_cuts x.cuts))) (sym first.0)
+    (first_by_form (instance_stock c.args.instance.now) c.args.limits (matches_subgoal c.args.matches.now c.args.slot) c.args.n c.requires.least m.form _ _ _ _ _ _
+    (never_before c.args.instance.now c.args.limits (model_of_tree c.args.matches.now.tree.now) c.args.matches.now.whole c.args.slot c.args.n c.args.matches.now.list.items c.requires.slot c.requires.matches c.loop-i.i m got c.loop-i.invariant.never)
     fits.0 fits.1
-    (subst (λ l. IsFirstOrder (instance_stock c.args.instance.now) c.args.limits (open_operands l) (operands_plan x.operands)) c.deref.ensures.value first.1)
-    (subst (λ l. IsFirstCuts (instance_stock c.args.instance.now) (open_cuts l) (cuts_plan x.cuts)) c.deref-in-Some.ensures.value first.2))) c.choose_parts.ensures.first
+    (subst (λ l. IsFirstOrder (instance_stock c.args.instance.now) c.args.limits (open_operands l) (model_of_cover_operands x.operands)) c.deref.ensures.value first.1)
+    (subst (λ l. IsFirstCuts (instance_stock c.args.instance.now) (open_cuts l) (model_of_cover_cuts x.cuts)) c.deref-in-Some.ensures.value first.2))) c.choose_parts.ensures.first
 
 pub choose_among-loop-i-preserved : goal.choose_among-loop-i-preserved
 choose_among-loop-i-preserved t c = record {
-  never = matches_later (NeverBegins (instance_stock c.args.instance.now) c.args.limits (matches_ask c.args.matches.now c.args.slot) c.args.n) c.args.matches.now.list.items c.loop-i.i c.loop-i.invariant.never
+  never = matches_later (NeverBegins (instance_stock c.args.instance.now) c.args.limits (matches_subgoal c.args.matches.now c.args.slot) c.args.n) c.args.matches.now.list.items c.loop-i.i c.loop-i.invariant.never
       (subst (λ o. BeginsAt (instance_stock c.args.instance.now) c.args.limits c.args.matches.now c.args.slot c.args.n c.loop-i.i o) c.in_default.is c.in_ok-costs.ensures.begins);
   right = c.in_ok-costs.ensures.right;
 }
@@ -76,7 +76,7 @@ choose_among-loop-i-preserved t c = record {
 pub choose_among-unreachable-requires : goal.choose_among-unreachable-requires
 choose_among-unreachable-requires t c =
     let v : vec_len c.args.matches.now.list ≡ length c.args.matches.now.list.items = search rules in
-    some_match c.args.instance.now c.args.limits (tree_term c.args.matches.now.tree.now) c.args.matches.now.whole c.args.slot c.args.n c.args.matches.now.list.items c.requires.slot c.requires.matches c.requires.least
+    some_match c.args.instance.now c.args.limits (model_of_tree c.args.matches.now.tree.now) c.args.matches.now.whole c.args.slot c.args.n c.args.matches.now.list.items c.requires.slot c.requires.matches c.requires.least
     (λ l g lt. c.loop-i.invariant.never l g (omega (arith, lt, v, c.loop-i-test.false)))
 
 pub choose_among-choose_parts-requires : goal.choose_among-choose_parts-requires
@@ -124,10 +124,10 @@ pub choose_order-returns-in-Some-clause-first : goal.choose_order-returns-in-Som
 choose_order-returns-in-Some-clause-first t c =
     let s : Starts (instance_stock c.args.instance.now) c.args.limits (open_operands c.args.ops.now) c.args.n c.loop-i.i (Some c.in-Some.m) =
     subst (λ o. Starts (instance_stock c.args.instance.now) c.args.limits (open_operands c.args.ops.now) c.args.n c.loop-i.i o) c.in-Some.is c.in_ok-m.ensures.starts in
-    IfOk-weaker c.order_from.result (λ x. IsFirstFrom (instance_stock c.args.instance.now) c.args.limits (open_operands c.args.ops.now) c.loop-i.i (operands_plan x)) (λ x. IsFirstOrder (instance_stock c.args.instance.now) c.args.limits (open_operands c.args.ops.now) (operands_plan x))
+    IfOk-weaker c.order_from.result (λ x. IsFirstFrom (instance_stock c.args.instance.now) c.args.limits (open_operands c.args.ops.now) c.loop-i.i (model_of_cover_operands x)) (λ x. IsFirstOrder (instance_stock c.args.instance.now) c.args.limits (open_operands c.args.ops.now) (model_of_cover_operands x))
     (λ x first.
     let same : s.0 ≡ first.0 = (let g = s.1 in let h = first.3 in cc) in
-    let la : IsLeast (instance_stock c.args.instance.now) c.args.limits (operand_ask first.0) (Some c.in-Some.m) = subst (λ y. IsLeast (instance_stock c.args.instance.now) c.args.limits (operand_ask y) (Some c.in-Some.m)) same s.4 in
+    let la : IsLeast (instance_stock c.args.instance.now) c.args.limits (operand_subgoal first.0) (Some c.in-Some.m) = subst (λ y. IsLeast (instance_stock c.args.instance.now) c.args.limits (operand_subgoal y) (Some c.in-Some.m)) same s.4 in
     let lb : IsLeastOrder (instance_stock c.args.instance.now) (after c.args.limits first.0.home) (remove (open_operands c.args.ops.now) c.loop-i.i) (Some (c.args.n - c.in-Some.m)) =
     subst (λ (y : Operand). IsLeastOrder (instance_stock c.args.instance.now) (after c.args.limits y.home) (remove (open_operands c.args.ops.now) c.loop-i.i) (Some (c.args.n - c.in-Some.m))) same s.5 in
     subst (IsFirstOrder (instance_stock c.args.instance.now) c.args.limits (open_operands c.args.ops.now)) (sym first.6)
@@ -158,14 +158,14 @@ order_from-choose_entry-requires t c =
     let get = inputs_at c.args.ops.now c.args.i c.index-ops-i.result got in
     let s = c.requires.starts in
     let same : s.0 ≡ open_operand c.index-ops-i.result = (let g = s.1 in cc) in
-    let slot : c.slot_of-slot.result ≡ home_slot (home_at c.index-ops-i.result.home) = c.slot_of-slot.ensures.is in
-    let ask : row_ask (tree_term c.index-ops-i.result.tree.now) c.index-ops-i.result.whole c.slot_of-slot.result ≡ operand_ask (open_operand c.index-ops-i.result) =
-    ap (row_ask (tree_term c.index-ops-i.result.tree.now) c.index-ops-i.result.whole) slot ∙ home_ask (tree_term c.index-ops-i.result.tree.now) c.index-ops-i.result.whole (open_operand c.index-ops-i.result) refl refl in (
+    let slot : c.slot_of-slot.result ≡ home_slot (model_of_home c.index-ops-i.result.home) = c.slot_of-slot.ensures.is in
+    let ask : row_subgoal (model_of_tree c.index-ops-i.result.tree.now) c.index-ops-i.result.whole c.slot_of-slot.result ≡ operand_subgoal (open_operand c.index-ops-i.result) =
+    ap (row_subgoal (model_of_tree c.index-ops-i.result.tree.now) c.index-ops-i.result.whole) slot ∙ home_ask (model_of_tree c.index-ops-i.result.tree.now) c.index-ops-i.result.whole (open_operand c.index-ops-i.result) refl refl in (
       omega (arith, s.3, c.decreases),
       (
-        subst (IsSlot c.index-ops-i.result.whole) (sym slot) (home_entry c.index-ops-i.result.whole (home_at c.index-ops-i.result.home) c.index-ops-i.result.low),
+        subst (IsSlot c.index-ops-i.result.whole) (sym slot) (home_entry c.index-ops-i.result.whole (model_of_home c.index-ops-i.result.home) c.index-ops-i.result.low),
         (
-          subst (λ x. IsLeast (instance_stock c.args.instance.now) c.args.limits x (Some c.args.m)) (sym ask) (subst (λ x. IsLeast (instance_stock c.args.instance.now) c.args.limits (operand_ask x) (Some c.args.m)) same s.4),
+          subst (λ x. IsLeast (instance_stock c.args.instance.now) c.args.limits x (Some c.args.m)) (sym ask) (subst (λ x. IsLeast (instance_stock c.args.instance.now) c.args.limits (operand_subgoal x) (Some c.args.m)) same s.4),
           (input_get _ _ c.args.i _ c.requires.at got, c.requires.right),
         ),
       ),
@@ -177,7 +177,7 @@ order_from-order_without-requires t c =
     let get = inputs_at c.args.ops.now c.args.i c.index-ops-i.result got in
     let s = c.requires.starts in
     let same : s.0 ≡ open_operand c.index-ops-i.result = (let g = s.1 in cc) in
-    let others : IsLeastOrder (instance_stock c.args.instance.now) (after c.args.limits (home_at c.index-ops-i.result.home)) (remove (open_operands c.args.ops.now) c.args.i) (Some (c.args.n - c.args.m)) =
+    let others : IsLeastOrder (instance_stock c.args.instance.now) (after c.args.limits (model_of_home c.index-ops-i.result.home)) (remove (open_operands c.args.ops.now) c.args.i) (Some (c.args.n - c.args.m)) =
     subst (λ (x : Operand). IsLeastOrder (instance_stock c.args.instance.now) (after c.args.limits x.home) (remove (open_operands c.args.ops.now) c.args.i) (Some (c.args.n - c.args.m))) same s.5 in (
       omega (arith, s.2, s.3, c.decreases),
       (
@@ -193,14 +193,14 @@ pub order_from-returns-clause-first : goal.order_from-returns-clause-first
 order_from-returns-clause-first t c =
     let got = slice_get_read _ _ _ _ refl c.requires.place c.index-ops-i.is in
     let get = inputs_at c.args.ops.now c.args.i c.index-ops-i.result got in
-    let slot : c.slot_of-slot.result ≡ home_slot (home_at c.index-ops-i.result.home) = c.slot_of-slot.ensures.is in
-    let ask : row_ask (tree_term c.index-ops-i.result.tree.now) c.index-ops-i.result.whole c.slot_of-slot.result ≡ operand_ask (open_operand c.index-ops-i.result) =
-    ap (row_ask (tree_term c.index-ops-i.result.tree.now) c.index-ops-i.result.whole) slot ∙ home_ask (tree_term c.index-ops-i.result.tree.now) c.index-ops-i.result.whole (open_operand c.index-ops-i.result) refl refl in
-    let here = subst (λ x. IsFirst (instance_stock c.args.instance.now) c.args.limits x (plan_of c.in_ok-here.here)) ask c.in_ok-here.ensures.first in
-    let others : IsFirstOrder (instance_stock c.args.instance.now) (after c.args.limits (home_at c.index-ops-i.result.home)) (remove (open_operands c.args.ops.now) c.args.i) (operands_plan c.in_ok-others.others) =
-    subst (λ r. IsFirstOrder (instance_stock c.args.instance.now) r (remove (open_operands c.args.ops.now) c.args.i) (operands_plan c.in_ok-others.others)) c.after_home-later.ensures c.in_ok-others.ensures.first in
-    IfOk-weaker c.operand_first.result (λ x. operands_plan x ≡ operand_then c.args.i (plan_of c.in_ok-here.here) (operands_plan c.in_ok-others.others)) (λ x. IsFirstFrom (instance_stock c.args.instance.now) c.args.limits (open_operands c.args.ops.now) c.args.i (operands_plan x))
-    (λ x is. (open_operand c.index-ops-i.result, plan_of c.in_ok-here.here, operands_plan c.in_ok-others.others, get, here, others, is)) c.operand_first.ensures
+    let slot : c.slot_of-slot.result ≡ home_slot (model_of_home c.index-ops-i.result.home) = c.slot_of-slot.ensures.is in
+    let ask : row_subgoal (model_of_tree c.index-ops-i.result.tree.now) c.index-ops-i.result.whole c.slot_of-slot.result ≡ operand_subgoal (open_operand c.index-ops-i.result) =
+    ap (row_subgoal (model_of_tree c.index-ops-i.result.tree.now) c.index-ops-i.result.whole) slot ∙ home_ask (model_of_tree c.index-ops-i.result.tree.now) c.index-ops-i.result.whole (open_operand c.index-ops-i.result) refl refl in
+    let here = subst (λ x. IsFirst (instance_stock c.args.instance.now) c.args.limits x (model_of_cover c.in_ok-here.here)) ask c.in_ok-here.ensures.first in
+    let others : IsFirstOrder (instance_stock c.args.instance.now) (after c.args.limits (model_of_home c.index-ops-i.result.home)) (remove (open_operands c.args.ops.now) c.args.i) (model_of_cover_operands c.in_ok-others.others) =
+    subst (λ r. IsFirstOrder (instance_stock c.args.instance.now) r (remove (open_operands c.args.ops.now) c.args.i) (model_of_cover_operands c.in_ok-others.others)) c.after_home-later.ensures c.in_ok-others.ensures.first in
+    IfOk-weaker c.operand_first.result (λ x. model_of_cover_operands x ≡ operand_then c.args.i (model_of_cover c.in_ok-here.here) (model_of_cover_operands c.in_ok-others.others)) (λ x. IsFirstFrom (instance_stock c.args.instance.now) c.args.limits (open_operands c.args.ops.now) c.args.i (model_of_cover_operands x))
+    (λ x is. (open_operand c.index-ops-i.result, model_of_cover c.in_ok-here.here, model_of_cover_operands c.in_ok-others.others, get, here, others, is)) c.operand_first.ensures
 
 pub order_without-choose_order-requires : goal.order_without-choose_order-requires
 order_without-choose_order-requires t c =
@@ -217,8 +217,8 @@ pub order_without-returns-clause-first : goal.order_without-returns-clause-first
 order_without-returns-clause-first t c =
     let d : c.deref.result.now ≡ remove c.args.ops.now c.args.i = c.deref.ensures.value ∙ c.in_ok-rest.ensures in
     let e : open_operands c.deref.result.now ≡ remove (open_operands c.args.ops.now) c.args.i = ap open_operands d ∙ inputs_without c.args.ops.now c.args.i in
-    IfOk-weaker c.choose_order.result (λ x. IsFirstOrder (instance_stock c.args.instance.now) c.args.limits (open_operands c.deref.result.now) (operands_plan x)) (λ x. IsFirstOrder (instance_stock c.args.instance.now) c.args.limits (remove (open_operands c.args.ops.now) c.args.i) (operands_plan x))
-    (λ x first. subst (λ xs. IsFirstOrder (instance_stock c.args.instance.now) c.args.limits xs (operands_plan x)) e first) c.choose_order.ensures.first
+    IfOk-weaker c.choose_order.result (λ x. IsFirstOrder (instance_stock c.args.instance.now) c.args.limits (open_operands c.deref.result.now) (model_of_cover_operands x)) (λ x. IsFirstOrder (instance_stock c.args.instance.now) c.args.limits (remove (open_operands c.args.ops.now) c.args.i) (model_of_cover_operands x))
+    (λ x first. subst (λ xs. IsFirstOrder (instance_stock c.args.instance.now) c.args.limits xs (model_of_cover_operands x)) e first) c.choose_order.ensures.first
 
 pub choose_order-returns-then-is_empty-clause-first : goal.choose_order-returns-then-is_empty-clause-first
 choose_order-returns-then-is_empty-clause-first t c = empty_first _ _ _ (let n : length c.args.ops.now ≡ 0 = search rules in no_inputs c.args.ops.now n)
@@ -242,8 +242,8 @@ choose_cuts-returns-clause-first t c =
     let got = slice_get_read _ _ _ _ refl some c.index-cuts-0.is in
     let e = stored_split c.args.cuts.now c.index-cuts-0.result got in
     let s = subst (λ l. StartsCut (instance_stock c.args.instance.now) l c.args.n c.in_ok-m.m) e c.in_ok-m.ensures.starts in
-    let later = subst (λ l. IsFirstCuts (instance_stock c.args.instance.now) (open_cuts l) (cuts_plan c.in_ok-later.later)) (tail_is c.args.cuts.now) c.in_ok-later.ensures.first in
-    IfOk-weaker c.cut_first.result (λ x. cuts_plan x ≡ cut_then (plan_of c.in_ok-here.here) (cuts_plan c.in_ok-later.later)) (λ x. IsFirstCuts (instance_stock c.args.instance.now) (open_cuts c.args.cuts.now) (cuts_plan x))
+    let later = subst (λ l. IsFirstCuts (instance_stock c.args.instance.now) (open_cuts l) (model_of_cover_cuts c.in_ok-later.later)) (tail_is c.args.cuts.now) c.in_ok-later.ensures.first in
+    IfOk-weaker c.cut_first.result (λ x. model_of_cover_cuts x ≡ cut_then (model_of_cover c.in_ok-here.here) (model_of_cover_cuts c.in_ok-later.later)) (λ x. IsFirstCuts (instance_stock c.args.instance.now) (open_cuts c.args.cuts.now) (model_of_cover_cuts x))
     (λ x is. subst (IsFirstCuts (instance_stock c.args.instance.now) (open_cuts c.args.cuts.now)) (sym is)
-    (subst (λ l. IsFirstCuts (instance_stock c.args.instance.now) l (cut_then (plan_of c.in_ok-here.here) (cuts_plan c.in_ok-later.later))) (sym e)
+    (subst (λ l. IsFirstCuts (instance_stock c.args.instance.now) l (cut_then (model_of_cover c.in_ok-here.here) (model_of_cover_cuts c.in_ok-later.later))) (sym e)
     (first_by_cut (instance_stock c.args.instance.now) _ _ c.args.n c.in_ok-m.m _ _ s c.in_ok-here.ensures.first later))) c.cut_first.ensures

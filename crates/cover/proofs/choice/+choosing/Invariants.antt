@@ -1,9 +1,9 @@
 use Rattle.std.proofs.Common.{◌≡◌, ◌≢◌, ℕ, Some, ◌+◌, ◌*◌, ◌<◌}
-use Rattle.form_model.specs.Plans.{Plan, Operands, operand_then, cost, operands_cost}
-use Rattle.cover.specs.Inner.Asks.{AreSparing}
+use Rattle.form_model.specs.CoverModels.{CoverModel, CoverOperandsModel, operand_then, cost, operands_cost}
+use Rattle.cover.specs.Inner.Subgoals.{AreSparing}
 use Rattle.std.specs.Prelude.{slice_get}
 use Rattle.cover.specs.declared.matches.FormMatch.{FormMatch}
-use Rattle.cover.specs.Inner.Choice.{matches_ask, NeverBegins}
+use Rattle.cover.specs.Inner.Choice.{matches_subgoal, NeverBegins}
 use Rattle.cover.specs.Inner.Jobs.{instance_stock, open_operands}
 use Rattle.cover.specs.Inner.Tables.{AreRight}
 use Rattle.cover.proofs.choice.+choosing.Given as goal
@@ -31,12 +31,12 @@ decreases-choose_cuts l = 5 * l.n + 3
 
 abbrev pub invariant-choose_among-loop-i : goal.invariant-choose_among-loop-i
 invariant-choose_among-loop-i l = record {
-  never : (j : ℕ) (m : FormMatch) → j < l.i → slice_get l.matches.list.items j ≡ Some m → NeverBegins (instance_stock l.instance) l.limits (matches_ask l.matches l.slot) l.n m.form;
+  never : (j : ℕ) (m : FormMatch) → j < l.i → slice_get l.matches.list.items j ≡ Some m → NeverBegins (instance_stock l.instance) l.limits (matches_subgoal l.matches l.slot) l.n m.form;
   right : AreRight l.instance l.table;
 }
 
 abbrev pub invariant-choose_order-loop-i : goal.invariant-choose_order-loop-i
 invariant-choose_order-loop-i l = record {
-  never : (j : ℕ) (p : Plan) (ps : Operands) → j < l.i → AreSparing (instance_stock l.instance) l.limits (open_operands l.ops) (operand_then j p ps) → cost p + operands_cost ps ≢ l.n;
+  never : (j : ℕ) (p : CoverModel) (ps : CoverOperandsModel) → j < l.i → AreSparing (instance_stock l.instance) l.limits (open_operands l.ops) (operand_then j p ps) → cost p + operands_cost ps ≢ l.n;
   right : AreRight l.instance l.table;
 }

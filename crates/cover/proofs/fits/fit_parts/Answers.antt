@@ -1,6 +1,6 @@
 use Rattle.std.proofs.Common.{sym, subst}
 use Rattle.form_model.specs.Covers.{operands_of}
-use Rattle.tree_grammar.specs.Parts.{sites_of}
+use Rattle.tree_grammar.specs.Leaves.{models_of_leaves}
 use Rattle.cover.specs.Inner.Least.{IsLeastOrder, IsLeastCut}
 use Rattle.cover.specs.Inner.Jobs.{instance_stock, nodes_of, open_operands, open_cuts, OperandsAt, CutsAt, AreParts}
 use Rattle.cover.proofs.FloorLemmas.{floor_none}
@@ -48,6 +48,6 @@ pub returns-clause-few : goal.returns-clause-few
 returns-clause-few c =
     fit_few c.args.instance.now c.args.limits c.in_ok-operands.operands.items c.in_ok-cuts.cuts.items c.in_ok-a.a c.in_ok-b.b c.fit_of.result c.requires.right.few
     (subst (λ l. AreParts (nodes_of c.args.instance.now) l (open_cuts c.in_ok-cuts.cuts.items)) (sym c.in_ok-operands.ensures.operands)
-    (subst (AreParts (nodes_of c.args.instance.now) (operands_of (sites_of c.args.parts.now))) (sym c.in_ok-cuts.ensures.cuts) c.requires.few))
+    (subst (AreParts (nodes_of c.args.instance.now) (operands_of (models_of_leaves c.args.parts.now))) (sym c.in_ok-cuts.ensures.cuts) c.requires.few))
     (subst (λ l. IsLeastOrder (instance_stock c.args.instance.now) c.args.limits (open_operands l) c.in_ok-a.a) c.deref.ensures.value c.in_ok-a.ensures.least)
     (subst (λ l. IsLeastCut (instance_stock c.args.instance.now) (open_cuts l) c.in_ok-b.b) c.deref-2.ensures.value c.in_ok-b.ensures.least) c.fit_of.ensures

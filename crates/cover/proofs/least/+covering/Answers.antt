@@ -4,11 +4,11 @@ use Rattle.std.proofs.lemmas.Bool.{OnTrue_at, OnFalse_at}
 use Rattle.std.proofs.lemmas.Option.{slice_get_read}
 use Rattle.std.proofs.lemmas.Result.{IfOk-weaker}
 use Rattle.std.specs.declared.alloc.Global.{Global}
-use Rattle.form_model.specs.Trees.{tree_term}
+use Rattle.form_model.specs.Trees.{model_of_tree}
 use Rattle.form_model.specs.Covers.{Operand}
-use Rattle.form_model.specs.Plans.{operands_cost}
-use Rattle.tree_grammar.specs.Parts.{home_at}
-use Rattle.cover.specs.Inner.Asks.{operand_ask, operands_size, terms_size, after}
+use Rattle.form_model.specs.CoverModels.{operands_cost}
+use Rattle.tree_grammar.specs.Leaves.{model_of_home}
+use Rattle.cover.specs.Inner.Subgoals.{operand_subgoal, operands_size, exprs_size, after}
 use Rattle.cover.specs.Inner.Least.{IsLeast, IsLeastOrder, IsLeastAfter, IsLeastFrom, IsLeastCut, IsFloor, IsCostBelow, AtMost, NoMore, summed}
 use Rattle.cover.specs.Inner.Jobs.{instance_stock, nodes_of, open_operand, open_operands, open_cuts, OperandsAt, CutsAt, AreParts}
 use Rattle.cover.proofs.SizeLemmas.{size_pos}
@@ -16,12 +16,12 @@ use Rattle.cover.proofs.NodeLemmas.{input_get, inputs_remove}
 use Rattle.cover.proofs.InputLemmas.{inputs_at, inputs_without, length_inputs, no_inputs, inputs_split, inputs_later, lone_input, size-remove, no_stored, stored_split, stored_first, stored_later, tail_is, home_entry, cut_slot, home_least, rank_le, rank_free}
 use Rattle.cover.specs.declared.rows.Offer.TheVariants.{Nothing, Chains}
 use Rattle.cover.specs.declared.matches.Matches.{Matches}
-use Rattle.cover.specs.Inner.Rows.{row_ask, IsTried, IsClosed, IsLeastRow, IsOffer}
+use Rattle.cover.specs.Inner.Rows.{row_subgoal, IsTried, IsClosed, IsLeastRow, IsOffer}
 use Rattle.cover.specs.Inner.Slots.{place, IsSlot}
 use Rattle.cover.specs.Inner.Matched.{AreMatches}
 use Rattle.cover.proofs.OfferLemmas.{blank_row, look_within, tried_none, tried_more, least_row_of}
 use Rattle.cover.proofs.MatchLemmas.{at_index, at_place, matches_all, match_parts, match_sizes, offer_clobbers, offer_start, offer_below, offer_cheap}
-use Rattle.net_model.specs.Terms.{size_of}
+use Rattle.net_model.specs.Exprs.{size_of}
 use Rattle.cover.proofs.LeastLemmas.{order_one, other_left, cut_none, cut_more, order_more, order_all, order_none, from_parts, from_none, from_last}
 use Rattle.cover.specs.declared.matches.FormMatch.{FormMatch}
 use Rattle.cover.proofs.SlotLemmas.{slot_within}
@@ -34,26 +34,26 @@ use Rattle.cover.proofs.least.+covering.Goals as goal
 pub operand_cost-least-requires : goal.operand_cost-least-requires
 operand_cost-least-requires t c = (
   omega (arith, c.decreases),
-  (subst (IsSlot c.args.operand.whole) (sym c.slot_of-slot.ensures.is) (home_entry c.args.operand.whole (home_at c.args.operand.home) c.args.operand.low), (c.requires.number, c.requires.right)),
+  (subst (IsSlot c.args.operand.whole) (sym c.slot_of-slot.ensures.is) (home_entry c.args.operand.whole (model_of_home c.args.operand.home) c.args.operand.low), (c.requires.number, c.requires.right)),
 )
 
 pub operand_cost-returns-clause-least : goal.operand_cost-returns-clause-least
 operand_cost-returns-clause-least t c =
-    IfOk-weaker c.least.result (λ o. IsLeast (instance_stock c.args.instance.now) c.args.limits (row_ask (tree_term c.args.operand.tree.now) c.args.operand.whole c.slot_of-slot.result) o) (λ o. IsLeast (instance_stock c.args.instance.now) c.args.limits (operand_ask (open_operand c.args.operand)) o)
+    IfOk-weaker c.least.result (λ o. IsLeast (instance_stock c.args.instance.now) c.args.limits (row_subgoal (model_of_tree c.args.operand.tree.now) c.args.operand.whole c.slot_of-slot.result) o) (λ o. IsLeast (instance_stock c.args.instance.now) c.args.limits (operand_subgoal (open_operand c.args.operand)) o)
     (λ o is. home_least (instance_stock c.args.instance.now) c.args.limits (open_operand c.args.operand) o
-    (subst (λ s. IsLeast (instance_stock c.args.instance.now) c.args.limits (row_ask (tree_term c.args.operand.tree.now) c.args.operand.whole s) o) c.slot_of-slot.ensures.is is)) c.least.ensures.least
+    (subst (λ s. IsLeast (instance_stock c.args.instance.now) c.args.limits (row_subgoal (model_of_tree c.args.operand.tree.now) c.args.operand.whole s) o) c.slot_of-slot.ensures.is is)) c.least.ensures.least
 
 pub least_row-row_of-requires : goal.least_row-row_of-requires
 least_row-row_of-requires t c =
     let e : c.deref.result.now ≡ c.in_ok-matches.matches.value = c.deref.ensures in
-    (omega (arith, ap (λ (ms : Matches). size_of (tree_term ms.tree.now)) e, ap size_of c.in_ok-matches.ensures.tree, c.decreases), (subst (AreMatches c.args.instance.now) (sym e) c.in_ok-matches.ensures.matches, c.in_ok-matches.ensures.right))
+    (omega (arith, ap (λ (ms : Matches). size_of (model_of_tree ms.tree.now)) e, ap size_of c.in_ok-matches.ensures.tree, c.decreases), (subst (AreMatches c.args.instance.now) (sym e) c.in_ok-matches.ensures.matches, c.in_ok-matches.ensures.right))
 
 pub least_row-returns-clause-least : goal.least_row-returns-clause-least
 least_row-returns-clause-least t c =
     let e : c.deref.result.now ≡ c.in_ok-matches.matches.value = c.deref.ensures in
-    IfOk-weaker c.row_of.result (λ (row : Vec (Option ℕ) Global). IsLeastRow (instance_stock c.args.instance.now) c.args.limits (tree_term c.deref.result.now.tree.now) c.deref.result.now.whole row.items) (λ (row : Vec (Option ℕ) Global). IsLeastRow (instance_stock c.args.instance.now) c.args.limits (tree_term c.args.tree.now) c.args.whole row.items)
-    (λ row least. subst (λ u. IsLeastRow (instance_stock c.args.instance.now) c.args.limits u c.args.whole row.items) (ap (λ (ms : Matches). tree_term ms.tree.now) e ∙ c.in_ok-matches.ensures.tree)
-    (subst (λ w. IsLeastRow (instance_stock c.args.instance.now) c.args.limits (tree_term c.deref.result.now.tree.now) w row.items) (ap (λ (ms : Matches). ms.whole) e ∙ c.in_ok-matches.ensures.whole) least)) c.row_of.ensures.least
+    IfOk-weaker c.row_of.result (λ (row : Vec (Option ℕ) Global). IsLeastRow (instance_stock c.args.instance.now) c.args.limits (model_of_tree c.deref.result.now.tree.now) c.deref.result.now.whole row.items) (λ (row : Vec (Option ℕ) Global). IsLeastRow (instance_stock c.args.instance.now) c.args.limits (model_of_tree c.args.tree.now) c.args.whole row.items)
+    (λ row least. subst (λ u. IsLeastRow (instance_stock c.args.instance.now) c.args.limits u c.args.whole row.items) (ap (λ (ms : Matches). model_of_tree ms.tree.now) e ∙ c.in_ok-matches.ensures.tree)
+    (subst (λ w. IsLeastRow (instance_stock c.args.instance.now) c.args.limits (model_of_tree c.deref.result.now.tree.now) w row.items) (ap (λ (ms : Matches). ms.whole) e ∙ c.in_ok-matches.ensures.whole) least)) c.row_of.ensures.least
 
 pub row_of-fill-requires : goal.row_of-fill-requires
 row_of-fill-requires t c = (omega (arith, c.decreases), (c.requires.matches, (c.requires.right, (search rules, search (rules, blank_row)))))
@@ -62,7 +62,7 @@ pub fill-note-requires : goal.fill-note-requires
 fill-note-requires t c =
     let lt : c.loop-i.i < length c.args.matches.now.list.items = search rules in
     let (m, got) = at_index c.args.matches.now.list.items c.loop-i.i lt in
-    record { len = c.loop-i.invariant.len; within = look_within (instance_stock c.args.instance.now) c.args.limits (tree_term c.args.matches.now.tree.now) c.args.matches.now.whole c.deref.result.now m.form c.in_ok-offer.offer (c.in_ok-offer.ensures.offer m got) }
+    record { len = c.loop-i.invariant.len; within = look_within (instance_stock c.args.instance.now) c.args.limits (model_of_tree c.args.matches.now.tree.now) c.args.matches.now.whole c.deref.result.now m.form c.in_ok-offer.offer (c.in_ok-offer.ensures.offer m got) }
 
 pub fill-loop-i-preserved : goal.fill-loop-i-preserved
 fill-loop-i-preserved t c =
@@ -70,8 +70,8 @@ fill-loop-i-preserved t c =
     let (m, got) = at_index c.args.matches.now.list.items c.loop-i.i lt in
     record {
       len = c.note.ensures.len;
-      tried = tried_more (instance_stock c.args.instance.now) c.args.limits (tree_term c.args.matches.now.tree.now) c.args.matches.now.whole c.args.matches.now.list.items c.loop-i.i m got c.in_ok-offer.offer _ _ _ _ c.loop-i.invariant.tried (subst (λ l. IsOffer (instance_stock c.args.instance.now) c.args.limits (tree_term c.args.matches.now.tree.now) c.args.matches.now.whole l m.form c.in_ok-offer.offer) c.deref.ensures.value (c.in_ok-offer.ensures.offer m got)) c.in_ok-note.ensures.noted;
-      low = noted_low (tree_term c.args.matches.now.tree.now) c.in_ok-offer.offer _ _ _ _ c.loop-i.invariant.low c.in_ok-note.ensures.noted c.in_ok-offer.ensures.cheap;
+      tried = tried_more (instance_stock c.args.instance.now) c.args.limits (model_of_tree c.args.matches.now.tree.now) c.args.matches.now.whole c.args.matches.now.list.items c.loop-i.i m got c.in_ok-offer.offer _ _ _ _ c.loop-i.invariant.tried (subst (λ l. IsOffer (instance_stock c.args.instance.now) c.args.limits (model_of_tree c.args.matches.now.tree.now) c.args.matches.now.whole l m.form c.in_ok-offer.offer) c.deref.ensures.value (c.in_ok-offer.ensures.offer m got)) c.in_ok-note.ensures.noted;
+      low = noted_low (model_of_tree c.args.matches.now.tree.now) c.in_ok-offer.offer _ _ _ _ c.loop-i.invariant.low c.in_ok-note.ensures.noted c.in_ok-offer.ensures.cheap;
       right = c.in_ok-offer.ensures.right;
     }
 
@@ -79,21 +79,21 @@ pub fill-returns-clause-least : goal.fill-returns-clause-least
 fill-returns-clause-least t c =
     let v : vec_len c.args.matches.now.list ≡ length c.args.matches.now.list.items = search rules in
     let n : c.loop-i.i ≡ length c.args.matches.now.list.items = omega (arith, v, c.loop-i-test.false, c.loop-i.auto.i-end) in
-    least_row_of _ _ _ _ c.args.matches.now.list.items (matches_all c.args.instance.now (tree_term c.args.matches.now.tree.now) c.args.matches.now.whole c.args.matches.now.list.items c.requires.matches) _ _ _
-    (subst (λ j. IsTried (instance_stock c.args.instance.now) c.args.limits (tree_term c.args.matches.now.tree.now) c.args.matches.now.whole c.args.matches.now.list.items j c.loop-i.chains.items c.loop-i.row.items) n c.loop-i.invariant.tried)
+    least_row_of _ _ _ _ c.args.matches.now.list.items (matches_all c.args.instance.now (model_of_tree c.args.matches.now.tree.now) c.args.matches.now.whole c.args.matches.now.list.items c.requires.matches) _ _ _
+    (subst (λ j. IsTried (instance_stock c.args.instance.now) c.args.limits (model_of_tree c.args.matches.now.tree.now) c.args.matches.now.whole c.args.matches.now.list.items j c.loop-i.chains.items c.loop-i.row.items) n c.loop-i.invariant.tried)
     (subst (λ ms. IsClosed ms c.loop-i.row.items c.close.new.row.items) c.deref-2.ensures c.close.ensures.closed)
 
 pub fill-close-requires-clause-room : goal.fill-close-requires-clause-room
 fill-close-requires-clause-room t c =
-    low_room (36 * size_of (tree_term c.args.matches.now.tree.now) - 17) (2 ^ 64 - 2) c.loop-i.row.items (let n : length c.loop-i.row.items ≡ 18 = search rules in n) c.loop-i.invariant.low
-    (size_room (tree_term c.args.matches.now.tree.now) (length (nodes_of c.args.instance.now)) c.requires.matches.few c.requires.right.few)
+    low_room (36 * size_of (model_of_tree c.args.matches.now.tree.now) - 17) (2 ^ 64 - 2) c.loop-i.row.items (let n : length c.loop-i.row.items ≡ 18 = search rules in n) c.loop-i.invariant.low
+    (size_room (model_of_tree c.args.matches.now.tree.now) (length (nodes_of c.args.instance.now)) c.requires.matches.few c.requires.right.few)
 
 pub fill-loop-i-init : goal.fill-loop-i-init
 fill-loop-i-init t c = record {
   len = c.requires.len;
-  tried = subst (λ l. IsTried (instance_stock c.args.instance.now) c.args.limits (tree_term c.args.matches.now.tree.now) c.args.matches.now.whole c.args.matches.now.list.items 0 l c.args.row.now.items) (search rules)
-      (tried_none (instance_stock c.args.instance.now) c.args.limits (tree_term c.args.matches.now.tree.now) c.args.matches.now.whole c.args.matches.now.list.items c.args.row.now.items c.requires.blank);
-  low = blank_low (36 * size_of (tree_term c.args.matches.now.tree.now) - 17) c.args.row.now.items c.requires.blank;
+  tried = subst (λ l. IsTried (instance_stock c.args.instance.now) c.args.limits (model_of_tree c.args.matches.now.tree.now) c.args.matches.now.whole c.args.matches.now.list.items 0 l c.args.row.now.items) (search rules)
+      (tried_none (instance_stock c.args.instance.now) c.args.limits (model_of_tree c.args.matches.now.tree.now) c.args.matches.now.whole c.args.matches.now.list.items c.args.row.now.items c.requires.blank);
+  low = blank_low (36 * size_of (model_of_tree c.args.matches.now.tree.now) - 17) c.args.row.now.items c.requires.blank;
   right = c.requires.right;
 }
 
@@ -101,22 +101,22 @@ pub offer_at-returns-then-not-keeps_to-clause-offer : goal.offer_at-returns-then
 offer_at-returns-then-not-keeps_to-clause-offer t c =
     let m : FormMatch = c.index-found.result.now in
     let got : slice_get c.args.matches.now.list.items c.args.i ≡ Some m = slice_get_read _ _ _ _ refl c.requires.place c.index-found.ensures in
-    at_place (λ y. IsOffer (instance_stock c.args.instance.now) c.args.limits (tree_term c.args.matches.now.tree.now) c.args.matches.now.whole c.args.row.now y.form Nothing) c.args.matches.now.list.items c.args.i m got
-    (offer_clobbers c.args.instance.now c.args.limits (tree_term c.args.matches.now.tree.now) c.args.matches.now.whole m (c.requires.matches.each c.args.i m got) c.args.row.now (OnFalse_at c.if-not-keeps_to.true c.keeps_to.ensures.no))
+    at_place (λ y. IsOffer (instance_stock c.args.instance.now) c.args.limits (model_of_tree c.args.matches.now.tree.now) c.args.matches.now.whole c.args.row.now y.form Nothing) c.args.matches.now.list.items c.args.i m got
+    (offer_clobbers c.args.instance.now c.args.limits (model_of_tree c.args.matches.now.tree.now) c.args.matches.now.whole m (c.requires.matches.each c.args.i m got) c.args.row.now (OnFalse_at c.if-not-keeps_to.true c.keeps_to.ensures.no))
 
 pub offer_at-returns-in-Some-clause-offer : goal.offer_at-returns-in-Some-clause-offer
 offer_at-returns-in-Some-clause-offer t c =
     let m : FormMatch = c.index-found.result.now in
     let got : slice_get c.args.matches.now.list.items c.args.i ≡ Some m = slice_get_read _ _ _ _ refl c.requires.place c.index-found.ensures in
-    at_place (λ y. IsOffer (instance_stock c.args.instance.now) c.args.limits (tree_term c.args.matches.now.tree.now) c.args.matches.now.whole c.args.row.now y.form (Chains (record { start = c.in-Some.start; goal = m.goal }))) c.args.matches.now.list.items c.args.i m got
-    (offer_start c.args.instance.now c.args.limits (tree_term c.args.matches.now.tree.now) c.args.matches.now.whole m (c.requires.matches.each c.args.i m got) c.args.row.now c.start_of.result c.in-Some.start (OnTrue_at c.if-not-keeps_to.false c.keeps_to.ensures.yes) c.start_of.ensures c.in-Some.is)
+    at_place (λ y. IsOffer (instance_stock c.args.instance.now) c.args.limits (model_of_tree c.args.matches.now.tree.now) c.args.matches.now.whole c.args.row.now y.form (Chains (record { start = c.in-Some.start; goal = m.goal }))) c.args.matches.now.list.items c.args.i m got
+    (offer_start c.args.instance.now c.args.limits (model_of_tree c.args.matches.now.tree.now) c.args.matches.now.whole m (c.requires.matches.each c.args.i m got) c.args.row.now c.start_of.result c.in-Some.start (OnTrue_at c.if-not-keeps_to.false c.keeps_to.ensures.yes) c.start_of.ensures c.in-Some.is)
 
 pub offer_at-returns-clause-offer : goal.offer_at-returns-clause-offer
 offer_at-returns-clause-offer t c =
     let m : FormMatch = c.index-found.result.now in
     let got : slice_get c.args.matches.now.list.items c.args.i ≡ Some m = slice_get_read _ _ _ _ refl c.requires.place c.index-found.ensures in
-    at_place (λ y. IsOffer (instance_stock c.args.instance.now) c.args.limits (tree_term c.args.matches.now.tree.now) c.args.matches.now.whole c.args.row.now y.form c.offer_of.result) c.args.matches.now.list.items c.args.i m got
-    (offer_below c.args.instance.now c.args.limits (tree_term c.args.matches.now.tree.now) c.args.matches.now.whole m (c.requires.matches.each c.args.i m got) c.args.row.now c.known_cost-known.result c.in_ok-cost.cost c.offer_of.result (OnTrue_at c.if-not-keeps_to.false c.keeps_to.ensures.yes) c.known_cost-known.ensures
+    at_place (λ y. IsOffer (instance_stock c.args.instance.now) c.args.limits (model_of_tree c.args.matches.now.tree.now) c.args.matches.now.whole c.args.row.now y.form c.offer_of.result) c.args.matches.now.list.items c.args.i m got
+    (offer_below c.args.instance.now c.args.limits (model_of_tree c.args.matches.now.tree.now) c.args.matches.now.whole m (c.requires.matches.each c.args.i m got) c.args.row.now c.known_cost-known.result c.in_ok-cost.cost c.offer_of.result (OnTrue_at c.if-not-keeps_to.false c.keeps_to.ensures.yes) c.known_cost-known.ensures
     (subst (λ l. IsCostBelow (instance_stock c.args.instance.now) c.args.limits (open_operands l) (open_cuts m.cuts.items) c.known_cost-known.result c.in_ok-cost.cost) c.deref.ensures.value
     (subst (λ l. IsCostBelow (instance_stock c.args.instance.now) c.args.limits (open_operands c.deref.result.now) (open_cuts l) c.known_cost-known.result c.in_ok-cost.cost) c.deref-2.ensures.value c.in_ok-cost.ensures.least)) c.offer_of.ensures)
 
@@ -125,8 +125,8 @@ offer_at-cost_below-requires t c =
     let m : FormMatch = c.index-found.result.now in
     let got : slice_get c.args.matches.now.list.items c.args.i ≡ Some m = slice_get_read _ _ _ _ refl c.requires.place c.index-found.ensures in
     let f = c.requires.matches.each c.args.i m got in
-    let z = match_sizes c.args.instance.now c.args.limits (tree_term c.args.matches.now.tree.now) c.args.matches.now.whole m f c.start_of.result c.start_of.ensures c.in_default.is in (
-      omega (arith, z.0, z.1, rank_le c.args.instance.now.file c.args.limits, ap (λ l. operands_size (open_operands l)) c.deref.ensures.value, ap (λ l. terms_size (open_cuts l)) c.deref-2.ensures.value, c.decreases),
+    let z = match_sizes c.args.instance.now c.args.limits (model_of_tree c.args.matches.now.tree.now) c.args.matches.now.whole m f c.start_of.result c.start_of.ensures c.in_default.is in (
+      omega (arith, z.0, z.1, rank_le c.args.instance.now.file c.args.limits, ap (λ l. operands_size (open_operands l)) c.deref.ensures.value, ap (λ l. exprs_size (open_cuts l)) c.deref-2.ensures.value, c.decreases),
       (
         subst (OperandsAt (nodes_of c.args.instance.now)) (sym c.deref.ensures.value) f.operands_at,
         (
@@ -134,7 +134,7 @@ offer_at-cost_below-requires t c =
           (
             subst (λ l. AreParts (nodes_of c.args.instance.now) (open_operands l) (open_cuts c.deref-2.result.now)) (sym c.deref.ensures.value)
                 (subst (λ l. AreParts (nodes_of c.args.instance.now) (open_operands m.operands.items) (open_cuts l)) (sym c.deref-2.ensures.value)
-                (match_parts c.args.instance.now c.args.limits (tree_term c.args.matches.now.tree.now) c.args.matches.now.whole m f c.requires.matches.few)),
+                (match_parts c.args.instance.now c.args.limits (model_of_tree c.args.matches.now.tree.now) c.args.matches.now.whole m f c.requires.matches.few)),
             c.requires.right,
           ),
         ),
@@ -145,7 +145,7 @@ pub offer_at-returns-clause-cheap : goal.offer_at-returns-clause-cheap
 offer_at-returns-clause-cheap t c =
     let m : FormMatch = c.index-found.result.now in
     let got : slice_get c.args.matches.now.list.items c.args.i ≡ Some m = slice_get_read _ _ _ _ refl c.requires.place c.index-found.ensures in
-    offer_cheap c.args.instance.now c.args.limits (tree_term c.args.matches.now.tree.now) c.args.matches.now.whole m (c.requires.matches.each c.args.i m got) c.start_of.result c.known_cost-known.result c.in_ok-cost.cost c.offer_of.result c.start_of.ensures c.in_default.is
+    offer_cheap c.args.instance.now c.args.limits (model_of_tree c.args.matches.now.tree.now) c.args.matches.now.whole m (c.requires.matches.each c.args.i m got) c.start_of.result c.known_cost-known.result c.in_ok-cost.cost c.offer_of.result c.start_of.ensures c.in_default.is
     (subst (λ l. IsCostBelow (instance_stock c.args.instance.now) c.args.limits (open_operands l) (open_cuts m.cuts.items) c.known_cost-known.result c.in_ok-cost.cost) c.deref.ensures.value
     (subst (λ l. IsCostBelow (instance_stock c.args.instance.now) c.args.limits (open_operands c.deref.result.now) (open_cuts l) c.known_cost-known.result c.in_ok-cost.cost) c.deref-2.ensures.value c.in_ok-cost.ensures.least)) c.offer_of.ensures
 
@@ -205,7 +205,7 @@ floor_of-returns-in_default-clause-floor t c =
     let some : 0 < length c.args.ops.now = search rules in
     let got = slice_get_read _ _ _ _ refl some c.index-ops-0.is in
     let e = inputs_split c.args.ops.now c.index-ops-0.result got in
-    let first = (subst (λ o. IsLeast (instance_stock c.args.instance.now) c.args.limits (operand_ask (open_operand c.index-ops-0.result)) o) c.in_default.is c.in_ok-m.ensures.least) in
+    let first = (subst (λ o. IsLeast (instance_stock c.args.instance.now) c.args.limits (operand_subgoal (open_operand c.index-ops-0.result)) o) c.in_default.is c.in_ok-m.ensures.least) in
     let none = floor_more (instance_stock c.args.instance.now) c.args.limits (open_operand c.index-ops-0.result) (open_operands (drop 1 c.args.ops.now)) None (Some 0) first (floor_none (instance_stock c.args.instance.now) c.args.limits (open_operands (drop 1 c.args.ops.now))) in
     subst (λ xs. IsFloor (instance_stock c.args.instance.now) c.args.limits xs None) (sym e) none
 
@@ -213,7 +213,7 @@ pub floor_of-returns-in_default-clause-lone : goal.floor_of-returns-in_default-c
 floor_of-returns-in_default-clause-lone t c = λ few.
     let some : 0 < length c.args.ops.now = search rules in
     let got = slice_get_read _ _ _ _ refl some c.index-ops-0.is in
-    let first = (subst (λ o. IsLeast (instance_stock c.args.instance.now) c.args.limits (operand_ask (open_operand c.index-ops-0.result)) o) c.in_default.is c.in_ok-m.ensures.least) in
+    let first = (subst (λ o. IsLeast (instance_stock c.args.instance.now) c.args.limits (operand_subgoal (open_operand c.index-ops-0.result)) o) c.in_default.is c.in_ok-m.ensures.least) in
     subst (λ xs. IsLeastOrder (instance_stock c.args.instance.now) c.args.limits xs None) (sym (lone_input c.args.ops.now c.index-ops-0.result got few))
     (order_one (instance_stock c.args.instance.now) c.args.limits (open_operand c.index-ops-0.result) None first)
 
@@ -221,7 +221,7 @@ pub floor_of-returns-then-ops-eq1-clause-lone : goal.floor_of-returns-then-ops-e
 floor_of-returns-then-ops-eq1-clause-lone t c = λ few.
     let some : 0 < length c.args.ops.now = search rules in
     let got = slice_get_read _ _ _ _ refl some c.index-ops-0.is in
-    let first = (subst (λ o. IsLeast (instance_stock c.args.instance.now) c.args.limits (operand_ask (open_operand c.index-ops-0.result)) o) c.in-Some.is c.in_ok-m.ensures.least) in
+    let first = (subst (λ o. IsLeast (instance_stock c.args.instance.now) c.args.limits (operand_subgoal (open_operand c.index-ops-0.result)) o) c.in-Some.is c.in_ok-m.ensures.least) in
     subst (λ xs. IsLeastOrder (instance_stock c.args.instance.now) c.args.limits xs (Some c.in-Some.m)) (sym (lone_input c.args.ops.now c.index-ops-0.result got few))
     (order_one (instance_stock c.args.instance.now) c.args.limits (open_operand c.index-ops-0.result) (Some c.in-Some.m) first)
 
@@ -241,14 +241,14 @@ floor_of-floor_of-requires t c =
     let some : 0 < length c.args.ops.now = search rules in
     let got = slice_get_read _ _ _ _ refl some c.index-ops-0.is in
     let e = inputs_split c.args.ops.now c.index-ops-0.result got in
-    (omega (arith, ap operands_size e, ap (λ l. operands_size (open_operands l)) (tail_is c.args.ops.now), size_pos (tree_term c.index-ops-0.result.tree.now), c.decreases), (subst (OperandsAt (nodes_of c.args.instance.now)) (sym (tail_is c.args.ops.now)) (inputs_later (nodes_of c.args.instance.now) c.args.ops.now c.requires.at), c.in_ok-m.ensures.right))
+    (omega (arith, ap operands_size e, ap (λ l. operands_size (open_operands l)) (tail_is c.args.ops.now), size_pos (model_of_tree c.index-ops-0.result.tree.now), c.decreases), (subst (OperandsAt (nodes_of c.args.instance.now)) (sym (tail_is c.args.ops.now)) (inputs_later (nodes_of c.args.instance.now) c.args.ops.now c.requires.at), c.in_ok-m.ensures.right))
 
 pub floor_of-returns-clause-floor : goal.floor_of-returns-clause-floor
 floor_of-returns-clause-floor t c =
     let some : 0 < length c.args.ops.now = search rules in
     let got = slice_get_read _ _ _ _ refl some c.index-ops-0.is in
     let e = inputs_split c.args.ops.now c.index-ops-0.result got in
-    let first = (subst (λ o. IsLeast (instance_stock c.args.instance.now) c.args.limits (operand_ask (open_operand c.index-ops-0.result)) o) c.in-Some.is c.in_ok-m.ensures.least) in
+    let first = (subst (λ o. IsLeast (instance_stock c.args.instance.now) c.args.limits (operand_subgoal (open_operand c.index-ops-0.result)) o) c.in-Some.is c.in_ok-m.ensures.least) in
     let parts = floor_more (instance_stock c.args.instance.now) c.args.limits (open_operand c.index-ops-0.result) (open_operands (drop 1 c.args.ops.now)) (Some c.in-Some.m) c.in_ok-n.n first (subst (λ l. IsFloor (instance_stock c.args.instance.now) c.args.limits (open_operands l) c.in_ok-n.n) (tail_is c.args.ops.now) c.in_ok-n.ensures.floor) in
     subst (λ x. IsFloor (instance_stock c.args.instance.now) c.args.limits (open_operands c.args.ops.now) x) (sym c.sum_of.ensures) (subst (λ xs. IsFloor (instance_stock c.args.instance.now) c.args.limits xs (summed (Some c.in-Some.m) c.in_ok-n.n)) (sym e) parts)
 
@@ -261,7 +261,7 @@ pub floor_of-sum_of-requires : goal.floor_of-sum_of-requires
 floor_of-sum_of-requires t c =
     let some : 0 < length c.args.ops.now = search rules in
     let got = slice_get_read _ _ _ _ refl some c.index-ops-0.is in
-    let first = (subst (λ o. IsLeast (instance_stock c.args.instance.now) c.args.limits (operand_ask (open_operand c.index-ops-0.result)) o) c.in-Some.is c.in_ok-m.ensures.least) in
+    let first = (subst (λ o. IsLeast (instance_stock c.args.instance.now) c.args.limits (operand_subgoal (open_operand c.index-ops-0.result)) o) c.in-Some.is c.in_ok-m.ensures.least) in
     let few = floor_few c.args.instance.now c.args.limits c.args.ops.now c.index-ops-0.result (Some c.in-Some.m) c.in_ok-n.n got first (subst (λ l. NoMore c.in_ok-n.n (36 * operands_size (open_operands l))) (tail_is c.args.ops.now) c.in_ok-n.ensures.few) in
     size_held (summed (Some c.in-Some.m) c.in_ok-n.n) _ _ few c.requires.at.1 c.requires.right.few
 
@@ -269,7 +269,7 @@ pub floor_of-returns-clause-few : goal.floor_of-returns-clause-few
 floor_of-returns-clause-few t c =
     let some : 0 < length c.args.ops.now = search rules in
     let got = slice_get_read _ _ _ _ refl some c.index-ops-0.is in
-    let first = (subst (λ o. IsLeast (instance_stock c.args.instance.now) c.args.limits (operand_ask (open_operand c.index-ops-0.result)) o) c.in-Some.is c.in_ok-m.ensures.least) in
+    let first = (subst (λ o. IsLeast (instance_stock c.args.instance.now) c.args.limits (operand_subgoal (open_operand c.index-ops-0.result)) o) c.in-Some.is c.in_ok-m.ensures.least) in
     let few = floor_few c.args.instance.now c.args.limits c.args.ops.now c.index-ops-0.result (Some c.in-Some.m) c.in_ok-n.n got first (subst (λ l. NoMore c.in_ok-n.n (36 * operands_size (open_operands l))) (tail_is c.args.ops.now) c.in_ok-n.ensures.few) in
     subst (λ o. NoMore o (36 * operands_size (open_operands c.args.ops.now))) (sym c.sum_of.ensures) few
 
@@ -299,7 +299,7 @@ orders_from-returns-in_default-clause-least t c =
     let got = slice_get_read _ _ _ _ refl c.requires.place c.index-ops-i.is in
     let get = inputs_at c.args.ops.now c.args.i c.index-ops-i.result got in
     from_none (instance_stock c.args.instance.now) c.args.limits (open_operands c.args.ops.now) c.args.i (open_operand c.index-ops-i.result) get
-    (subst (λ o. IsLeast (instance_stock c.args.instance.now) c.args.limits (operand_ask (open_operand c.index-ops-i.result)) o) c.in_default.is c.in_ok-m.ensures.least)
+    (subst (λ o. IsLeast (instance_stock c.args.instance.now) c.args.limits (operand_subgoal (open_operand c.index-ops-i.result)) o) c.in_default.is c.in_ok-m.ensures.least)
 
 pub orders_from-returns-then-ops-eq1-clause-least : goal.orders_from-returns-then-ops-eq1-clause-least
 orders_from-returns-then-ops-eq1-clause-least t c =
@@ -308,13 +308,13 @@ orders_from-returns-then-ops-eq1-clause-least t c =
     let one : length c.args.ops.now ≡ 1 = search rules in
     let n = length_inputs c.args.ops.now in
     from_last (instance_stock c.args.instance.now) c.args.limits (open_operands c.args.ops.now) c.args.i (open_operand c.index-ops-i.result) c.in-Some.m get (omega (arith, one, n))
-    (subst (λ o. IsLeast (instance_stock c.args.instance.now) c.args.limits (operand_ask (open_operand c.index-ops-i.result)) o) c.in-Some.is c.in_ok-m.ensures.least)
+    (subst (λ o. IsLeast (instance_stock c.args.instance.now) c.args.limits (operand_subgoal (open_operand c.index-ops-i.result)) o) c.in-Some.is c.in_ok-m.ensures.least)
 
 pub orders_from-returns-clause-least : goal.orders_from-returns-clause-least
 orders_from-returns-clause-least t c =
     let got = slice_get_read _ _ _ _ refl c.requires.place c.index-ops-i.is in
     let get = inputs_at c.args.ops.now c.args.i c.index-ops-i.result got in
-    let first = (subst (λ o. IsLeast (instance_stock c.args.instance.now) c.args.limits (operand_ask (open_operand c.index-ops-i.result)) o) c.in-Some.is c.in_ok-m.ensures.least) in
+    let first = (subst (λ o. IsLeast (instance_stock c.args.instance.now) c.args.limits (operand_subgoal (open_operand c.index-ops-i.result)) o) c.in-Some.is c.in_ok-m.ensures.least) in
     let parts = from_parts (instance_stock c.args.instance.now) c.args.limits (open_operands c.args.ops.now) c.args.i (open_operand c.index-ops-i.result) (Some c.in-Some.m) c.in_ok-n.n get first (c.in_ok-n.ensures.least (open_operand c.index-ops-i.result) get) in
     subst (λ x. IsLeastFrom (instance_stock c.args.instance.now) c.args.limits (open_operands c.args.ops.now) c.args.i x) (sym c.sum_of.ensures) parts
 
@@ -322,7 +322,7 @@ pub orders_from-sum_of-requires : goal.orders_from-sum_of-requires
 orders_from-sum_of-requires t c =
     let got = slice_get_read _ _ _ _ refl c.requires.place c.index-ops-i.is in
     let get = inputs_at c.args.ops.now c.args.i c.index-ops-i.result got in
-    let first = (subst (λ o. IsLeast (instance_stock c.args.instance.now) c.args.limits (operand_ask (open_operand c.index-ops-i.result)) o) c.in-Some.is c.in_ok-m.ensures.least) in
+    let first = (subst (λ o. IsLeast (instance_stock c.args.instance.now) c.args.limits (operand_subgoal (open_operand c.index-ops-i.result)) o) c.in-Some.is c.in_ok-m.ensures.least) in
     let few = from_few c.args.instance.now c.args.limits c.args.ops.now c.args.i c.index-ops-i.result (Some c.in-Some.m) c.in_ok-n.n got first (c.in_ok-n.ensures.least (open_operand c.index-ops-i.result) get) in
     size_held (summed (Some c.in-Some.m) c.in_ok-n.n) _ _ few c.requires.at.1 c.requires.right.few
 
@@ -343,7 +343,7 @@ orders_after-orders-requires t c =
     let h = size-remove (open_operands c.args.ops.now) c.args.i (open_operand c.index-ops-i.result) get in
     let d : c.deref.result.now ≡ remove c.args.ops.now c.args.i = c.deref.ensures.value ∙ c.in_ok-rest.ensures in
     let e : open_operands c.deref.result.now ≡ remove (open_operands c.args.ops.now) c.args.i = ap open_operands d ∙ inputs_without c.args.ops.now c.args.i in
-    (omega (arith, h, ap operands_size e, size_pos (tree_term c.index-ops-i.result.tree.now), c.decreases), (subst (OperandsAt (nodes_of c.args.instance.now)) (sym d) (inputs_remove (nodes_of c.args.instance.now) c.args.ops.now c.args.i c.requires.at), (floor_none (instance_stock c.args.instance.now) c.after_home-later.result (open_operands c.deref.result.now), c.requires.right)))
+    (omega (arith, h, ap operands_size e, size_pos (model_of_tree c.index-ops-i.result.tree.now), c.decreases), (subst (OperandsAt (nodes_of c.args.instance.now)) (sym d) (inputs_remove (nodes_of c.args.instance.now) c.args.ops.now c.args.i c.requires.at), (floor_none (instance_stock c.args.instance.now) c.after_home-later.result (open_operands c.deref.result.now), c.requires.right)))
 
 pub orders_after-operand_cost-requires : goal.orders_after-operand_cost-requires
 orders_after-operand_cost-requires t c =
@@ -363,13 +363,13 @@ orders_after-returns-then-ops-eq2-clause-least t c =
     let got' : slice_get c.args.ops.now (1 - c.args.i) ≡ Some c.index-ops-i-then-ops-eq2.result = slice_get_read c.args.ops.now (length c.args.ops.now) (1 - c.args.i) _ refl (omega (arith, two, lt)) c.index-ops-i-then-ops-eq2.is in
     let get' = inputs_at c.args.ops.now (1 - c.args.i) c.index-ops-i-then-ops-eq2.result got' in
     let left = other_left (open_operands c.args.ops.now) c.args.i (open_operand c.index-ops-i-then-ops-eq2.result) (omega (arith, two, n)) (omega (arith, two, lt)) get' in
-    IfOk-weaker c.operand_cost.result (λ o. IsLeast (instance_stock c.args.instance.now) c.after_home-later.result (operand_ask (open_operand c.index-ops-i-then-ops-eq2.result)) o) (λ o. IsLeastAfter (instance_stock c.args.instance.now) c.args.limits (open_operands c.args.ops.now) c.args.i o)
+    IfOk-weaker c.operand_cost.result (λ o. IsLeast (instance_stock c.args.instance.now) c.after_home-later.result (operand_subgoal (open_operand c.index-ops-i-then-ops-eq2.result)) o) (λ o. IsLeastAfter (instance_stock c.args.instance.now) c.args.limits (open_operands c.args.ops.now) c.args.i o)
     (λ o least x here.
     let same : open_operand c.index-ops-i.result ≡ x = cc in
     subst (λ (y : Operand). IsLeastOrder (instance_stock c.args.instance.now) (after c.args.limits y.home) (remove (open_operands c.args.ops.now) c.args.i) o) same
-    (subst (λ xs. IsLeastOrder (instance_stock c.args.instance.now) (after c.args.limits (home_at c.index-ops-i.result.home)) xs o) (sym left)
-    (order_one (instance_stock c.args.instance.now) (after c.args.limits (home_at c.index-ops-i.result.home)) (open_operand c.index-ops-i-then-ops-eq2.result) o
-    (subst (λ s. IsLeast (instance_stock c.args.instance.now) s (operand_ask (open_operand c.index-ops-i-then-ops-eq2.result)) o) c.after_home-later.ensures least)))) c.operand_cost.ensures.least
+    (subst (λ xs. IsLeastOrder (instance_stock c.args.instance.now) (after c.args.limits (model_of_home c.index-ops-i.result.home)) xs o) (sym left)
+    (order_one (instance_stock c.args.instance.now) (after c.args.limits (model_of_home c.index-ops-i.result.home)) (open_operand c.index-ops-i-then-ops-eq2.result) o
+    (subst (λ s. IsLeast (instance_stock c.args.instance.now) s (operand_subgoal (open_operand c.index-ops-i-then-ops-eq2.result)) o) c.after_home-later.ensures least)))) c.operand_cost.ensures.least
 
 pub orders_after-returns-clause-least : goal.orders_after-returns-clause-least
 orders_after-returns-clause-least t c =
@@ -381,7 +381,7 @@ orders_after-returns-clause-least t c =
     (λ o least x here.
     let same : open_operand c.index-ops-i.result ≡ x = cc in
     subst (λ (y : Operand). IsLeastOrder (instance_stock c.args.instance.now) (after c.args.limits y.home) (remove (open_operands c.args.ops.now) c.args.i) o) same
-    (subst (λ xs. IsLeastOrder (instance_stock c.args.instance.now) (after c.args.limits (home_at c.index-ops-i.result.home)) xs o) e
+    (subst (λ xs. IsLeastOrder (instance_stock c.args.instance.now) (after c.args.limits (model_of_home c.index-ops-i.result.home)) xs o) e
     (subst (λ s. IsLeastOrder (instance_stock c.args.instance.now) s (open_operands c.deref.result.now) o) c.after_home-later.ensures least))) c.orders.ensures.least
 
 pub cuts_cost-returns-then-is_empty-clause-least : goal.cuts_cost-returns-then-is_empty-clause-least
@@ -392,21 +392,21 @@ cuts_cost-least-requires t c =
     let some : 0 < length c.args.cuts.now = search rules in
     let got = slice_get_read _ _ _ _ refl some c.index-cuts-0.is in
     let e = stored_split c.args.cuts.now c.index-cuts-0.result got in
-    (omega (arith, ap terms_size e, rank_free c.args.instance.now.file, c.decreases), (cut_slot, (stored_first _ c.args.cuts.now _ c.requires.at got, c.requires.right)))
+    (omega (arith, ap exprs_size e, rank_free c.args.instance.now.file, c.decreases), (cut_slot, (stored_first _ c.args.cuts.now _ c.requires.at got, c.requires.right)))
 
 pub cuts_cost-cuts_cost-requires : goal.cuts_cost-cuts_cost-requires
 cuts_cost-cuts_cost-requires t c =
     let some : 0 < length c.args.cuts.now = search rules in
     let got = slice_get_read _ _ _ _ refl some c.index-cuts-0.is in
     let e = stored_split c.args.cuts.now c.index-cuts-0.result got in
-    (omega (arith, ap terms_size e, ap (λ l. terms_size (open_cuts l)) (tail_is c.args.cuts.now), size_pos (tree_term c.index-cuts-0.result.tree.now), c.decreases), (subst (CutsAt (nodes_of c.args.instance.now)) (sym (tail_is c.args.cuts.now)) (stored_later (nodes_of c.args.instance.now) c.args.cuts.now c.requires.at), c.in_ok-m.ensures.right))
+    (omega (arith, ap exprs_size e, ap (λ l. exprs_size (open_cuts l)) (tail_is c.args.cuts.now), size_pos (model_of_tree c.index-cuts-0.result.tree.now), c.decreases), (subst (CutsAt (nodes_of c.args.instance.now)) (sym (tail_is c.args.cuts.now)) (stored_later (nodes_of c.args.instance.now) c.args.cuts.now c.requires.at), c.in_ok-m.ensures.right))
 
 pub cuts_cost-returns-clause-least : goal.cuts_cost-returns-clause-least
 cuts_cost-returns-clause-least t c =
     let some : 0 < length c.args.cuts.now = search rules in
     let got = slice_get_read _ _ _ _ refl some c.index-cuts-0.is in
     let e = stored_split c.args.cuts.now c.index-cuts-0.result got in
-    let parts = cut_more (instance_stock c.args.instance.now) (tree_term c.index-cuts-0.result.tree.now) (open_cuts (drop 1 c.args.cuts.now)) c.in_ok-m.m c.in_ok-n.n c.in_ok-m.ensures.least (subst (λ l. IsLeastCut (instance_stock c.args.instance.now) (open_cuts l) c.in_ok-n.n) (tail_is c.args.cuts.now) c.in_ok-n.ensures.least) in
+    let parts = cut_more (instance_stock c.args.instance.now) (model_of_tree c.index-cuts-0.result.tree.now) (open_cuts (drop 1 c.args.cuts.now)) c.in_ok-m.m c.in_ok-n.n c.in_ok-m.ensures.least (subst (λ l. IsLeastCut (instance_stock c.args.instance.now) (open_cuts l) c.in_ok-n.n) (tail_is c.args.cuts.now) c.in_ok-n.ensures.least) in
     subst (λ x. IsLeastCut (instance_stock c.args.instance.now) (open_cuts c.args.cuts.now) x) (sym c.sum_of.ensures) (subst (λ xs. IsLeastCut (instance_stock c.args.instance.now) xs (summed c.in_ok-m.m c.in_ok-n.n)) (sym e) parts)
 
 pub cuts_cost-sum_of-requires : goal.cuts_cost-sum_of-requires
@@ -419,6 +419,6 @@ cuts_cost-sum_of-requires t c =
 pub least-returns-clause-least : goal.least-returns-clause-least
 least-returns-clause-least t c =
     let n : length c.in_ok-costs.costs.items ≡ 18 = search rules in
-    subst (λ o. IsLeast (instance_stock c.args.instance.now) c.args.limits (row_ask (tree_term c.args.tree.now) c.args.whole c.args.slot) o)
+    subst (λ o. IsLeast (instance_stock c.args.instance.now) c.args.limits (row_subgoal (model_of_tree c.args.tree.now) c.args.whole c.args.slot) o)
     (same_default c.in_ok-costs.costs.items (place c.args.slot) c.index-cost.result.now None (let w = slot_within c.args.whole c.args.slot c.requires.slot in omega (arith, n, w)) (subst (λ j. c.index-cost.result.now ≡ get_or c.in_ok-costs.costs.items j c.index-cost.result.now) c.index.ensures.is c.index-cost.ensures))
     (c.in_ok-costs.ensures.least c.args.slot c.requires.slot)

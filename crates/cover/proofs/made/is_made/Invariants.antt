@@ -1,5 +1,5 @@
 use Rattle.std.proofs.Common.{ℕ, ◌<◌}
-use Rattle.form_model.specs.Trees.{tree_term}
+use Rattle.form_model.specs.Trees.{model_of_tree}
 use Rattle.cover.specs.Inner.Made.{NeverMakes}
 use Rattle.cover.specs.Inner.Jobs.{instance_stock}
 use Rattle.cover.specs.Inner.Tables.{AreRight}
@@ -7,6 +7,6 @@ use Rattle.cover.proofs.made.is_made.Given as goal
 
 abbrev pub invariant-loop-k : goal.invariant-loop-k
 invariant-loop-k l = record {
-  below : (k : ℕ) → k < l.k → NeverMakes (instance_stock l.instance) (tree_term l.tree) k;
+  below : (k : ℕ) → k < l.k → NeverMakes (instance_stock l.instance) (model_of_tree l.tree) k;
   right : AreRight l.instance l.table;
 }

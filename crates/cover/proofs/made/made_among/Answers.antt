@@ -1,7 +1,7 @@
 use Rattle.std.proofs.Common.{◌≡◌, length, arith, ap}
 use Rattle.std.specs.Borrow.{Bor}
 use Rattle.std.proofs.lemmas.List.{length-map}
-use Rattle.form_model.specs.Trees.{tree_term}
+use Rattle.form_model.specs.Trees.{model_of_tree}
 use Rattle.form_model.specs.declared.trees.Tree.{Tree}
 use Rattle.cover.specs.Inner.Jobs.{instance_stock, nodes_of}
 use Rattle.cover.proofs.MadeLemmas.{made_all}
@@ -10,6 +10,6 @@ use Rattle.cover.proofs.made.made_among.Goals as goal
 pub returns : goal.returns
 returns c =
     let n : c.loop-at.at ≡ length (nodes_of c.args.instance.now) = (let a = ap length c.requires.nodes in
-    let l = length-map c.args.nodes.now (λ (tree : Bor Tree). tree_term tree.now) in
+    let l = length-map c.args.nodes.now (λ (tree : Bor Tree). model_of_tree tree.now) in
     omega (arith, a, l, c.loop-at-test.false, c.loop-at.auto.at-end)) in
     made_all (instance_stock c.args.instance.now) (nodes_of c.args.instance.now) c.loop-at.at c.loop-at.made.items n c.loop-at.invariant.below

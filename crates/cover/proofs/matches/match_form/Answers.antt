@@ -1,13 +1,13 @@
 use Rattle.std.proofs.Common.{◌≡◌, Some, get_or, subst, sym}
 use Rattle.std.specs.Prelude.{slice_get}
 use Rattle.std.proofs.lemmas.Bool.{OnFalse_at}
-use Rattle.form_model.specs.Trees.{tree_term}
+use Rattle.form_model.specs.Trees.{model_of_tree}
 use Rattle.form_model.specs.declared.forms.Form.{Form}
-use Rattle.form_model.specs.Rules.{rule_of}
-use Rattle.tree_grammar.specs.Parts.{destination_at, sites_of}
-use Rattle.cover.specs.Inner.Matched.{AreLowSites}
+use Rattle.form_model.specs.Forms.{model_of_form}
+use Rattle.tree_grammar.specs.Leaves.{model_of_destination, models_of_leaves}
+use Rattle.cover.specs.Inner.Matched.{AreLowLeaves}
 use Rattle.cover.proofs.RowLemmas.{listed}
-use Rattle.cover.proofs.StartLemmas.{rule_at, start_of, start_at, start_low}
+use Rattle.cover.proofs.StartLemmas.{form_at, start_of, start_at, start_low}
 use Rattle.cover.proofs.MatchLemmas.{form_match, never_goal, never_match, never_value}
 use Rattle.cover.proofs.matches.match_form.Goals as goal
 
@@ -15,9 +15,9 @@ pub returns : goal.returns
 returns c =
     let form : Form = get_or c.args.instance.now.forms.now c.args.k c.index-instance-k.result in
     let got : slice_get c.args.instance.now.forms.now c.args.k ≡ Some form = listed _ _ _ c.requires.form in
-    let s = start_of c.args.instance.now form c.args.k c.in-Some.goal (tree_term c.args.tree.now) c.args.whole (destination_at c.destination_of_entry.result) c.goal_of.result c.in_ok-found.field-0 c.in-Some-2.found got (c.goal_of.ensures.is, c.goal_of.ensures.slot) c.in-Some.is c.in_ok-found.ensures.found c.in-Some-2.is c.destination_of_entry.ensures in
-    let at = start_at c.args.number c.in-Some.goal (tree_term c.args.tree.now) (destination_at c.destination_of_entry.result) c.in_ok-found.field-0 c.in-Some-2.found c.in_ok-found.ensures.at c.in-Some-2.is c.destination_of_entry.ensures in (
-      form_match c.args.instance.now form c.args.k c.in-Some.goal (tree_term c.args.tree.now) c.args.whole c.args.number c.in-Some-2.found c.deref.result.now c.in_ok-opened.opened c.requires.number s at c.deref.ensures.value c.cells_of-cells.result c.cells_of-cells.ensures c.in_ok-opened.ensures,
+    let s = start_of c.args.instance.now form c.args.k c.in-Some.goal (model_of_tree c.args.tree.now) c.args.whole (model_of_destination c.destination_of_entry.result) c.goal_of.result c.in_ok-found.field-0 c.in-Some-2.found got (c.goal_of.ensures.is, c.goal_of.ensures.slot) c.in-Some.is c.in_ok-found.ensures.found c.in-Some-2.is c.destination_of_entry.ensures in
+    let at = start_at c.args.number c.in-Some.goal (model_of_tree c.args.tree.now) (model_of_destination c.destination_of_entry.result) c.in_ok-found.field-0 c.in-Some-2.found c.in_ok-found.ensures.at c.in-Some-2.is c.destination_of_entry.ensures in (
+      form_match c.args.instance.now form c.args.k c.in-Some.goal (model_of_tree c.args.tree.now) c.args.whole c.args.number c.in-Some-2.found c.deref.result.now c.in_ok-opened.opened c.requires.number s at c.deref.ensures.value c.cells_of-cells.result c.cells_of-cells.ensures c.in_ok-opened.ensures,
       c.in_ok-opened.ensures.form,
     )
 
@@ -25,29 +25,29 @@ pub open_match-requires : goal.open_match-requires
 open_match-requires c =
     let form : Form = get_or c.args.instance.now.forms.now c.args.k c.index-instance-k.result in
     let got : slice_get c.args.instance.now.forms.now c.args.k ≡ Some form = listed _ _ _ c.requires.form in
-    let s = start_of c.args.instance.now form c.args.k c.in-Some.goal (tree_term c.args.tree.now) c.args.whole (destination_at c.destination_of_entry.result) c.goal_of.result c.in_ok-found.field-0 c.in-Some-2.found got (c.goal_of.ensures.is, c.goal_of.ensures.slot) c.in-Some.is c.in_ok-found.ensures.found c.in-Some-2.is c.destination_of_entry.ensures in
-    let low = start_low c.args.instance.now form c.args.k c.in-Some.goal (tree_term c.args.tree.now) c.args.whole c.in-Some-2.found s in
-    record { low = subst (λ l. AreLowSites (sites_of l)) (sym c.deref.ensures.value) low }
+    let s = start_of c.args.instance.now form c.args.k c.in-Some.goal (model_of_tree c.args.tree.now) c.args.whole (model_of_destination c.destination_of_entry.result) c.goal_of.result c.in_ok-found.field-0 c.in-Some-2.found got (c.goal_of.ensures.is, c.goal_of.ensures.slot) c.in-Some.is c.in_ok-found.ensures.found c.in-Some-2.is c.destination_of_entry.ensures in
+    let low = start_low c.args.instance.now form c.args.k c.in-Some.goal (model_of_tree c.args.tree.now) c.args.whole c.in-Some-2.found s in
+    record { low = subst (λ l. AreLowLeaves (models_of_leaves l)) (sym c.deref.ensures.value) low }
 
 pub goal_of-requires : goal.goal_of-requires
 goal_of-requires c =
     let form : Form = get_or c.args.instance.now.forms.now c.args.k c.index-instance-k.result in
-    (c.args.instance.now.low c.args.k (rule_of form) (rule_at c.args.instance.now c.args.k form (listed _ _ _ c.requires.form))).0
+    (c.args.instance.now.low c.args.k (model_of_form form) (form_at c.args.instance.now c.args.k form (listed _ _ _ c.requires.form))).0
 
 pub returns-in_default : goal.returns-in_default
 returns-in_default c =
     let form : Form = get_or c.args.instance.now.forms.now c.args.k c.index-instance-k.result in
     let got : slice_get c.args.instance.now.forms.now c.args.k ≡ Some form = listed _ _ _ c.requires.form in
-    never_goal c.args.instance.now form c.args.k (tree_term c.args.tree.now) c.args.whole c.goal_of.result got c.goal_of.ensures.is c.in_default.is
+    never_goal c.args.instance.now form c.args.k (model_of_tree c.args.tree.now) c.args.whole c.goal_of.result got c.goal_of.ensures.is c.in_default.is
 
 pub returns-in_default-2 : goal.returns-in_default-2
 returns-in_default-2 c =
     let form : Form = get_or c.args.instance.now.forms.now c.args.k c.index-instance-k.result in
     let got : slice_get c.args.instance.now.forms.now c.args.k ≡ Some form = listed _ _ _ c.requires.form in
-    never_match c.args.instance.now form c.args.k c.in-Some.goal (tree_term c.args.tree.now) c.args.whole (destination_at c.destination_of_entry.result) c.goal_of.result c.in_ok-found.field-0 got c.goal_of.ensures.is c.in-Some.is c.destination_of_entry.ensures c.in_ok-found.ensures.found c.in_default-2.is
+    never_match c.args.instance.now form c.args.k c.in-Some.goal (model_of_tree c.args.tree.now) c.args.whole (model_of_destination c.destination_of_entry.result) c.goal_of.result c.in_ok-found.field-0 got c.goal_of.ensures.is c.in-Some.is c.destination_of_entry.ensures c.in_ok-found.ensures.found c.in_default-2.is
 
 pub returns-then-not-may_take : goal.returns-then-not-may_take
 returns-then-not-may_take c =
     let form : Form = get_or c.args.instance.now.forms.now c.args.k c.index-instance-k.result in
     let got : slice_get c.args.instance.now.forms.now c.args.k ≡ Some form = listed _ _ _ c.requires.form in
-    never_value c.args.instance.now form c.args.k (tree_term c.args.tree.now) c.args.whole got (OnFalse_at c.if-not-may_take.true c.may_take.ensures)
+    never_value c.args.instance.now form c.args.k (model_of_tree c.args.tree.now) c.args.whole got (OnFalse_at c.if-not-may_take.true c.may_take.ensures)

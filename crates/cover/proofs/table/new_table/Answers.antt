@@ -1,6 +1,6 @@
 use Rattle.std.proofs.Common.{◌≡◌, ◌∙◌, length, subst, rules}
 use Rattle.std.proofs.lemmas.Bool.{OnTrue_at}
-use Rattle.cover.specs.Inner.Asks.{AreFew}
+use Rattle.cover.specs.Inner.Subgoals.{AreFew}
 use Rattle.cover.specs.Inner.Tables.{IsKept, HasMatches}
 use Rattle.cover.proofs.TableLemmas.{empty_kept}
 use Rattle.cover.proofs.table.new_table.Goals as goal

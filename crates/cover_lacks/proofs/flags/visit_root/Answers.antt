@@ -2,8 +2,8 @@ use Rattle.std.proofs.Common.{◌≡◌, Some, false, arith, ap, ◌∙◌, leng
 use Rattle.std.specs.Prelude.{◌==◌, slice_get}
 use Rattle.std.proofs.lemmas.List.{length-replicate}
 use Rattle.std.proofs.lemmas.Option.{slice_get_within}
-use Rattle.form_model.specs.Trees.{tree_term}
-use Rattle.tree_grammar.specs.Parts.{destination_at}
+use Rattle.form_model.specs.Trees.{model_of_tree}
+use Rattle.tree_grammar.specs.Leaves.{model_of_destination}
 use Rattle.cover_lacks.specs.Lacks.{RootAsks}
 use Rattle.cover_lacks.specs.Inner.Asked.{search_nodes, search_stock}
 use Rattle.cover_lacks.specs.Inner.Flags.{Marked}
@@ -25,8 +25,8 @@ mark-requires c = record {
 pub returns-then-not-is_empty : goal.returns-then-not-is_empty
 returns-then-not-is_empty c =
     let search = c.args.search.now in
-    let d = destination_at search.destination in
-    let root = tree_term search.tree.now in
+    let d = model_of_destination search.destination in
+    let root = model_of_tree search.tree.now in
     let numbers = c.in_ok-numbers.numbers.items in
     let missed = c.args.flags.now.missed.items in
     let len : c.in_ok-numbers.numbers.len ≡ length numbers = omega (arith, c.in_ok-numbers.numbers.ok.0) in
@@ -38,7 +38,7 @@ returns-then-not-is_empty c =
 pub index_mut-requires : goal.index_mut-requires
 index_mut-requires c =
     let nodes = search_nodes c.args.search.now in
-    let w = slice_get_within nodes c.in_ok-root.root (tree_term c.args.search.now.tree.now) c.in_ok-root.ensures in
+    let w = slice_get_within nodes c.in_ok-root.root (model_of_tree c.args.search.now.tree.now) c.in_ok-root.ensures in
     let len = ap length c.requires.clear.none_lacking ∙ length-replicate (length nodes) false in
     omega (arith, w, len)
 
@@ -46,8 +46,8 @@ pub returns : goal.returns
 returns c =
     let search = c.args.search.now in
     let stock = search_stock search in
-    let d = destination_at search.destination in
-    let root = tree_term search.tree.now in
+    let d = model_of_destination search.destination in
+    let root = model_of_tree search.tree.now in
     let numbers = c.in_ok-numbers.numbers.items in
     let len : c.in_ok-numbers.numbers.len ≡ length numbers = omega (arith, c.in_ok-numbers.numbers.ok.0) in
     let all = has_all stock (search_nodes search) (RootAsks stock d root) (length search.forms.now) (root_bound search.forms.now search.temps search.file d root) numbers c.in_ok-numbers.ensures (none_of numbers c.is_empty.result (c.is_empty.ensures ∙ ap (λ n. n == 0) len) c.if-not-is_empty.false) in

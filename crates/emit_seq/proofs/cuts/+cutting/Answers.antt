@@ -3,12 +3,12 @@ use Rattle.std.proofs.lemmas.Grind.{common_steps}
 use Rattle.std.proofs.lemmas.Result.{IfOk-from_err, IfOk-weaker}
 use Rattle.form_model.specs.declared.covers.CoverOperands.{CoverOperands}
 use Rattle.form_model.specs.Covers.{AreOrderly, AreCut}
-use Rattle.form_model.specs.Plans.{cuts_plan, operands_cost, operands_plan, plan_of, operand_then}
-use Rattle.form_model.specs.Trees.{tree_term}
+use Rattle.form_model.specs.CoverModels.{model_of_cover_cuts, operands_cost, model_of_cover_operands, model_of_cover, operand_then}
+use Rattle.form_model.specs.Trees.{model_of_tree}
 use Rattle.form_model.specs.Steps.{inside_operands, operand_counts}
-use Rattle.tree_grammar.specs.Parts.{destination_at}
+use Rattle.tree_grammar.specs.Leaves.{model_of_destination}
 use Rattle.emit_seq.specs.Inner.CellLists.{operands_in, trees_in}
-use Rattle.emit_seq.specs.Views.{cells_of_operand, cells_of_operands, cells_of_cuts, stock_of}
+use Rattle.emit_seq.specs.Models.{model_of_operand_cells, models_of_operand_cells, models_of_cut_cells, model_of_stock}
 use Rattle.emit_seq.proofs.Orderly.{left_orderly, root_operands, inside_long, places_of, root_cuts}
 use Rattle.emit_seq.specs.declared.cells.CutCells.{CutCells}
 use Rattle.emit_seq.proofs.cuts.+cutting.Goals as goal
@@ -51,34 +51,34 @@ into_cells-returns-in_err-lists-in-len1-up t c = IfOk-from_err c.from_residual-i
 
 pub cut_steps-inside_operands-requires : goal.cut_steps-inside_operands-requires
 cut_steps-inside_operands-requires t c =
-    (omega arith, root_operands (stock_of c.args.stock) c.args.cover.now.form (operands_plan c.args.cover.now.operands) (cuts_plan c.args.cover.now.cuts) (destination_at c.args.covered.destination) (tree_term c.args.covered.tree.now) c.args.covered.whole c.requires c.args.covered.first c.args.covered.held c.in_ok-root.root c.in_ok-root.ensures)
+    (omega arith, root_operands (model_of_stock c.args.stock) c.args.cover.now.form (model_of_cover_operands c.args.cover.now.operands) (model_of_cover_cuts c.args.cover.now.cuts) (model_of_destination c.args.covered.destination) (model_of_tree c.args.covered.tree.now) c.args.covered.whole c.requires c.args.covered.first c.args.covered.held c.in_ok-root.root c.in_ok-root.ensures)
 
 pub cut_steps-into_cells-requires : goal.cut_steps-into_cells-requires
 cut_steps-into_cells-requires t c = (
   omega arith,
-  subst (λ (l : List CutCells). AreCut (stock_of c.args.stock) (trees_in (cells_of_cuts l)) (cuts_plan c.args.cover.now.cuts)) (sym c.as_slice.ensures.value)
-      (root_cuts (stock_of c.args.stock) c.args.cover.now.form (operands_plan c.args.cover.now.operands) (cuts_plan c.args.cover.now.cuts) (destination_at c.args.covered.destination) (tree_term c.args.covered.tree.now) c.args.covered.whole c.requires c.args.covered.first c.args.covered.held c.in_ok-root.root c.in_ok-root.ensures),
+  subst (λ (l : List CutCells). AreCut (model_of_stock c.args.stock) (trees_in (models_of_cut_cells l)) (model_of_cover_cuts c.args.cover.now.cuts)) (sym c.as_slice.ensures.value)
+      (root_cuts (model_of_stock c.args.stock) c.args.cover.now.form (model_of_cover_operands c.args.cover.now.operands) (model_of_cover_cuts c.args.cover.now.cuts) (model_of_destination c.args.covered.destination) (model_of_tree c.args.covered.tree.now) c.args.covered.whole c.requires c.args.covered.first c.args.covered.held c.in_ok-root.root c.in_ok-root.ensures),
 )
 
 pub inside_operands-inside_operands-requires : goal.inside_operands-inside_operands-requires
 inside_operands-inside_operands-requires t c =
-    let stock = stock_of c.args.stock in
-    let left = cells_of_operands c.args.left.now.items in
-    let orderly = subst (λ (o : CoverOperands). AreOrderly stock (operands_in left) (operands_plan o)) c.in-Then.is c.requires in (
-      (let e = ap (λ (o : CoverOperands). operands_cost (operands_plan o)) c.in-Then.is in let f = ap (λ (o : CoverOperands). operands_cost (operands_plan o)) c.deref-in-Then.ensures in omega (arith, e, f, c.decreases)),
-      subst (λ (o : CoverOperands). AreOrderly stock (operands_in (cells_of_operands c.take_out.new.left.items)) (operands_plan o)) (sym c.deref-in-Then.ensures)
-          (left_orderly stock left c.in-Then.place (plan_of c.in-Then.cover.value) (operands_plan c.in-Then.rest.value) orderly (cells_of_operand c.take_out.result) (cells_of_operands c.take_out.new.left.items) c.take_out.ensures),
+    let stock = model_of_stock c.args.stock in
+    let left = models_of_operand_cells c.args.left.now.items in
+    let orderly = subst (λ (o : CoverOperands). AreOrderly stock (operands_in left) (model_of_cover_operands o)) c.in-Then.is c.requires in (
+      (let e = ap (λ (o : CoverOperands). operands_cost (model_of_cover_operands o)) c.in-Then.is in let f = ap (λ (o : CoverOperands). operands_cost (model_of_cover_operands o)) c.deref-in-Then.ensures in omega (arith, e, f, c.decreases)),
+      subst (λ (o : CoverOperands). AreOrderly stock (operands_in (models_of_operand_cells c.take_out.new.left.items)) (model_of_cover_operands o)) (sym c.deref-in-Then.ensures)
+          (left_orderly stock left c.in-Then.place (model_of_cover c.in-Then.cover.value) (model_of_cover_operands c.in-Then.rest.value) orderly (model_of_operand_cells c.take_out.result) (models_of_operand_cells c.take_out.new.left.items) c.take_out.ensures),
     )
 
 pub inside_operands-inserted-requires : goal.inside_operands-inserted-requires
 inside_operands-inserted-requires t c =
-    let stock = stock_of c.args.stock in
-    let left = cells_of_operands c.args.left.now.items in
-    let ps = operands_plan c.in-Then.rest.value in
+    let stock = model_of_stock c.args.stock in
+    let left = models_of_operand_cells c.args.left.now.items in
+    let ps = model_of_cover_operands c.in-Then.rest.value in
     let others = c.in_ok-others-in-Then.others in
-    let new = cells_of_operands c.take_out.new.left.items in
-    let orderly = subst (λ (o : CoverOperands). AreOrderly stock (operands_in left) (operands_plan o)) c.in-Then.is c.requires in
-    let places = places_of stock (operand_then c.in-Then.place (plan_of c.in-Then.cover.value) ps) (operands_in left) orderly in
+    let new = models_of_operand_cells c.take_out.new.left.items in
+    let orderly = subst (λ (o : CoverOperands). AreOrderly stock (operands_in left) (model_of_cover_operands o)) c.in-Then.is c.requires in
+    let places = places_of stock (operand_then c.in-Then.place (model_of_cover c.in-Then.cover.value) ps) (operands_in left) orderly in
     let long : length others.items ≡ length (operand_counts ps) =
-    ap length c.in_ok-others-in-Then.ensures ∙ ap (λ (o : CoverOperands). length (inside_operands stock (operands_plan o) new)) c.deref-in-Then.ensures ∙ inside_long stock ps new in
+    ap length c.in_ok-others-in-Then.ensures ∙ ap (λ (o : CoverOperands). length (inside_operands stock (model_of_cover_operands o) new)) c.deref-in-Then.ensures ∙ inside_long stock ps new in
     omega (arith, places.0, long, others.ok.0)

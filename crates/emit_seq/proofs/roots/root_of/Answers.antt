@@ -1,9 +1,9 @@
 use Rattle.std.proofs.lemmas.Result.{IfOk-from_err}
-use Rattle.form_model.specs.Plans.{cuts_plan, operands_plan, plan_of}
-use Rattle.form_model.specs.Trees.{tree_term}
-use Rattle.tree_grammar.specs.Parts.{destination_at}
-use Rattle.emit_seq.specs.Views.{stock_of}
-use Rattle.emit_seq.proofs.Orderly.{operand_places, plan_listed}
+use Rattle.form_model.specs.CoverModels.{model_of_cover_cuts, model_of_cover_operands, model_of_cover}
+use Rattle.form_model.specs.Trees.{model_of_tree}
+use Rattle.tree_grammar.specs.Leaves.{model_of_destination}
+use Rattle.emit_seq.specs.Models.{model_of_stock}
+use Rattle.emit_seq.proofs.Orderly.{operand_places, cover_listed}
 use Rattle.emit_seq.proofs.roots.root_of.Goals as goal
 
 pub returns-in_err-found : goal.returns-in_err-found
@@ -17,7 +17,7 @@ returns-in_err-setting c = IfOk-from_err c.from_residual-in_err-setting.result _
 
 pub cells_from-requires : goal.cells_from-requires
 cells_from-requires c =
-    operand_places (stock_of c.args.stock) c.args.cover.now.form (operands_plan c.args.cover.now.operands) (cuts_plan c.args.cover.now.cuts) (destination_at c.args.covered.destination) (tree_term c.args.covered.tree.now) c.args.covered.whole c.requires
+    operand_places (model_of_stock c.args.stock) c.args.cover.now.form (model_of_cover_operands c.args.cover.now.operands) (model_of_cover_cuts c.args.cover.now.cuts) (model_of_destination c.args.covered.destination) (model_of_tree c.args.covered.tree.now) c.args.covered.whole c.requires
 
 pub setting_with-requires : goal.setting_with-requires
-setting_with-requires c = plan_listed (stock_of c.args.stock) (plan_of c.args.cover.now) (destination_at c.args.covered.destination) (tree_term c.args.covered.tree.now) c.args.covered.whole c.requires
+setting_with-requires c = cover_listed (model_of_stock c.args.stock) (model_of_cover c.args.cover.now) (model_of_destination c.args.covered.destination) (model_of_tree c.args.covered.tree.now) c.args.covered.whole c.requires

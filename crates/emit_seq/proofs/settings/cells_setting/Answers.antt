@@ -2,7 +2,7 @@ use Rattle.std.proofs.Common.{bit_or, sym, ap, ◌∙◌, arith}
 use Rattle.std.specs.Int.Bits.{or_zero_r}
 use Rattle.std.proofs.lemmas.List.{drop_all}
 use Rattle.form_model.specs.Steps.{cells_setting}
-use Rattle.emit_seq.specs.Views.{cells_of_cuts}
+use Rattle.emit_seq.specs.Models.{models_of_cut_cells}
 use Rattle.emit_seq.proofs.Emitting.{cut_joined}
 use Rattle.emit_seq.proofs.settings.cells_setting.Goals as goal
 
@@ -14,5 +14,5 @@ loop-cut-preserved c =
 pub returns : goal.returns
 returns c =
     sym (or_zero_r c.loop-cut.setting)
-    ∙ ap (λ z. bit_or c.loop-cut.setting (cells_setting (cells_of_cuts z))) (sym (drop_all c.loop-cut.cut-index c.args.cuts.now (omega arith)))
+    ∙ ap (λ z. bit_or c.loop-cut.setting (cells_setting (models_of_cut_cells z))) (sym (drop_all c.loop-cut.cut-index c.args.cuts.now (omega arith)))
     ∙ c.loop-cut.invariant

@@ -1,5 +1,5 @@
 use Rattle.bit_bdd.proofs.CallerLemmas.{extends_trans}
-use Rattle.form_model.specs.Rules.{rules_of}
+use Rattle.form_model.specs.Forms.{models_of_forms}
 use Rattle.transfer_set.specs.Rows.{row_patterns}
 use Rattle.transfer_set.proofs.ReadyLaws.{ready_later}
 use Rattle.form_set.proofs.LowForms.{forms_low}
@@ -12,7 +12,7 @@ list_of-requires c = record { ready = ready_later c.args.checked.now.netlist c.a
 pub returns-clause-forms : goal.returns-clause-forms
 returns-clause-forms c = record {
   list = c.in_ok-list.ensures.list;
-  greatest_is = greatest_is c.args.checked.now.netlist c.in_ok-reach.reach 0 (row_patterns c.args.pool.now c.args.patterns.now.rows) (rules_of c.in_ok-list.list.items)
+  greatest_is = greatest_is c.args.checked.now.netlist c.in_ok-reach.reach 0 (row_patterns c.args.pool.now c.args.patterns.now.rows) (models_of_forms c.in_ok-list.list.items)
       c.in_ok-reach.reach c.in_ok-list.ensures.list c.in_ok-reach.ensures.reach;
 }
 
@@ -33,5 +33,5 @@ returns-in_err-list-clause-ready c =
 pub invariant_of-result : goal.invariant_of-result
 invariant_of-result c = record {
   low = forms_low c.args.checked.now.netlist c.args.checked.now.order c.netlist-netlist.ensures.kept c.in_ok-reach.reach (row_patterns c.args.pool.now c.args.patterns.now.rows)
-      (rules_of c.in_ok-list.list.items) c.requires.ready.patterns.each c.in_ok-list.ensures.list;
+      (models_of_forms c.in_ok-list.list.items) c.requires.ready.patterns.each c.in_ok-list.ensures.list;
 }

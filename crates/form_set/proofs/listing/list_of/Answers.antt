@@ -1,9 +1,9 @@
 use Rattle.std.proofs.Common.{add-one, arith}
 use Rattle.bit_bdd.proofs.CallerLemmas.{extends_trans}
-use Rattle.form_model.specs.Rules.{rules_of}
+use Rattle.form_model.specs.Forms.{models_of_forms}
 use Rattle.transfer_set.specs.Rows.{row_patterns}
 use Rattle.transfer_set.proofs.ReadyLaws.{ready_later}
-use Rattle.form_set.proofs.RuleLists.{rules_next, told_some}
+use Rattle.form_set.proofs.RuleLists.{forms_next, told_some}
 use Rattle.form_set.proofs.listing.list_of.Goals as goal
 
 pub add_number-requires : goal.add_number-requires
@@ -18,6 +18,6 @@ loop-number-preserved c =
     record {
       grows = extends_trans c.args.book.now c.loop-number.book c.add_number.new.book c.loop-number.invariant.grows c.add_number.ensures.grows;
       list = rw (add-one n)
-          (rules_next c.args.checked.now.netlist c.args.reach (row_patterns c.args.pool.now c.args.patterns.now.rows) n some.0 some.1
-          (rules_of c.loop-number.list.items) (rules_of c.add_number.new.list.items) c.loop-number.invariant.list (c.in_ok-add_number.ensures.added some.0 some.1));
+          (forms_next c.args.checked.now.netlist c.args.reach (row_patterns c.args.pool.now c.args.patterns.now.rows) n some.0 some.1
+          (models_of_forms c.loop-number.list.items) (models_of_forms c.add_number.new.list.items) c.loop-number.invariant.list (c.in_ok-add_number.ensures.added some.0 some.1));
     }

@@ -1,5 +1,5 @@
 use Rattle.std.proofs.Common.{◌∙◌, ap}
-use Rattle.net_model.specs.Terms.{Term, term_of}
+use Rattle.net_model.specs.Exprs.{ExprModel, model_of_expr}
 use Rattle.form_set.specs.Swaps.{levels}
 use Rattle.form_set.specs.Inner.LevelSwaps.{left_levels, swap_levels}
 use Rattle.form_set.proofs.Swapping.{all_left, all_swap}
@@ -7,10 +7,10 @@ use Rattle.form_set.proofs.swaps.swap_expr.Goals as goal
 
 pub returns-clause-left : goal.returns-clause-left
 returns-clause-left c =
-    let t : Term = term_of c.args.expr.now in
+    let t : ExprModel = model_of_expr c.args.expr.now in
     c.swap_levels.ensures.left ∙ ap (λ n. left_levels n 0 c.args.choice t) c.levels-levels.ensures ∙ all_left (levels t) 0 c.args.choice t
 
 pub returns-clause-swapped : goal.returns-clause-swapped
 returns-clause-swapped c =
-    let t : Term = term_of c.args.expr.now in
+    let t : ExprModel = model_of_expr c.args.expr.now in
     c.swap_levels.ensures.swapped ∙ ap (λ n. swap_levels n 0 c.args.choice t) c.levels-levels.ensures ∙ all_swap (levels t) 0 c.args.choice t

@@ -1,7 +1,7 @@
 use Rattle.std.proofs.Common.{◌≡◌, ◌<◌, ◌∙◌, sym, ap, subst, true≢false, List, length, max, get_or, arith, rules}
 use Rattle.bit_bdd.proofs.CallerLemmas.{extends_trans}
 use Rattle.form_model.specs.declared.forms.Form.{Form}
-use Rattle.form_model.specs.Rules.{rule_of}
+use Rattle.form_model.specs.Forms.{model_of_form}
 use Rattle.transfer_set.specs.Rows.{row_patterns}
 use Rattle.mode_set.proofs.KeptForms.{kept_next, left_next, listed, low_next, reach_next}
 use Rattle.mode_set.proofs.kept.keeping.Goals as goal
@@ -22,7 +22,7 @@ loop-form-preserved c =
       grows = extends_trans c.args.book.now c.loop-form.book c.keeps.new.book before.grows c.keeps.ensures.grows;
       ready = c.keeps.ensures.ready;
       low = elim c.if-kept.branch [
-        | then-kept+in_ok-copy_form+in_ok-push w ↦ rw w.list-is (low_next netlist patterns c.args.mode forms i form lt is c.loop-form.list.items w.push.new.self.items _ w.in_ok-push.ensures.items w.in_ok-copy_form.ensures before.low (c.args.forms.now.low i (rule_of form) (listed forms i form lt is)))
+        | then-kept+in_ok-copy_form+in_ok-push w ↦ rw w.list-is (low_next netlist patterns c.args.mode forms i form lt is c.loop-form.list.items w.push.new.self.items _ w.in_ok-push.ensures.items w.in_ok-copy_form.ensures before.low (c.args.forms.now.low i (model_of_form form) (listed forms i form lt is)))
         | else-kept w ↦ rw w.list-is before.low
       ];
       kept = elim c.if-kept.branch [

@@ -1,7 +1,7 @@
 use Rattle.std.proofs.Common.{◌≡◌, Some, take}
 use Rattle.bit_bdd.specs.Diagrams.{Extends}
 use Rattle.form_model.specs.Registers.{AreLow}
-use Rattle.form_model.specs.Rules.{rules_of}
+use Rattle.form_model.specs.Forms.{models_of_forms}
 use Rattle.form_set.specs.Listing.{greatest_reach}
 use Rattle.mode_set.specs.Keeping.{AreKeeping}
 use Rattle.transfer_set.specs.Ready.{IsReady}
@@ -13,7 +13,7 @@ abbrev pub invariant-loop-form : goal.invariant-loop-form
 invariant-loop-form l = record {
   grows : Extends l.initial.book l.book;
   ready : IsReady l.checked.netlist l.book l.pool l.patterns;
-  low : AreLow (rules_of l.list.items);
-  kept : AreKeeping l.checked.netlist (row_patterns l.pool l.patterns.rows) (Some l.mode) (rules_of (take l.form-index l.forms.list.items)) (rules_of l.list.items);
-  far : l.reach ≡ greatest_reach (rules_of l.list.items);
+  low : AreLow (models_of_forms l.list.items);
+  kept : AreKeeping l.checked.netlist (row_patterns l.pool l.patterns.rows) (Some l.mode) (models_of_forms (take l.form-index l.forms.list.items)) (models_of_forms l.list.items);
+  far : l.reach ≡ greatest_reach (models_of_forms l.list.items);
 }

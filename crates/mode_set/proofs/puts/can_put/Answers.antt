@@ -1,5 +1,5 @@
 use Rattle.std.proofs.Common.{◌∙◌, sym}
-use Rattle.form_model.specs.Rules.{rule_of}
+use Rattle.form_model.specs.Forms.{model_of_form}
 use Rattle.mode_set.proofs.Putting.{can_put_none, none_puts_more, none_told}
 use Rattle.mode_set.proofs.puts.can_put.Goals as goal
 
@@ -7,7 +7,7 @@ pub loop-form-preserved : goal.loop-form-preserved
 loop-form-preserved c =
     let forms = c.args.forms.now in
     none_puts_more c.args.mode c.args.value forms c.loop-form.form-index c.form-item.result c.loop-form-test.true c.form-item.is c.loop-form.invariant
-    (none_told c.args.mode c.args.value (rule_of c.form-item.result) c.in_ok-setting.setting c.in_ok-setting.ensures (sym c.is_some.ensures ∙ c.if-is_some.false))
+    (none_told c.args.mode c.args.value (model_of_form c.form-item.result) c.in_ok-setting.setting c.in_ok-setting.ensures (sym c.is_some.ensures ∙ c.if-is_some.false))
 
 pub returns : goal.returns
 returns c = (

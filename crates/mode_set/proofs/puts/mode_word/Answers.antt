@@ -2,7 +2,7 @@ use Rattle.std.proofs.Common.{◌≡◌, ◌<◌, ◌≤◌, subst, length, get_
 use Rattle.std.proofs.lemmas.List.{take_all}
 use Rattle.bit_bdd.proofs.CallerLemmas.{extends_trans}
 use Rattle.form_model.specs.declared.forms.Form.{Form}
-use Rattle.form_model.specs.Rules.{rule_of, rules_of}
+use Rattle.form_model.specs.Forms.{model_of_form, models_of_forms}
 use Rattle.transfer_set.specs.Rows.{row_patterns}
 use Rattle.mode_set.specs.ModeWords.{IsLeastModeWord}
 use Rattle.mode_set.proofs.Putting.{IsPutSetting, word_more, word_other}
@@ -35,9 +35,9 @@ loop-form-preserved c =
       ];
       least = elim c.match-setting.branch [
         | in-Some+in_ok-next w ↦ rw (w.least-is, w.lesser-least.ensures) (word_more netlist order kept pool table each told_file c.args.mode c.requires.mode c.requires.edition forms c.requires.forms.0 c.requires.forms.1.list c.args.value
-            i form lt is c.loop-form.least w.in_ok-next.next w.in-Some.bits (subst (IsPutSetting c.args.mode c.args.value (rule_of form)) w.in-Some.is c.in_ok-setting.ensures) before.least w.in_ok-next.ensures.word)
+            i form lt is c.loop-form.least w.in_ok-next.next w.in-Some.bits (subst (IsPutSetting c.args.mode c.args.value (model_of_form form)) w.in-Some.is c.in_ok-setting.ensures) before.least w.in_ok-next.ensures.word)
         | in_default w ↦ rw w.least-is (word_other netlist order kept pool table each told_file c.args.mode c.requires.mode c.requires.edition forms c.requires.forms.0 c.requires.forms.1.list c.args.value
-            i form lt is c.loop-form.least (subst (IsPutSetting c.args.mode c.args.value (rule_of form)) w.in_default.is c.in_ok-setting.ensures) before.least)
+            i form lt is c.loop-form.least (subst (IsPutSetting c.args.mode c.args.value (model_of_form form)) w.in_default.is c.in_ok-setting.ensures) before.least)
       ];
     }
 
@@ -45,5 +45,5 @@ pub returns-clause-word : goal.returns-clause-word
 returns-clause-word c =
     let forms = c.args.forms.now.list.items in
     let all : length forms ≤ c.loop-form.form-index = omega arith in
-    subst (λ (list : List Form). IsLeastModeWord c.args.checked.now.netlist (Some c.args.mode) (row_patterns c.args.pool.now c.args.patterns.now.rows) (rules_of list) c.args.value c.loop-form.least)
+    subst (λ (list : List Form). IsLeastModeWord c.args.checked.now.netlist (Some c.args.mode) (row_patterns c.args.pool.now c.args.patterns.now.rows) (models_of_forms list) c.args.value c.loop-form.least)
     (take_all c.loop-form.form-index forms all) c.loop-form.invariant.least

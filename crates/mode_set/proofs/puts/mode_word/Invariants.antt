@@ -1,6 +1,6 @@
 use Rattle.std.proofs.Common.{Some, take}
 use Rattle.bit_bdd.specs.Diagrams.{Extends}
-use Rattle.form_model.specs.Rules.{rules_of}
+use Rattle.form_model.specs.Forms.{models_of_forms}
 use Rattle.mode_set.specs.ModeWords.{IsLeastModeWord}
 use Rattle.transfer_set.specs.Ready.{IsReady}
 use Rattle.transfer_set.specs.Rows.{row_patterns}
@@ -11,5 +11,5 @@ abbrev pub invariant-loop-form : goal.invariant-loop-form
 invariant-loop-form l = record {
   grows : Extends l.initial.book l.book;
   ready : IsReady l.checked.netlist l.book l.pool l.patterns;
-  least : IsLeastModeWord l.checked.netlist (Some l.mode) (row_patterns l.pool l.patterns.rows) (rules_of (take l.form-index l.forms.list.items)) l.value l.least;
+  least : IsLeastModeWord l.checked.netlist (Some l.mode) (row_patterns l.pool l.patterns.rows) (models_of_forms (take l.form-index l.forms.list.items)) l.value l.least;
 }

@@ -3,7 +3,7 @@ use Rattle.std.proofs.lemmas.Grind.{common_steps}
 use Rattle.std.proofs.lemmas.List.{length_push}
 use Rattle.net_model.specs.Depends.{Among, direct}
 use Rattle.net_check.specs.Inner.Graphs.{named_in}
-use Rattle.net_check.specs.Inner.Components.{IsSearch, IsMerged, Reaches, SeenFrom, MetAt, mark_at}
+use Rattle.net_check.specs.Inner.Components.{IsSearch, IsMerged, IsPathTo, SeenFrom, MetAt, mark_at}
 use Rattle.net_check.specs.declared.cycle.Mark.TheVariants.{New, Met}
 use Rattle.net_check.proofs.Walks.{all_at, among_at, among_last, read_at}
 use Rattle.net_check.proofs.Marks.{reach_depends}
@@ -35,7 +35,7 @@ returns-in-New c =
     let inside : net < length c.args.graph.now = all_at (λ m. m < length c.args.graph.now) _ c.in-Met.place net (c.requires.range c.args.top) at in
     let fresh : mark_at c.args.search.now.marks net ≡ New = sym (rw c.as_slice-2.ensures at c.in-New.ensures) in
     let names : Among net (named_in c.args.graph.now c.args.top) = among_at _ c.in-Met.place net at in
-    let all : (p : ℕ) → p < length c.args.search.now.met → Reaches c.args.graph.now (slice_index c.args.search.now.met p) net =
+    let all : (p : ℕ) → p < length c.args.search.now.met → IsPathTo c.args.graph.now (slice_index c.args.search.now.met p) net =
     λ p l. inr (reach_depends c.args.graph.now _ c.args.top net (to_top c.args.graph.now c.args.search.now.marks c.args.search.now.met c.args.search.now.starts c.args.search.now.path c.args.top c.requires.kept c.in-Met.index (record { place = c.in-Met.place; is = met_top s }) p l) (direct names)) in
     let is = c.in_ok-meet-in-New.ensures in
     let path : c.meet.new.search.path ≡ (c.args.search.now.path ++ c.args.top ∷ []) ++ net ∷ [] = is.path ∙ ap (λ (xs : List ℕ). xs ++ net ∷ []) c.in_ok-push.ensures.pushed in

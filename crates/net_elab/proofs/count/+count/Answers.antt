@@ -1,6 +1,6 @@
 use Rattle.std.proofs.Common.{arith, ap}
 use Rattle.std.proofs.lemmas.Grind.{common_steps}
-use Rattle.net_model.specs.Written.{phrase_of}
+use Rattle.net_model.specs.Written.{model_of_net_expr}
 use Rattle.net_model.specs.Numbering.{count, count_rows}
 use Rattle.net_model.specs.declared.units.NetExpr.{NetExpr}
 use Rattle.net_elab.proofs.Rows.{case_nodes, case_count, same_nodes, same_count, rows_item, row_nodes}
@@ -18,28 +18,28 @@ pub count_nets-overflow_add-result : goal.count_nets-overflow_add-result
 count_nets-overflow_add-result t c =
     let all = case_count _ _ _ _ c.in-Case.is in
     let nets = same_count _ _ c.deref-in-Case.ensures.value in
-    let selector = ap (λ (e : NetExpr). count (phrase_of e)) c.deref.ensures in
+    let selector = ap (λ (e : NetExpr). count (model_of_net_expr e)) c.deref.ensures in
     omega arith
 
 pub count_nets-overflow_add-result-in-Case : goal.count_nets-overflow_add-result-in-Case
 count_nets-overflow_add-result-in-Case t c =
     let all = case_count _ _ _ _ c.in-Case.is in
     let nets = same_count _ _ c.deref-in-Case.ensures.value in
-    let selector = ap (λ (e : NetExpr). count (phrase_of e)) c.deref.ensures in
+    let selector = ap (λ (e : NetExpr). count (model_of_net_expr e)) c.deref.ensures in
     omega arith
 
 pub count_nets-overflow_add-result-in-Case-2 : goal.count_nets-overflow_add-result-in-Case-2
 count_nets-overflow_add-result-in-Case-2 t c =
     let all = case_count _ _ _ _ c.in-Case.is in
     let nets = same_count _ _ c.deref-in-Case.ensures.value in
-    let selector = ap (λ (e : NetExpr). count (phrase_of e)) c.deref.ensures in
+    let selector = ap (λ (e : NetExpr). count (model_of_net_expr e)) c.deref.ensures in
     omega arith
 
 pub count_nets-returns-in-Case : goal.count_nets-returns-in-Case
 count_nets-returns-in-Case t c =
     let all = case_count _ _ _ _ c.in-Case.is in
     let nets = same_count _ _ c.deref-in-Case.ensures.value in
-    let selector = ap (λ (e : NetExpr). count (phrase_of e)) c.deref.ensures in
+    let selector = ap (λ (e : NetExpr). count (model_of_net_expr e)) c.deref.ensures in
     omega arith
 
 pub count_rows-count_nets-total-requires : goal.count_rows-count_nets-total-requires

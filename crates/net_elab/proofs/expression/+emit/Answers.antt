@@ -1,12 +1,12 @@
 use Rattle.std.proofs.Common.{◌≡◌, sym, ap, ◌∙◌, subst, arith, map, IsSome}
 use Rattle.std.proofs.lemmas.Grind.{common_steps}
 use Rattle.net_model.specs.declared.units.NetExpr.{NetExpr}
-use Rattle.net_model.specs.Written.{Phrase, phrase_of, row_of, rows_of, rest_of, other_of, read}
+use Rattle.net_model.specs.Written.{NetExprModel, model_of_net_expr, model_of_case_row, case_rows_of, case_rest_of, other_of, read}
 use Rattle.net_model.specs.TextWidths.{wide}
 use Rattle.net_model.specs.Numbering.{count, count_rows, scope_at}
 use Rattle.net_model.specs.Inner.Nodes.{nodes}
 use Rattle.net_elab.specs.Inner.Emissions.{Emitted}
-use Rattle.net_elab.specs.Inner.Sites.{site_of}
+use Rattle.net_elab.specs.Inner.Sites.{model_of_site}
 use Rattle.net_elab.proofs.Rows.{rows_item, row_nodes}
 use Rattle.net_elab.proofs.Cases.{case_wide, row_wide}
 use Rattle.net_elab.proofs.Emits.{if_ok_map, read_end, case_seen, case_none, case_some}
@@ -17,15 +17,15 @@ emit-emit_case-requires t c =
     let same = case_seen _ _ _ _ c.in-Case.is _ c.deref-in-Case.ensures _ c.deref-in-Case-2.ensures.value in
     let less = ap nodes same in
     let all = ap count same in
-    (omega arith, (subst (λ (p : Phrase). IsSome (wide (scope_at (site_of c.args.site.now)) p)) same c.requires.widths, omega arith))
+    (omega arith, (subst (λ (p : NetExprModel). IsSome (wide (scope_at (model_of_site c.args.site.now)) p)) same c.requires.widths, omega arith))
 
 pub emit-returns-in_ok-a-in-Read : goal.emit-returns-in_ok-a-in-Read
 emit-returns-in_ok-a-in-Read t c =
-    let same : phrase_of c.args.e.now ≡ read c.in-Read.name (phrase_of c.deref-in-Read.result.now) =
-    ap phrase_of c.in-Read.is ∙ ap (λ (x : NetExpr). read c.in-Read.name (phrase_of x)) (sym c.deref-in-Read.ensures) in
-    let is_wide = subst (λ (p : Phrase). IsSome (wide (scope_at (site_of c.args.site.now)) p)) same c.requires.widths in
+    let same : model_of_net_expr c.args.e.now ≡ read c.in-Read.name (model_of_net_expr c.deref-in-Read.result.now) =
+    ap model_of_net_expr c.in-Read.is ∙ ap (λ (x : NetExpr). read c.in-Read.name (model_of_net_expr x)) (sym c.deref-in-Read.ensures) in
+    let is_wide = subst (λ (p : NetExprModel). IsSome (wide (scope_at (model_of_site c.args.site.now)) p)) same c.requires.widths in
     if_ok_map
-    (λ made q. subst (λ (p : Phrase). Emitted (site_of c.args.site.now) c.args.at p c.args.nets.now c.push_net-in-Read.new.nets made) (sym same)
+    (λ made q. subst (λ (p : NetExprModel). Emitted (model_of_site c.args.site.now) c.args.at p c.args.nets.now c.push_net-in-Read.new.nets made) (sym same)
     (read_end _ _ _ _ _ _ _ _ _ made c.in-Some.ensures is_wide c.in_ok-a-in-Read.ensures q))
     _ c.push_net-in-Read.ensures
 
@@ -33,16 +33,16 @@ pub emit-returns-in-Case : goal.emit-returns-in-Case
 emit-returns-in-Case t c =
     let same = case_seen _ _ _ _ c.in-Case.is _ c.deref-in-Case.ensures _ c.deref-in-Case-2.ensures.value in
     if_ok_map
-    (λ made q. subst (λ (p : Phrase). Emitted (site_of c.args.site.now) c.args.at p c.args.nets.now c.emit_case.new.nets made) (sym same) q)
+    (λ made q. subst (λ (p : NetExprModel). Emitted (model_of_site c.args.site.now) c.args.at p c.args.nets.now c.emit_case.new.nets made) (sym same) q)
     _ c.emit_case.ensures
 
 pub emit_case-emit-requires : goal.emit_case-emit-requires
-emit_case-emit-requires t c = (omega arith, ((case_wide (scope_at (site_of c.args.site.now)) (phrase_of c.args.selector.now) (rows_of (map row_of c.args.rows.now)) (rest_of (other_of c.args.other.now)) c.requires.widths).selector_wide, omega arith))
+emit_case-emit-requires t c = (omega arith, ((case_wide (scope_at (model_of_site c.args.site.now)) (model_of_net_expr c.args.selector.now) (case_rows_of (map model_of_case_row c.args.rows.now)) (case_rest_of (other_of c.args.other.now)) c.requires.widths).selector_wide, omega arith))
 
 pub emit_case-emit_rows-requires : goal.emit_case-emit_rows-requires
 emit_case-emit_rows-requires t c =
     let k = c.in_ok-selector.ensures in
-    (omega arith, ((case_wide (scope_at (site_of c.args.site.now)) (phrase_of c.args.selector.now) (rows_of (map row_of c.args.rows.now)) (rest_of (other_of c.args.other.now)) c.requires.widths).rows_are_wide, omega (arith, k.long)))
+    (omega arith, ((case_wide (scope_at (model_of_site c.args.site.now)) (model_of_net_expr c.args.selector.now) (case_rows_of (map model_of_case_row c.args.rows.now)) (case_rest_of (other_of c.args.other.now)) c.requires.widths).rows_are_wide, omega (arith, k.long)))
 
 pub emit_case-returns-in-None : goal.emit_case-returns-in-None
 emit_case-returns-in-None t c =

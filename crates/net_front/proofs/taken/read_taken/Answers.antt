@@ -1,5 +1,5 @@
 use Rattle.std.proofs.Common.{arith, rules}
-use Rattle.net_model.specs.Written.{text_of}
+use Rattle.net_model.specs.Written.{model_of_units}
 use Rattle.net_front.proofs.FrontLaws.{few_items, keeps_alone, refusal_of}
 use Rattle.net_front.specs.Taken.{IsLater, added_role}
 use Rattle.net_front.proofs.TakenLaws.{not_later, refusal_of_none, taken_refusal, untaken_refusal}
@@ -10,7 +10,7 @@ modes-requires c = few_items c.args.bytes.now c.in_ok-units.units c.in_ok-units.
 
 pub returns-then-units-newest-clause-refused : goal.returns-then-units-newest-clause-refused
 returns-then-units-newest-clause-refused c =
-    untaken_refusal (IsLater c.args.newest) added_role c.args.bytes.now (text_of c.in_ok-units.units) c.in_ok-units.ensures.found c.if-units-newest.true
+    untaken_refusal (IsLater c.args.newest) added_role c.args.bytes.now (model_of_units c.in_ok-units.units) c.in_ok-units.ensures.found c.if-units-newest.true
     c.modes.result c.newer_refusal.result c.modes.ensures.found c.modes.ensures.refused
     (rw c.added_role-role.ensures at c.newer_refusal.ensures.kept) (rw c.added_role-role.ensures at c.newer_refusal.ensures.refused)
 
@@ -27,14 +27,14 @@ returns-clause-found c =
     let older = c.if-units-newest.false in
     record {
       says = c.in_ok-units.ensures.found;
-      keeps = keeps_alone (text_of c.in_ok-units.units) c.in_ok-checked.checked (omega (arith, older, c.requires.alone)) c.in_ok-checked.ensures.found;
+      keeps = keeps_alone (model_of_units c.in_ok-units.units) c.in_ok-checked.checked (omega (arith, older, c.requires.alone)) c.in_ok-checked.ensures.found;
     }
 
 pub returns-in_err-checked-clause-refused : goal.returns-in_err-checked-clause-refused
 returns-in_err-checked-clause-refused c =
     let older = c.if-units-newest.false in
-    let refused = taken_refusal (IsLater c.args.newest) added_role c.args.bytes.now (text_of c.in_ok-units.units) c.in_ok-units.ensures.found (not_later c.args.newest c.in_ok-units.units.edition (omega (arith, older))) c.in_err-checked.field-0.0
-    (refusal_of c.args.bytes.now (text_of c.in_ok-units.units) c.in_err-checked.field-0.0 c.in_ok-units.ensures.found c.in_err-checked.ensures.refused) in
+    let refused = taken_refusal (IsLater c.args.newest) added_role c.args.bytes.now (model_of_units c.in_ok-units.units) c.in_ok-units.ensures.found (not_later c.args.newest c.in_ok-units.units.edition (omega (arith, older))) c.in_err-checked.field-0.0
+    (refusal_of c.args.bytes.now (model_of_units c.in_ok-units.units) c.in_err-checked.field-0.0 c.in_ok-units.ensures.found c.in_err-checked.ensures.refused) in
     search rules
 
 pub returns-in_err-units-clause-refused : goal.returns-in_err-units-clause-refused

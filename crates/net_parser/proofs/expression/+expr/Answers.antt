@@ -8,18 +8,18 @@ use Rattle.grammar.proofs.Tokens.{there_sign, there_number, there_behind, there_
 use Rattle.net_parser.specs.Inner.Steps.{comma_word, expr_word, arms_word}
 use Rattle.net_parser.proofs.Expressions.{there_expr, operated_leads, leaf_leads, bare_leads, there_arm, there_rows, there_arms, rowed, rows_apart, else_leads, case_reads, rows_start, number_reads}
 use Rattle.net_model.specs.Grammar.{IsExpr, ArmsBehind}
-use Rattle.net_model.specs.Written.{phrase_of, row_of, other_of}
+use Rattle.net_model.specs.Written.{model_of_net_expr, model_of_case_row, other_of}
 use Rattle.grammar.proofs.Kept.{kept_gives}
 use Rattle.net_parser.proofs.expression.+expr.Goals as goal
 
 pub expr-returns-in_default : goal.expr-returns-in_default
-expr-returns-in_default t c = gives_too (λ x. (phrase_of x.0, x.1.now)) (leaf_leads c.args.depth c.in_default.ensures) c.leaf.result c.leaf.ensures
+expr-returns-in_default t c = gives_too (λ x. (model_of_net_expr x.0, x.1.now)) (leaf_leads c.args.depth c.in_default.ensures) c.leaf.result c.leaf.ensures
 
 pub expr-returns-then-depth-eq0 : goal.expr-returns-then-depth-eq0
-expr-returns-then-depth-eq0 t c = gives_too (λ x. (phrase_of x.0, x.1.now)) (bare_leads c.args.depth c.if-depth-eq0.true) c.leaf-then-depth-eq0.result c.leaf-then-depth-eq0.ensures
+expr-returns-then-depth-eq0 t c = gives_too (λ x. (model_of_net_expr x.0, x.1.now)) (bare_leads c.args.depth c.if-depth-eq0.true) c.leaf-then-depth-eq0.result c.leaf-then-depth-eq0.ensures
 
 pub expr-returns : goal.expr-returns
-expr-returns t c = let s : c.args.depth ≡ suc (c.args.depth - 1) = omega arith in gives_too (λ x. (phrase_of x.0, x.1.now)) (operated_leads c.args.depth (c.args.depth - 1) s c.in-Some.ensures.parts c.in-Some.ensures.is) c.operated.result c.operated.ensures
+expr-returns t c = let s : c.args.depth ≡ suc (c.args.depth - 1) = omega arith in gives_too (λ x. (model_of_net_expr x.0, x.1.now)) (operated_leads c.args.depth (c.args.depth - 1) s c.in-Some.ensures.parts c.in-Some.ensures.is) c.operated.result c.operated.ensures
 
 pub expr_behind-returns-in_err-rest : goal.expr_behind-returns-in_err-rest
 expr_behind-returns-in_err-rest t c =
@@ -27,7 +27,7 @@ expr_behind-returns-in_err-rest t c =
     rw (p.1, p.2) (stuck (λ u. (there_expr c.args.depth)) c.in_err-rest.ensures)
 
 pub expr_behind-returns : goal.expr_behind-returns
-expr_behind-returns t c = gives_too (λ x. (phrase_of x.0, x.1.now)) (beyond never_apart c.in_ok-rest.ensures) c.expr.result c.expr.ensures
+expr_behind-returns t c = gives_too (λ x. (model_of_net_expr x.0, x.1.now)) (beyond never_apart c.in_ok-rest.ensures) c.expr.result c.expr.ensures
 
 pub enclosed-returns-in_err-a : goal.enclosed-returns-in_err-a
 enclosed-returns-in_err-a t c =
@@ -36,7 +36,7 @@ enclosed-returns-in_err-a t c =
 
 pub enclosed-returns : goal.enclosed-returns
 enclosed-returns t c =
-    kept_gives (λ rest. (tt, rest.now)) (λ x. (phrase_of x.0, x.1.now))
+    kept_gives (λ rest. (tt, rest.now)) (λ x. (model_of_net_expr x.0, x.1.now))
     (λ rest r. beyond_reads (ends expr_word (λ a. begun) c.requires) c.in_ok-a.ensures (on r return_reads))
     (λ stop f. beyond_fails (ends expr_word (λ a. begun) c.requires) c.in_ok-a.ensures (stuck (λ u. there_return) f))
     c.expect.result c.expect.ensures c.keeping.result c.keeping.ensures.read c.keeping.ensures.stopped
@@ -163,13 +163,13 @@ braced-returns-in_err-arms t c =
 
 pub braced-returns : goal.braced-returns
 braced-returns t c =
-    kept_gives (λ rest. (tt, rest.now)) (λ x. ((map row_of x.0.0.items, other_of x.0.1), x.1.now))
+    kept_gives (λ rest. (tt, rest.now)) (λ x. ((map model_of_case_row x.0.0.items, other_of x.0.1), x.1.now))
     (λ rest r. on c.in_ok-rest.ensures (beyond_reads (ends arms_word (λ a. begun) refl) c.in_ok-arms.ensures (on r return_reads)))
     (λ stop f. past c.in_ok-rest.ensures (beyond_fails (ends arms_word (λ a. begun) refl) c.in_ok-arms.ensures (stuck (λ u. there_return) f)))
     c.expect-2.result c.expect-2.ensures c.keeping.result c.keeping.ensures.read c.keeping.ensures.stopped
 
 pub arms-returns-in-Some : goal.arms-returns-in-Some
-arms-returns-in-Some t c = gives_too (λ x. ((map row_of x.0.0.items, other_of x.0.1), x.1.now)) (word_leads (ArmsBehind (IsExpr c.args.depth)) c.in-Some.ensures.parts c.in-Some.ensures.is) c.rows_behind.result c.rows_behind.ensures
+arms-returns-in-Some t c = gives_too (λ x. ((map model_of_case_row x.0.0.items, other_of x.0.1), x.1.now)) (word_leads (ArmsBehind (IsExpr c.args.depth)) c.in-Some.ensures.parts c.in-Some.ensures.is) c.rows_behind.result c.rows_behind.ensures
 
 pub arms-returns-in_err-rest : goal.arms-returns-in_err-rest
 arms-returns-in_err-rest t c =
@@ -221,13 +221,13 @@ rows-others-init t c = rows_start (c.in_ok-push.ensures.items ∙ ap (λ xs. xs 
 pub rows-returns-in_err-other : goal.rows-returns-in_err-other
 rows-returns-in_err-other t c =
     let p = err_from_is_err_and c.from_residual-in_err-other.result c.from_residual-in_err-other.ensures.1 in
-    rw (p.1, p.2) (let o = c.in-Some.ensures in list_fails (rowed (IsExpr c.args.depth)) row_of c.others.rows.items (λ rs. rs) c.others.invariant (ap head o.parts) (c.in-Some.number, o.is) (past (number_reads o) c.in_err-other.ensures))
+    rw (p.1, p.2) (let o = c.in-Some.ensures in list_fails (rowed (IsExpr c.args.depth)) model_of_case_row c.others.rows.items (λ rs. rs) c.others.invariant (ap head o.parts) (c.in-Some.number, o.is) (past (number_reads o) c.in_err-other.ensures))
 
 pub rows-others-preserved : goal.rows-others-preserved
-rows-others-preserved t c = let o = c.in-Some.ensures in rw c.in_ok-push-2.ensures.items (list_goes_on (rowed (IsExpr c.args.depth)) row_of c.others.rows.items (λ rs. rs) c.others.invariant (ap head o.parts) (c.in-Some.number, o.is) c.in_ok-other.other (on (number_reads o) c.in_ok-other.ensures))
+rows-others-preserved t c = let o = c.in-Some.ensures in rw c.in_ok-push-2.ensures.items (list_goes_on (rowed (IsExpr c.args.depth)) model_of_case_row c.others.rows.items (λ rs. rs) c.others.invariant (ap head o.parts) (c.in-Some.number, o.is) c.in_ok-other.other (on (number_reads o) c.in_ok-other.ensures))
 
 pub rows-returns : goal.rows-returns
-rows-returns t c = list_ends (rowed (IsExpr c.args.depth)) row_of c.others.rows.items (λ rs. rs) c.others.invariant (λ t h b. c.in_default.ensures.never_so t h b.0 b.1)
+rows-returns t c = list_ends (rowed (IsExpr c.args.depth)) model_of_case_row c.others.rows.items (λ rs. rs) c.others.invariant (λ t h b. c.in_default.ensures.never_so t h b.0 b.1)
 
 pub otherwise-returns-in_err-rest : goal.otherwise-returns-in_err-rest
 otherwise-returns-in_err-rest t c =

@@ -1,7 +1,7 @@
 use Rattle.std.proofs.Common.{◌+◌, ◌*◌, ◌++◌, length, map}
 use Rattle.grammar.specs.Reading.{Leads, ListOf}
 use Rattle.net_model.specs.Grammar.{IsExpr, IsRow, RowsBehind}
-use Rattle.net_model.specs.Written.{row_of}
+use Rattle.net_model.specs.Written.{model_of_case_row}
 use Rattle.net_parser.specs.Inner.Steps.{after_rows}
 use Rattle.net_parser.proofs.expression.+expr.Given as goal
 
@@ -52,7 +52,7 @@ decreases-operated l = 20 * l.depth + 9
 
 -- what completes the rows so far completes the rows behind the first one
 abbrev pub invariant-rows-others : goal.invariant-rows-others
-invariant-rows-others l = Leads (λ rs. map row_of l.rows.items ++ rs) (ListOf (IsRow (IsExpr l.depth))) after_rows l.rest (RowsBehind (IsExpr l.depth) (row_of l.fn.first)) after_rows l.fn.ts
+invariant-rows-others l = Leads (λ rs. map model_of_case_row l.rows.items ++ rs) (ListOf (IsRow (IsExpr l.depth))) after_rows l.rest (RowsBehind (IsExpr l.depth) (model_of_case_row l.fn.first)) after_rows l.fn.ts
 
 abbrev pub decreases-rows-others : goal.decreases-rows-others
 decreases-rows-others l = length l.rest

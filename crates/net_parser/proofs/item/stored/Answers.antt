@@ -4,7 +4,7 @@ use Rattle.grammar.proofs.Steps.{return_reads}
 use Rattle.grammar.proofs.Passing.{there_return, there_bind, beyond_reads, beyond_fails, short_of, on, stuck, starts_inner}
 use Rattle.grammar.proofs.Tokens.{begun, ends}
 use Rattle.net_parser.specs.Inner.Steps.{expr_word}
-use Rattle.net_model.specs.Written.{when_of, phrase_of}
+use Rattle.net_model.specs.Written.{when_of, model_of_net_expr}
 use Rattle.net_parser.proofs.ItemParts.{there_fed}
 use Rattle.grammar.proofs.Kept.{kept_reads, kept_fails}
 use Rattle.net_parser.proofs.item.stored.Goals as goal
@@ -17,9 +17,9 @@ returns-in_err-value c =
 pub returns-in_err-value-2 : goal.returns-in_err-value-2
 returns-in_err-value-2 c =
     let p = err_from_is_err_and c.from_residual-in_err-value-2.result c.from_residual-in_err-value-2.ensures.1 in
-    rw (p.1, p.2) (beyond_fails (ends expr_word (λ a. starts_inner (starts_inner begun)) refl) c.in_ok-value.ensures (stuck (λ x. there_return) (kept_fails (λ x. ((phrase_of x.0.0, when_of x.0.1), x.1.now)) c.fed.ensures c.in_err-value-2.ensures.stopped)))
+    rw (p.1, p.2) (beyond_fails (ends expr_word (λ a. starts_inner (starts_inner begun)) refl) c.in_ok-value.ensures (stuck (λ x. there_return) (kept_fails (λ x. ((model_of_net_expr x.0.0, when_of x.0.1), x.1.now)) c.fed.ensures c.in_err-value-2.ensures.stopped)))
 
 pub returns : goal.returns
 returns c =
-    let fed = kept_reads (λ x. ((phrase_of x.0.0, when_of x.0.1), x.1.now)) c.fed.ensures c.in_ok-value-2.ensures.read.1 in
+    let fed = kept_reads (λ x. ((model_of_net_expr x.0.0, when_of x.0.1), x.1.now)) c.fed.ensures c.in_ok-value-2.ensures.read.1 in
     rw c.in_ok-value-2.ensures.read.0 (beyond_reads (ends expr_word (λ a. starts_inner (starts_inner begun)) refl) c.in_ok-value.ensures (on fed return_reads))

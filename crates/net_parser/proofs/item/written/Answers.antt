@@ -1,6 +1,6 @@
 use Rattle.std.proofs.lemmas.Result.{err_from_is_err_and}
 use Rattle.grammar.proofs.Passing.{beyond, gives_too, never_apart, stuck}
-use Rattle.net_model.specs.Written.{phrase_of, when_of}
+use Rattle.net_model.specs.Written.{model_of_net_expr, when_of}
 use Rattle.net_parser.proofs.ItemParts.{there_written}
 use Rattle.net_parser.proofs.item.written.Goals as goal
 
@@ -11,4 +11,4 @@ returns-in_err-rest c =
 
 pub returns : goal.returns
 returns c =
-    gives_too (λ x. ((phrase_of x.0.0, (phrase_of x.0.1.0, when_of x.0.1.1)), x.1.now)) (beyond never_apart c.in_ok-rest.ensures) c.stored.result c.stored.ensures
+    gives_too (λ x. ((model_of_net_expr x.0.0, (model_of_net_expr x.0.1.0, when_of x.0.1.1)), x.1.now)) (beyond never_apart c.in_ok-rest.ensures) c.stored.result c.stored.ensures

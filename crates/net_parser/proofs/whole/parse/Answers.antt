@@ -1,5 +1,5 @@
 use Rattle.std.proofs.Common.{◌≡◌, sym, ap, subst, ◌∙◌}
-use Rattle.grammar.specs.declared.stop.Stop.TheVariants.{At, Memory}
+use Rattle.grammar.specs.declared.stop.ParseStop.TheVariants.{At, Memory}
 use Rattle.net_model.specs.Grammar.{IsText}
 use Rattle.net_model.specs.Editions.{edited}
 use Rattle.net_parser.specs.Words.{net_words}

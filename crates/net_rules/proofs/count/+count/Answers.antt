@@ -1,7 +1,7 @@
 use Rattle.std.proofs.Common.{◌≡◌, ◌+◌, List, refl, arith, ap}
 use Rattle.std.proofs.lemmas.Grind.{common_steps}
 use Rattle.net_model.specs.Numbering.{count, count_rows, count_rest}
-use Rattle.net_model.specs.Written.{phrase_of, rest_of, other_of}
+use Rattle.net_model.specs.Written.{model_of_net_expr, case_rest_of, other_of}
 use Rattle.net_rules.proofs.Rows.{seen_rows, case_seen, case_nodes, row_nodes}
 use Rattle.net_rules.proofs.Counts.{counted_last}
 use Rattle.net_rules.proofs.count.+count.Goals as goal
@@ -14,7 +14,7 @@ count-count_rows-requires t c =
 pub count-returns-in-Case : goal.count-returns-in-Case
 count-returns-in-Case t c =
     let whole = case_seen c.args.e.now c.in-Case.sel c.in-Case.rows c.in-Case.rest c.deref.result.now c.deref-in-Case.result.now c.in-Case.is c.deref.ensures c.deref-in-Case.ensures.value in
-    let counted : count (phrase_of c.args.e.now) ≡ count (phrase_of c.deref.result.now) + count_rows (seen_rows c.deref-in-Case.result.now) + count_rest (rest_of (other_of c.in-Case.rest)) + 1 = ap count whole in
+    let counted : count (model_of_net_expr c.args.e.now) ≡ count (model_of_net_expr c.deref.result.now) + count_rows (seen_rows c.deref-in-Case.result.now) + count_rest (case_rest_of (other_of c.in-Case.rest)) + 1 = ap count whole in
     omega (arith, counted, c.saturating_add-in-Case.ensures, c.saturating_add.ensures, c.count_rest.ensures, c.saturating_add-values.ensures, c.count.ensures, c.count_rows.ensures)
 
 pub count_rows-count-requires : goal.count_rows-count-requires

@@ -6,7 +6,7 @@ use Rattle.net_rules.proofs.duplicates.see_items.Goals as goal
 pub loop-unit-preserved : goal.loop-unit-preserved
 loop-unit-preserved c =
     let parts = own_names_from c.args.units.now c.loop-unit.unit-index c.unit-item.result c.name_of.result.now c.loop-unit-test.true c.unit-item.is c.name_of.ensures in
-    rw (c.sooner-found.ensures, c.in_ok-see.ensures.found)
+    rw (c.lesser_offset-found.ensures, c.in_ok-see.ensures.found)
     (repeating_next c.loop-unit.seen c.see.new.seen c.loop-unit.found _ _ _ c.name_of.result.now parts c.in_ok-see.ensures.seen c.loop-unit.invariant)
 
 pub returns : goal.returns

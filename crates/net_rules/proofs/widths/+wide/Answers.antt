@@ -1,7 +1,7 @@
 use Rattle.std.proofs.Common.{arith, sym, ap}
 use Rattle.std.proofs.lemmas.Grind.{common_steps}
 use Rattle.net_model.specs.TextWidths.{wide}
-use Rattle.net_rules.specs.Inner.Scopes.{scope_of}
+use Rattle.net_rules.specs.Inner.Scopes.{model_of_scope}
 use Rattle.net_rules.proofs.Rows.{case_seen, case_nodes, row_nodes}
 use Rattle.net_rules.proofs.widths.+wide.Goals as goal
 
@@ -18,7 +18,7 @@ wide-seen_rows-seen-requires t c =
 pub wide-returns-in-Case : goal.wide-returns-in-Case
 wide-returns-in-Case t c =
     let whole = case_seen c.args.e.now c.in-Case.sel c.in-Case.rows c.in-Case.rest c.deref-in-Case.result.now c.deref-in-Case-2.result.now c.in-Case.is c.deref-in-Case.ensures c.deref-in-Case-2.ensures.value in
-    rw (c.seen_width.ensures, c.seen_rest.ensures, c.seen_rows-seen.ensures, c.wide-selector.ensures) (sym (ap (wide (scope_of c.args.place.now)) whole))
+    rw (c.seen_width.ensures, c.seen_rest.ensures, c.seen_rows-seen.ensures, c.wide-selector.ensures) (sym (ap (wide (model_of_scope c.args.place.now)) whole))
 
 pub seen_rows-loop-row-preserved : goal.seen_rows-loop-row-preserved
 seen_rows-loop-row-preserved t c = grind (arith, common_steps)

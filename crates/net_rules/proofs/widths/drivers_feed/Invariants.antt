@@ -2,9 +2,9 @@ use Rattle.std.proofs.Common.{◌≡◌, map, drop}
 use Rattle.std.specs.List.{list_all}
 use Rattle.net_model.specs.WidthRules.{driver_feeds}
 use Rattle.net_model.specs.Written.{driver_of}
-use Rattle.net_rules.specs.Inner.Scopes.{scope_of}
+use Rattle.net_rules.specs.Inner.Scopes.{model_of_scope}
 use Rattle.net_rules.proofs.widths.drivers_feed.Given as goal
 
 abbrev pub invariant-loop-driver : goal.invariant-loop-driver
 invariant-loop-driver l =
-    list_all (driver_feeds (scope_of l.place) l.width) (map driver_of (drop l.driver-index l.drivers)) ≡ list_all (driver_feeds (scope_of l.place) l.width) (map driver_of l.drivers)
+    list_all (driver_feeds (model_of_scope l.place) l.width) (map driver_of (drop l.driver-index l.drivers)) ≡ list_all (driver_feeds (model_of_scope l.place) l.width) (map driver_of l.drivers)

@@ -1,6 +1,6 @@
 use Rattle.std.proofs.Common.{◌≡◌}
 use Rattle.net_model.specs.MemoryText.{IsMemoryRefusal, IsMemoryText}
-use Rattle.net_run.proofs.Firsts.{told_err, told_ok}
+use Rattle.run_command.proofs.Firsts.{told_err, told_ok}
 use Rattle.code_model.specs.Machine.{IsCalm}
 use Rattle.right_code.specs.Tasks.{read_task}
 use Rattle.state_text.specs.Settings.{IsStartState}

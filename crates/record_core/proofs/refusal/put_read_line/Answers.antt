@@ -1,6 +1,6 @@
 use Rattle.std.proofs.Common.{◌≡◌, List, ℕ, ◌++◌, codes, ap, refl, sym, ◌∙◌}
 use Rattle.rec_io.specs.declared.sink.WriteFault.{WriteFault}
-use Rattle.net_watch.proofs.Putting.{all_left, less_left, puts_failed, puts_then, stops_there}
+use Rattle.checkpoint_watch.proofs.Putting.{all_left, less_left, puts_failed, puts_then, stops_there}
 use Rattle.record_core.specs.Lines.{name_of_file}
 use Rattle.record_core.specs.Words.{texts_of}
 use Rattle.record_core.proofs.refusal.put_read_line.Goals as goal

@@ -9,7 +9,7 @@ use Rattle.net_model.specs.Order.{IsOrder}
 use Rattle.net_model.specs.Widths.{NetFits}
 use Rattle.net_model.specs.Symbolic.{all_nets, sym_of}
 use Rattle.sym_expr.proofs.CallerLemmas.{grows_refl, grows_trans}
-use Rattle.transfer_set.specs.Routes.{terms_under, only, routes_at}
+use Rattle.transfer_set.specs.Routes.{models_under, only, routes_at}
 use Rattle.route_trace.specs.Inner.Verdicts.{kept_at}
 use Rattle.route_trace.specs.declared.verdict.Verdict.TheVariants.{Many, Skipped}
 use Rattle.route_trace.proofs.Firsts.{tables_later}
@@ -157,7 +157,7 @@ loop-id-preserved c =
                 c.loop-id.invariant.long legal w.net_routes.new.book w.net_routes.new.pool e g c.loop-id.invariant.tables c.loop-id.invariant.widths;
             found = found_more netlist order i c.loop-id-test.true c.loop-id.verdicts judged_in c.loop-id.invariant.found Many (many_found netlist c.args.controls.now c.args.book.now w.net_routes.new.book c.requires.controls grows c.requires.word (has_bits netlist c.args.checked.now.order c.netlist-netlist.ensures.kept) n lt alone many);
             done = λ m word less kept low.
-                lost_done order i c.loop-id-test.true c.loop-id.verdicts judged_in (λ k. (word : ℕ) → word < 2 ^ w.net_routes.new.book.bits → terms_under w.net_routes.new.book w.net_routes.new.pool (routes_at c.loop-id.routes k) word ≡ only w.net_routes.new.book c.args.controls.now.legal word (sym_of netlist word k))
+                lost_done order i c.loop-id-test.true c.loop-id.verdicts judged_in (λ k. (word : ℕ) → word < 2 ^ w.net_routes.new.book.bits → models_under w.net_routes.new.book w.net_routes.new.pool (routes_at c.loop-id.routes k) word ≡ only w.net_routes.new.book c.args.controls.now.legal word (sym_of netlist word k))
                 (λ k before is word low. done_later netlist order o i c.loop-id-test.true c.loop-id.book c.loop-id.pool c.loop-id.routes c.args.controls.now.legal c.loop-id.verdicts c.loop-id.invariant.done
                 c.loop-id.invariant.long legal w.net_routes.new.book w.net_routes.new.pool e g c.loop-id.invariant.tables k word before is low) Many refl m less kept word low;
           }))
@@ -174,7 +174,7 @@ loop-id-preserved c =
             widths = c.loop-id.invariant.widths;
             found = found_more netlist order i c.loop-id-test.true c.loop-id.verdicts judged_in c.loop-id.invariant.found Skipped broken;
             done = λ m word less kept low.
-                lost_done order i c.loop-id-test.true c.loop-id.verdicts judged_in (λ k. (word : ℕ) → word < 2 ^ c.loop-id.book.bits → terms_under c.loop-id.book c.loop-id.pool (routes_at c.loop-id.routes k) word ≡ only c.loop-id.book c.args.controls.now.legal word (sym_of netlist word k))
+                lost_done order i c.loop-id-test.true c.loop-id.verdicts judged_in (λ k. (word : ℕ) → word < 2 ^ c.loop-id.book.bits → models_under c.loop-id.book c.loop-id.pool (routes_at c.loop-id.routes k) word ≡ only c.loop-id.book c.args.controls.now.legal word (sym_of netlist word k))
                 (λ k before is word low. c.loop-id.invariant.done k word before is low) Skipped refl m less kept word low;
           }))
     ]

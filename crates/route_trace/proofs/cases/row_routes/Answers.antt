@@ -1,7 +1,7 @@
 use Rattle.std.proofs.lemmas.Result.{IfOk-from_err}
 use Rattle.std.proofs.Common.{◌^◌, ◌<◌, ap, refl, sym, subst, if◌then◌else◌, [], ◌∷◌, ◌∙◌}
 use Rattle.bit_bdd.proofs.CallerLemmas.{same_words}
-use Rattle.net_model.specs.Terms.{const}
+use Rattle.net_model.specs.Exprs.{const}
 use Rattle.route_trace.proofs.Exact.{all_wide}
 use Rattle.route_trace.proofs.cases.row_routes.Goals as goal
 

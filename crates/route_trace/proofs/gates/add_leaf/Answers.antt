@@ -2,7 +2,7 @@ use Rattle.std.proofs.lemmas.Result.{IfOk-from_err}
 use Rattle.std.proofs.Common.{refl}
 use Rattle.bit_bdd.specs.Diagrams.{has_word}
 use Rattle.bit_bdd.proofs.CallerLemmas.{extends_refl}
-use Rattle.route_trace.proofs.Products.{added_terms, exprs_later}
+use Rattle.route_trace.proofs.Products.{added_exprs, exprs_later}
 use Rattle.route_trace.proofs.gates.add_leaf.Goals as goal
 
 pub returns-in_ok-add_route-in-Some-clause-table : goal.returns-in_ok-add_route-in-Some-clause-table
@@ -13,7 +13,7 @@ returns-in_ok-add_route-in-Some-clause-table c = record {
 
 pub returns-in_ok-add_route-in-Some-clause-terms : goal.returns-in_ok-add_route-in-Some-clause-terms
 returns-in_ok-add_route-in-Some-clause-terms c word fits =
-    added_terms c.args.book.now c.args.book.now c.add_route.new.book c.args.pool.now c.intern.new.self (extends_refl c.args.book.now) c.in_ok-expr-in-Some.ensures.grows c.args.out.now c.add_route.new.out c.requires.table
+    added_exprs c.args.book.now c.args.book.now c.add_route.new.book c.args.pool.now c.intern.new.self (extends_refl c.args.book.now) c.in_ok-expr-in-Some.ensures.grows c.args.out.now c.add_route.new.out c.requires.table
     c.in_ok-expr-in-Some.expr _ c.in_ok-expr-in-Some.ensures.term word (has_word c.args.book.now c.args.set word) (has_word c.args.book.now c.args.set word) refl
     (c.in_ok-add_route-in-Some.ensures.by_word word fits)
 

@@ -1,7 +1,7 @@
 use Rattle.std.proofs.Common.{◌^◌, ◌<◌, inr, if◌then◌else◌, sym, ap, subst, ◌∙◌}
 use Rattle.std.proofs.lemmas.Result.{err_from_is_err_and, IfOk-from_err}
 use Rattle.bit_bdd.specs.Diagrams.{has_word}
-use Rattle.transfer_set.specs.Routes.{terms_under}
+use Rattle.transfer_set.specs.Routes.{models_under}
 use Rattle.route_trace.proofs.Products.{both_later}
 use Rattle.route_trace.proofs.Firsts.{map_same, all_fit_same, tables_later, rest_apart, with_rest}
 use Rattle.route_trace.proofs.Stopping.{many_in, part_of_tests}
@@ -60,11 +60,11 @@ add_leaf-requires-clause-apart c word fits holds =
 
 pub returns-in_ok-add_all-in-Some-clause-terms : goal.returns-in_ok-add_all-in-Some-clause-terms
 returns-in_ok-add_all-in-Some-clause-terms c word low = rw c.in-Some.is
-    (with_rest c.args.book.now c.args.pool.now c.args.nets.now word c.args.tests.now _ (terms_under c.add_first.new.book c.add_first.new.pool c.add_first.new.out word) _ _ _ (c.in_ok-left.ensures.left word low)
+    (with_rest c.args.book.now c.args.pool.now c.args.nets.now word c.args.tests.now _ (models_under c.add_first.new.book c.add_first.new.pool c.add_first.new.out word) _ _ _ (c.in_ok-left.ensures.left word low)
     (rw c.new-out.ensures at c.in_ok-left.ensures.terms word low)
     (c.in_ok-add_all-in-Some.ensures.terms word (subst (λ b. word < 2 ^ b) (sym c.in_ok-left.ensures.book.bits) low)
-    ∙ ap (λ l. if has_word c.add_first.new.book c.in_ok-left.left word then l else terms_under c.add_first.new.book c.add_first.new.pool c.add_first.new.out word)
-    (map_same _ ∙ ap (λ l. terms_under c.add_first.new.book c.add_first.new.pool l word) c.routes_of-routes.ensures
+    ∙ ap (λ l. if has_word c.add_first.new.book c.in_ok-left.left word then l else models_under c.add_first.new.book c.add_first.new.pool c.add_first.new.out word)
+    (map_same _ ∙ ap (λ l. models_under c.add_first.new.book c.add_first.new.pool l word) c.routes_of-routes.ensures
     ∙ both_later c.args.book.now c.add_first.new.book c.args.pool.now c.add_first.new.pool c.in_ok-left.ensures.book c.in_ok-left.ensures.pool _ (c.requires.nets.tables _) word)))
 
 pub returns-in_err-left-clause-many : goal.returns-in_err-left-clause-many
@@ -83,10 +83,10 @@ returns-in_err-add_all-in-Some-clause-many c =
     (many_in c.in_err-add_all-in-Some.field-0.0 c.add_all.new.book c.add_all.new.pool _ _
     (λ word fits terms e.
     (let low = subst (λ b. word < 2 ^ b) c.in_ok-left.ensures.book.bits (subst (λ b. word < 2 ^ b) c.in_err-add_all-in-Some.ensures.book.bits fits) in
-    inr (with_rest c.args.book.now c.args.pool.now c.args.nets.now word c.args.tests.now terms (terms_under c.add_first.new.book c.add_first.new.pool c.add_first.new.out word) _ _ _ (c.in_ok-left.ensures.left word low)
+    inr (with_rest c.args.book.now c.args.pool.now c.args.nets.now word c.args.tests.now terms (models_under c.add_first.new.book c.add_first.new.pool c.add_first.new.out word) _ _ _ (c.in_ok-left.ensures.left word low)
     (rw c.new-out.ensures at c.in_ok-left.ensures.terms word low)
-    (e ∙ ap (λ l. if has_word c.add_first.new.book c.in_ok-left.left word then l else terms_under c.add_first.new.book c.add_first.new.pool c.add_first.new.out word)
-    (map_same _ ∙ ap (λ l. terms_under c.add_first.new.book c.add_first.new.pool l word) c.routes_of-routes.ensures
+    (e ∙ ap (λ l. if has_word c.add_first.new.book c.in_ok-left.left word then l else models_under c.add_first.new.book c.add_first.new.pool c.add_first.new.out word)
+    (map_same _ ∙ ap (λ l. models_under c.add_first.new.book c.add_first.new.pool l word) c.routes_of-routes.ensures
     ∙ both_later c.args.book.now c.add_first.new.book c.args.pool.now c.add_first.new.pool c.in_ok-left.ensures.book c.in_ok-left.ensures.pool _ (c.requires.nets.tables _) word)))))
     c.in_err-add_all-in-Some.ensures.many)
 

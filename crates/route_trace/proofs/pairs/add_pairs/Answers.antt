@@ -3,13 +3,13 @@ use Rattle.std.proofs.lemmas.List.{append-nil}
 use Rattle.std.proofs.lemmas.Result.{err_from_is_err_and, IfOk-from_err}
 use Rattle.bit_bdd.specs.Diagrams.{has_word}
 use Rattle.bit_bdd.proofs.CallerLemmas.{extends_refl, extends_trans, same_words}
-use Rattle.sym_expr.specs.Pools.{term_at}
+use Rattle.sym_expr.specs.Pools.{expr_of_id}
 use Rattle.sym_expr.proofs.CallerLemmas.{grows_refl, grows_trans}
 use Rattle.route_trace.specs.declared.heads.Head.{Head}
-use Rattle.route_trace.specs.Inner.Heads.{binary_term, head_term}
+use Rattle.route_trace.specs.Inner.Heads.{binary_expr, head_expr}
 use Rattle.route_trace.specs.Inner.Lookups.{is_free}
 use Rattle.route_trace.specs.Inner.Routing.{each}
-use Rattle.transfer_set.specs.Routes.{terms_under}
+use Rattle.transfer_set.specs.Routes.{models_under}
 use Rattle.route_trace.proofs.Merging.{held_later, set_at}
 use Rattle.route_trace.proofs.Products.{below_later, both_later, expr_at, table_later}
 use Rattle.route_trace.proofs.Loops.{all_fit_later, map-same, binary-same, binary_below, binary_fit_at}
@@ -24,7 +24,7 @@ loop-word-init c = record {
   table = c.requires.table;
   within = c.requires.set;
   inside = λ word h. h;
-  terms = λ word fits. left_first (has_word c.args.book.now c.args.set word) _ _ (λ h. ap (map (term_at c.args.pool.now)) (c.requires.apart word fits h));
+  terms = λ word fits. left_first (has_word c.args.book.now c.args.set word) _ _ (λ h. ap (map (expr_of_id c.args.pool.now)) (c.requires.apart word fits h));
 }
 
 pub place_of-requires : goal.place_of-requires
@@ -64,7 +64,7 @@ add_part-requires-clause-fits c =
 
 pub add_part-requires-clause-apart : goal.add_part-requires-clause-apart
 add_part-requires-clause-apart c word fits both =
-    left_apart (term_at c.loop-word.pool) _ (has_word c.args.book.now c.args.set word) (has_word c.loop-word.book c.loop-word.left word) _ _
+    left_apart (expr_of_id c.loop-word.pool) _ (has_word c.args.book.now c.args.set word) (has_word c.loop-word.book c.loop-word.left word) _ _
     (c.loop-word.invariant.inside word) (c.loop-word.invariant.terms word (subst (λ b. word < 2 ^ b) c.loop-word.invariant.book.bits fits)) (and_left _ _ both)
 
 pub loop-word-preserved : goal.loop-word-preserved
@@ -79,11 +79,11 @@ loop-word-preserved c =
       within = c.in_ok-left-2.ensures.left_within;
       inside = λ word is. c.loop-word.invariant.inside word (and_left _ _ (sym (c.in_ok-left-2.ensures.left word) ∙ is));
       terms = λ word low.
-          left_step (each (λ a. map (binary_term c.args.binary (term_at c.args.pool.now) a) (terms_under c.args.book.now c.args.pool.now c.args.seconds.now word))) c.args.book.now c.args.pool.now c.args.firsts.now word c.in-Some-place_of.place _ h.0 (c.requires.first_one word low)
+          left_step (each (λ a. map (binary_expr c.args.binary (expr_of_id c.args.pool.now) a) (models_under c.args.book.now c.args.pool.now c.args.seconds.now word))) c.args.book.now c.args.pool.now c.args.firsts.now word c.in-Some-place_of.place _ h.0 (c.requires.first_one word low)
           _ _ _ _ _ _ _ _ (c.loop-word.invariant.inside word)
           (same_words c.args.book.now c.loop-word.book c.loop-word.invariant.book _ in_set word)
           (c.in_ok-left-2.ensures.left word) (c.loop-word.invariant.terms word low)
-          (map-same _ _ (λ t. ap (λ (h : Head). head_term h (term_at c.loop-word.pool) t) c.with_first-head.ensures ∙ binary-same c.args.pool.now c.loop-word.pool c.loop-word.invariant.pool c.args.binary c.requires.parts _ in_pool t) _ _
+          (map-same _ _ (λ t. ap (λ (h : Head). head_expr h (expr_of_id c.loop-word.pool) t) c.with_first-head.ensures ∙ binary-same c.args.pool.now c.loop-word.pool c.loop-word.invariant.pool c.args.binary c.requires.parts _ in_pool t) _ _
           (both_later c.args.book.now c.loop-word.book c.args.pool.now c.loop-word.pool c.loop-word.invariant.book c.loop-word.invariant.pool c.args.seconds.now c.requires.second word)
           ∙ sym (append-nil _))
           (c.in_ok-left-2.ensures.terms word (subst (λ b. word < 2 ^ b) (sym c.loop-word.invariant.book.bits) low));
@@ -105,7 +105,7 @@ loop-word-preserved-in_default-place_of c = record {
   within = c.in_ok-left.ensures.within;
   inside = λ word is. c.loop-word.invariant.inside word (and_left _ _ (sym (c.in_ok-left.ensures.words word) ∙ is));
   terms = λ word low.
-      left_free (each (λ a. map (binary_term c.args.binary (term_at c.args.pool.now) a) (terms_under c.args.book.now c.args.pool.now c.args.seconds.now word))) c.args.book.now c.args.pool.now c.args.firsts.now word refl
+      left_free (each (λ a. map (binary_expr c.args.binary (expr_of_id c.args.pool.now) a) (models_under c.args.book.now c.args.pool.now c.args.seconds.now word))) c.args.book.now c.args.pool.now c.args.firsts.now word refl
       (has_word c.args.book.now c.args.set word) (has_word c.loop-word.book c.loop-word.left word) _ _ _
       (c.in_ok-left.ensures.words word ∙ ap (λ xs. has_word c.loop-word.book c.loop-word.left word && not (is_free xs)) (held_later c.args.book.now c.loop-word.book c.loop-word.invariant.book c.args.firsts.now c.requires.first.right.sets word))
       (both_later c.loop-word.book c.held_words.new.book c.loop-word.pool c.loop-word.pool c.in_ok-left.ensures.book (grows_refl c.loop-word.pool) c.loop-word.out c.loop-word.invariant.table word ∙ c.loop-word.invariant.terms word low);
@@ -129,11 +129,11 @@ returns-in_err-left-2-clause-many c =
     (λ word fits terms e.
     (let low = subst (λ b. word < 2 ^ b) (extends_trans c.args.book.now c.loop-word.book c.add_part.new.book c.loop-word.invariant.book c.in_err-left-2.ensures.book).bits fits in
     left_part (has_word c.args.book.now c.args.set word) _ _ _ terms
-    (left_step (each (λ a. map (binary_term c.args.binary (term_at c.args.pool.now) a) (terms_under c.args.book.now c.args.pool.now c.args.seconds.now word))) c.args.book.now c.args.pool.now c.args.firsts.now word c.in-Some-place_of.place _ h.0 (c.requires.first_one word low)
+    (left_step (each (λ a. map (binary_expr c.args.binary (expr_of_id c.args.pool.now) a) (models_under c.args.book.now c.args.pool.now c.args.seconds.now word))) c.args.book.now c.args.pool.now c.args.firsts.now word c.in-Some-place_of.place _ h.0 (c.requires.first_one word low)
     _ _ _ _ _ _ _ terms (c.loop-word.invariant.inside word)
     (same_words c.args.book.now c.loop-word.book c.loop-word.invariant.book _ in_set word)
     refl (c.loop-word.invariant.terms word low)
-    (map-same _ _ (λ t. ap (λ (h : Head). head_term h (term_at c.loop-word.pool) t) c.with_first-head.ensures ∙ binary-same c.args.pool.now c.loop-word.pool c.loop-word.invariant.pool c.args.binary c.requires.parts _ in_pool t) _ _
+    (map-same _ _ (λ t. ap (λ (h : Head). head_expr h (expr_of_id c.loop-word.pool) t) c.with_first-head.ensures ∙ binary-same c.args.pool.now c.loop-word.pool c.loop-word.invariant.pool c.args.binary c.requires.parts _ in_pool t) _ _
     (both_later c.args.book.now c.loop-word.book c.args.pool.now c.loop-word.pool c.loop-word.invariant.book c.loop-word.invariant.pool c.args.seconds.now c.requires.second word)
     ∙ sym (append-nil _))
     e)))

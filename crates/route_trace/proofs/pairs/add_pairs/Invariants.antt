@@ -1,9 +1,9 @@
 use Rattle.std.proofs.Common.{◌≡◌, ℕ, ◌^◌, ◌<◌, length, true}
 use Rattle.bit_bdd.specs.Diagrams.{Extends, has_word}
-use Rattle.sym_expr.specs.Pools.{Grows, term_at}
+use Rattle.sym_expr.specs.Pools.{Grows, expr_of_id}
 use Rattle.route_trace.specs.Inner.Routing.{pairs}
-use Rattle.transfer_set.specs.Routes.{IsRouteTable, terms_under}
-use Rattle.route_trace.proofs.Lookups.{left_terms, words_in}
+use Rattle.transfer_set.specs.Routes.{IsRouteTable, models_under}
+use Rattle.route_trace.proofs.Lookups.{left_exprs, words_in}
 use Rattle.route_trace.proofs.pairs.add_pairs.Given as goal
 
 abbrev pub invariant-loop-word : goal.invariant-loop-word
@@ -13,7 +13,7 @@ invariant-loop-word l = record {
   table : IsRouteTable l.book l.pool l.out;
   within : l.left < length l.book.nodes;
   inside : (word : ℕ) → has_word l.book l.left word ≡ true → has_word l.initial.book l.set word ≡ true;
-  terms : (word : ℕ) → word < 2 ^ l.initial.book.bits → terms_under l.book l.pool l.out word ≡ left_terms (has_word l.initial.book l.set word) (has_word l.book l.left word) (pairs l.binary (term_at l.initial.pool) (terms_under l.initial.book l.initial.pool l.firsts word) (terms_under l.initial.book l.initial.pool l.seconds word)) (terms_under l.initial.book l.initial.pool l.initial.out word);
+  terms : (word : ℕ) → word < 2 ^ l.initial.book.bits → models_under l.book l.pool l.out word ≡ left_exprs (has_word l.initial.book l.set word) (has_word l.book l.left word) (pairs l.binary (expr_of_id l.initial.pool) (models_under l.initial.book l.initial.pool l.firsts word) (models_under l.initial.book l.initial.pool l.seconds word)) (models_under l.initial.book l.initial.pool l.initial.out word);
 }
 
 -- each turn takes a word

@@ -2,9 +2,9 @@ use Rattle.std.proofs.Common.{◌≡◌, inr, ℕ, ◌<◌, ◌^◌, ◌&&◌, m
 use Rattle.std.proofs.lemmas.Result.{err_from_is_err_and, IfOk-from_err}
 use Rattle.bit_bdd.specs.Diagrams.{Extends, has_word}
 use Rattle.bit_bdd.proofs.CallerLemmas.{extends_trans, same_words, still_within}
-use Rattle.sym_expr.specs.Pools.{term_at}
+use Rattle.sym_expr.specs.Pools.{expr_of_id}
 use Rattle.sym_expr.proofs.CallerLemmas.{grows_refl}
-use Rattle.route_trace.specs.Inner.Heads.{head_term}
+use Rattle.route_trace.specs.Inner.Heads.{head_expr}
 use Rattle.route_trace.proofs.Merging.{held_later}
 use Rattle.route_trace.proofs.Products.{table_later, both_later}
 use Rattle.route_trace.proofs.Stopping.{many_in}
@@ -62,7 +62,7 @@ returns-clause-terms c word fits =
     let e = same_words c.args.book.now c.without.new.book c.in_ok-left.ensures.book c.args.set c.requires.set word in
     let f = same_words c.args.book.now c.without.new.book c.in_ok-left.ensures.book c.args.part c.requires.part word in
     same_choice _ _ _ _ _ _ _ (c.in_ok-both.ensures.words word ∙ (λ j. e j && f j))
-    (ap (map (head_term c.args.head (term_at c.args.pool.now))) (both_later c.args.book.now c.and.new.self c.args.pool.now c.args.pool.now grows (grows_refl c.args.pool.now) c.args.routes.now c.requires.source word))
+    (ap (map (head_expr c.args.head (expr_of_id c.args.pool.now))) (both_later c.args.book.now c.and.new.self c.args.pool.now c.args.pool.now grows (grows_refl c.args.pool.now) c.args.routes.now c.requires.source word))
     (both_later c.args.book.now c.and.new.self c.args.pool.now c.args.pool.now grows (grows_refl c.args.pool.now) c.args.out.now c.requires.table word)
     (c.in_ok-add_all.ensures.terms word (subst (λ b. word < 2 ^ b) (sym grows.bits) fits))
 
@@ -87,7 +87,7 @@ returns-in_err-add_all-clause-many c =
     (let e = same_words c.args.book.now c.without.new.book c.in_ok-left.ensures.book c.args.set c.requires.set word in
     let f = same_words c.args.book.now c.without.new.book c.in_ok-left.ensures.book c.args.part c.requires.part word in
     inr (same_choice _ _ _ _ _ _ terms (c.in_ok-both.ensures.words word ∙ (λ j. e j && f j))
-    (ap (map (head_term c.args.head (term_at c.args.pool.now))) (both_later c.args.book.now c.and.new.self c.args.pool.now c.args.pool.now grows (grows_refl c.args.pool.now) c.args.routes.now c.requires.source word))
+    (ap (map (head_expr c.args.head (expr_of_id c.args.pool.now))) (both_later c.args.book.now c.and.new.self c.args.pool.now c.args.pool.now grows (grows_refl c.args.pool.now) c.args.routes.now c.requires.source word))
     (both_later c.args.book.now c.and.new.self c.args.pool.now c.args.pool.now grows (grows_refl c.args.pool.now) c.args.out.now c.requires.table word)
     is)))
     c.in_err-add_all.ensures.many)

@@ -2,10 +2,10 @@ use Rattle.std.proofs.lemmas.Result.{IfOk-from_err}
 use Rattle.std.proofs.Common.{◌<◌, ◌^◌, ◌&&◌, not, [], ◌∷◌, map, length, refl, sym, ap, subst, ◌∙◌, arith}
 use Rattle.bit_bdd.specs.Diagrams.{has_word}
 use Rattle.bit_bdd.proofs.CallerLemmas.{extends_refl, extends_trans, same_words}
-use Rattle.net_model.specs.Terms.{term_width}
-use Rattle.sym_expr.specs.Pools.{term_at}
+use Rattle.net_model.specs.Exprs.{expr_width}
+use Rattle.sym_expr.specs.Pools.{expr_of_id}
 use Rattle.sym_expr.proofs.CallerLemmas.{grows_refl, grows_trans, same_term}
-use Rattle.route_trace.specs.Inner.Heads.{head_term}
+use Rattle.route_trace.specs.Inner.Heads.{head_expr}
 use Rattle.route_trace.specs.Inner.Lookups.{is_free}
 use Rattle.route_trace.proofs.Merging.{held_later, set_at}
 use Rattle.route_trace.proofs.Products.{both_later, fits-later, head-same, fit_at, expr_at, table_later}
@@ -27,7 +27,7 @@ loop-word-init c = record {
   table = c.requires.table;
   within = c.requires.set;
   inside = λ word h. h;
-  terms = λ word fits. left_first (has_word c.args.book.now c.args.set word) _ _ (λ h. ap (map (term_at c.args.pool.now)) (c.requires.apart word fits h));
+  terms = λ word fits. left_first (has_word c.args.book.now c.args.set word) _ _ (λ h. ap (map (expr_of_id c.args.pool.now)) (c.requires.apart word fits h));
 }
 
 pub add_one-requires-clause-route_set : goal.add_one-requires-clause-route_set
@@ -52,12 +52,12 @@ pub add_one-requires-clause-fits : goal.add_one-requires-clause-fits
 add_one-requires-clause-fits c =
     let h = held_at c.loop-word.book c.args.routes.now c.in-Some-place_of.place c.in-Some.word c.in-Some-place_of.ensures.some (record { expr = 0; set = 0 }) in
     fits-later c.args.pool.now c.loop-word.pool c.loop-word.invariant.pool c.args.head c.requires.parts _ _
-    (sym (ap term_width (same_term c.args.pool.now c.loop-word.pool c.loop-word.invariant.pool _ (expr_at (length c.args.pool.now) c.args.routes.now c.in-Some-place_of.place _ h.0 c.requires.source.exprs))))
+    (sym (ap expr_width (same_term c.args.pool.now c.loop-word.pool c.loop-word.invariant.pool _ (expr_at (length c.args.pool.now) c.args.routes.now c.in-Some-place_of.place _ h.0 c.requires.source.exprs))))
     (fit_at c.args.head c.args.pool.now c.args.routes.now c.in-Some-place_of.place _ h.0 c.requires.fits)
 
 pub add_one-requires-clause-apart : goal.add_one-requires-clause-apart
 add_one-requires-clause-apart c word fits both =
-    left_apart (term_at c.loop-word.pool) _ (has_word c.args.book.now c.args.set word) (has_word c.loop-word.book c.loop-word.left word) _ _
+    left_apart (expr_of_id c.loop-word.pool) _ (has_word c.args.book.now c.args.set word) (has_word c.loop-word.book c.loop-word.left word) _ _
     (c.loop-word.invariant.inside word) (c.loop-word.invariant.terms word (subst (λ b. word < 2 ^ b) c.loop-word.invariant.book.bits fits)) (and_left _ _ both)
 
 pub loop-word-preserved : goal.loop-word-preserved
@@ -72,7 +72,7 @@ loop-word-preserved c =
       within = c.in_ok-left-2.ensures.left_within;
       inside = λ word is. c.loop-word.invariant.inside word (and_left _ _ (sym (c.in_ok-left-2.ensures.left word) ∙ is));
       terms = λ word low.
-          left_step (map (head_term c.args.head (term_at c.args.pool.now))) c.args.book.now c.args.pool.now c.args.routes.now word c.in-Some-place_of.place _ h.0 (c.requires.one word low)
+          left_step (map (head_expr c.args.head (expr_of_id c.args.pool.now))) c.args.book.now c.args.pool.now c.args.routes.now word c.in-Some-place_of.place _ h.0 (c.requires.one word low)
           _ _ _ _ _ _ _ _ (c.loop-word.invariant.inside word)
           (same_words c.args.book.now c.loop-word.book c.loop-word.invariant.book _ in_set word)
           (c.in_ok-left-2.ensures.left word) (c.loop-word.invariant.terms word low)
@@ -98,7 +98,7 @@ loop-word-preserved-in_default-place_of c =
       within = c.in_ok-left.ensures.within;
       inside = λ word is. c.loop-word.invariant.inside word (and_left _ _ (sym (c.in_ok-left.ensures.words word) ∙ is));
       terms = λ word low.
-          left_free (map (head_term c.args.head (term_at c.args.pool.now))) c.args.book.now c.args.pool.now c.args.routes.now word refl
+          left_free (map (head_expr c.args.head (expr_of_id c.args.pool.now))) c.args.book.now c.args.pool.now c.args.routes.now word refl
           (has_word c.args.book.now c.args.set word) (has_word c.loop-word.book c.loop-word.left word) _ _ _
           (c.in_ok-left.ensures.words word ∙ ap (λ xs. has_word c.loop-word.book c.loop-word.left word && not (is_free xs)) (held_later c.args.book.now c.loop-word.book c.loop-word.invariant.book c.args.routes.now c.requires.source.right.sets word))
           (both_later c.loop-word.book c.held_words.new.book c.loop-word.pool c.loop-word.pool c.in_ok-left.ensures.book (grows_refl c.loop-word.pool) c.loop-word.out c.loop-word.invariant.table word ∙ c.loop-word.invariant.terms word low);

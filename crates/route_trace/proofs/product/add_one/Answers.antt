@@ -3,7 +3,7 @@ use Rattle.std.proofs.Common.{◌<◌, ◌^◌, ◌&&◌, sym, subst, ◌∙◌}
 use Rattle.bit_bdd.specs.Diagrams.{has_word}
 use Rattle.bit_bdd.proofs.CallerLemmas.{extends_trans, same_words, still_within}
 use Rattle.route_trace.proofs.Merging.{routes_later, held_later}
-use Rattle.route_trace.proofs.Products.{added_terms, exprs_later}
+use Rattle.route_trace.proofs.Products.{added_exprs, exprs_later}
 use Rattle.route_trace.proofs.product.add_one.Goals as goal
 
 pub and-requires-clause-a : goal.and-requires-clause-a
@@ -63,7 +63,7 @@ returns-clause-terms c word fits =
     let grows = extends_trans c.args.book.now c.without.new.book c.and.new.self c.in_ok-left.ensures.book c.in_ok-both.ensures.grows in
     let e = same_words c.args.book.now c.without.new.book c.in_ok-left.ensures.book c.args.set c.requires.set word in
     let f = same_words c.args.book.now c.without.new.book c.in_ok-left.ensures.book c.args.route.set c.requires.route_set word in
-    added_terms c.args.book.now c.and.new.self c.add_route.new.book c.args.pool.now c.close.new.pool grows c.in_ok-expr.ensures.grows c.args.out.now c.add_route.new.out c.requires.table
+    added_exprs c.args.book.now c.and.new.self c.add_route.new.book c.args.pool.now c.close.new.pool grows c.in_ok-expr.ensures.grows c.args.out.now c.add_route.new.out c.requires.table
     c.in_ok-expr.expr _ c.in_ok-expr.ensures.term word _ (has_word c.and.new.self c.in_ok-both.both word) (c.in_ok-both.ensures.words word ∙ (λ j. e j && f j))
     (c.in_ok-add_route.ensures.by_word word (subst (λ b. word < 2 ^ b) (sym grows.bits) fits))
 

@@ -5,7 +5,7 @@ use Rattle.std.proofs.lemmas.Result.{err_from_is_err_and, IfOk-from_err}
 use Rattle.bit_bdd.specs.Diagrams.{has_word}
 use Rattle.bit_bdd.proofs.CallerLemmas.{same_words, extends_trans, still_within}
 use Rattle.sym_expr.proofs.CallerLemmas.{grows_refl, grows_trans}
-use Rattle.transfer_set.specs.Routes.{IsSet, terms_under}
+use Rattle.transfer_set.specs.Routes.{IsSet, models_under}
 use Rattle.route_trace.specs.Inner.Routing.{each}
 use Rattle.route_trace.specs.Inner.Selects.{under}
 use Rattle.route_trace.proofs.Merging.{set_at, held_later}
@@ -113,7 +113,7 @@ returns-in_err-add_pairs-clause-many c =
     (many_in c.in_err-add_pairs.field-0.0 c.add_pairs.new.book c.add_pairs.new.pool _ _
     (λ word fits terms e.
     (let low = subst (λ b. word < 2 ^ b) (extends_trans c.args.book.now c.and.new.self c.add_pairs.new.book grows c.in_err-add_pairs.ensures.book).bits fits in
-    part_taken (each (λ t. under t (terms_under c.args.book.now c.args.pool.now c.args.firsts.now word) (terms_under c.args.book.now c.args.pool.now c.args.seconds.now word))) refl c.args.book.now c.args.pool.now c.args.choices.now (c.loop-route.route-index + 1) word (c.requires.choice_one word low)
+    part_taken (each (λ t. under t (models_under c.args.book.now c.args.pool.now c.args.firsts.now word) (models_under c.args.book.now c.args.pool.now c.args.seconds.now word))) refl c.args.book.now c.args.pool.now c.args.choices.now (c.loop-route.route-index + 1) word (c.requires.choice_one word low)
     (has_word c.args.book.now c.args.set word) _ terms
     (each_step _ c.args.book.now c.args.pool.now c.args.choices.now c.args.set word c.loop-route.route-index _ at (c.requires.choice_one word low)
     c.loop-route.book c.and.new.self c.loop-route.pool c.loop-route.invariant.book c.in_ok-both.ensures.grows c.loop-route.out c.loop-route.invariant.table c.requires.set in_set

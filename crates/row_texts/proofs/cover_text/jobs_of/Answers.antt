@@ -1,7 +1,7 @@
 use Rattle.std.proofs.Common.{ℕ, ◌≤◌, ◌<◌, ◌+◌, ◌^◌, subst, sym, arith}
 use Rattle.src_model.specs.Meaning.{cell_count}
 use Rattle.src_model.specs.Rules.{temp_count}
-use Rattle.src_model.specs.Written.{listing_of}
+use Rattle.src_model.specs.Written.{model_of_program}
 use Rattle.code_model.specs.declared.image.Places.{Places}
 use Rattle.src_trees.specs.Held.{HoldsVars, LieWithin}
 use Rattle.src_trees.proofs.Cells.{row_held, row_room}
@@ -10,7 +10,7 @@ use Rattle.row_texts.proofs.cover_text.jobs_of.Goals as goal
 pub lower-blocks-requires-clause-held : goal.lower-blocks-requires-clause-held
 lower-blocks-requires-clause-held c =
     let typed = c.args.typed.now in
-    let listing = listing_of typed.program in
+    let listing = model_of_program typed.program in
     let temps = temp_count typed.width listing in
     let enough : temps + cell_count listing.vars ≤ c.args.words = c.in-Ok.ensures.enough in
     let each : c.args.words ≤ 2 ^ c.args.addr_width = c.if-not-can_name.ensures.each in
@@ -24,7 +24,7 @@ lower-blocks-requires-clause-held c =
 pub lower-blocks-requires-clause-few : goal.lower-blocks-requires-clause-few
 lower-blocks-requires-clause-few c =
     let typed = c.args.typed.now in
-    let listing = listing_of typed.program in
+    let listing = model_of_program typed.program in
     let temps = temp_count typed.width listing in
     let enough : temps + cell_count listing.vars ≤ c.args.words = c.in-Ok.ensures.enough in
     let fits : c.args.words < 2 ^ 32 = c.ranges.words.fits in

@@ -18,7 +18,7 @@ loop-var-preserved c =
           let old = seen ∙ sym c.is_some.ensures ∙ w.if-is_some.true in
           record {
             finds = rw w.first-is (next_old _ _ _ c.var-item.result c.loop-var-test.true c.var-item.is old c.loop-var.invariant.finds);
-            all = rw (w.repeated-is, w.sooner-repeated.ensures) (rw old at all);
+            all = rw (w.repeated-is, w.lesser_offset-repeated.ensures) (rw old at all);
           }
       | else-is_some+in_ok-insert w ↦
           let new = seen ∙ sym c.is_some.ensures ∙ w.if-is_some.false in

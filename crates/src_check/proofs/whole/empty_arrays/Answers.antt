@@ -4,7 +4,7 @@ use Rattle.src_check.proofs.whole.empty_arrays.Goals as goal
 
 pub loop-var-preserved : goal.loop-var-preserved
 loop-var-preserved c =
-    rw (c.sooner-found.ensures, c.empty_array.ensures)
+    rw (c.lesser_offset-found.ensures, c.empty_array.ensures)
     (gather_next empty_array _ _ c.var-item.result _ _ c.loop-var-test.true c.var-item.is c.loop-var.invariant)
 
 pub returns : goal.returns

@@ -1,6 +1,6 @@
 use Rattle.std.proofs.Common.{ap, arith}
 use Rattle.src_model.specs.Sizes.{statements_else}
-use Rattle.src_model.proofs.Views.{else_acts}
+use Rattle.src_model.proofs.Views.{else_stmts}
 use Rattle.src_eval.proofs.BuildLemmas.{trees_of, trees_If, trees_While, trees_For}
 use Rattle.src_eval.proofs.build.trees.Goals as goal
 
@@ -25,7 +25,7 @@ overflow_add-result-in-Some c =
 pub trees_in-requires : goal.trees_in-requires
 trees_in-requires c =
     let all = trees_If c.args.statement.now _ c.in-If.yes c.in-If.no c.in-If.is in
-    let other = ap (λ o. statements_else (else_acts o)) c.in-Some.is in
+    let other = ap (λ o. statements_else (else_stmts o)) c.in-Some.is in
     let there = ap trees_of c.deref-in-Some.ensures.value in
     omega (arith, all, other, there, c.requires)
 
@@ -33,7 +33,7 @@ pub overflow_add-result-in-Some-2 : goal.overflow_add-result-in-Some-2
 overflow_add-result-in-Some-2 c =
     let all = trees_If c.args.statement.now _ c.in-If.yes c.in-If.no c.in-If.is in
     let here = ap trees_of c.deref.ensures.value in
-    let other = ap (λ o. statements_else (else_acts o)) c.in-Some.is in
+    let other = ap (λ o. statements_else (else_stmts o)) c.in-Some.is in
     let there = ap trees_of c.deref-in-Some.ensures.value in
     omega (arith, all, here, other, there, c.requires, c.trees_in-taken.ensures, c.trees_in.ensures)
 
@@ -65,14 +65,14 @@ pub returns-in-None : goal.returns-in-None
 returns-in-None c =
     let all = trees_If c.args.statement.now _ c.in-If.yes c.in-If.no c.in-If.is in
     let here = ap trees_of c.deref.ensures.value in
-    let other = ap (λ o. statements_else (else_acts o)) c.in-None.is in
+    let other = ap (λ o. statements_else (else_stmts o)) c.in-None.is in
     omega (arith, all, here, other, c.trees_in-taken.ensures)
 
 pub returns-in-Some : goal.returns-in-Some
 returns-in-Some c =
     let all = trees_If c.args.statement.now _ c.in-If.yes c.in-If.no c.in-If.is in
     let here = ap trees_of c.deref.ensures.value in
-    let other = ap (λ o. statements_else (else_acts o)) c.in-Some.is in
+    let other = ap (λ o. statements_else (else_stmts o)) c.in-Some.is in
     let there = ap trees_of c.deref-in-Some.ensures.value in
     omega (arith, all, here, other, there, c.trees_in-taken.ensures, c.trees_in.ensures)
 

@@ -1,7 +1,7 @@
 use Rattle.std.proofs.Common.{◌+◌, ◌*◌, ◌-◌, length}
 use Rattle.grammar.specs.Reading.{Within, Tail, Leads}
 use Rattle.src_model.specs.Grammar.{op_at, join, Chains, IsUnary}
-use Rattle.src_model.specs.Written.{phrase_of}
+use Rattle.src_model.specs.Written.{model_of_src_expr}
 use Rattle.src_parser.specs.Inner.Steps.{after}
 use Rattle.src_parser.proofs.expression.+expr.Given as goal
 
@@ -43,8 +43,8 @@ decreases-opened l = 30 * l.levels + 20
 
 -- what completes the chain so far completes it behind its first operand
 abbrev pub invariant-tail-chain : goal.invariant-tail-chain
-invariant-tail-chain l = Leads (λ v. v) (Within l.spare (Tail (Chains (l.k - 1) (IsUnary l.levels)) (op_at l.k) join (phrase_of l.left))) (after l.k) l.rest
-    (Within l.fn.room (Tail (Chains (l.k - 1) (IsUnary l.levels)) (op_at l.k) join (phrase_of l.fn.first))) (after l.k) l.fn.ts
+invariant-tail-chain l = Leads (λ v. v) (Within l.spare (Tail (Chains (l.k - 1) (IsUnary l.levels)) (op_at l.k) join (model_of_src_expr l.left))) (after l.k) l.rest
+    (Within l.fn.room (Tail (Chains (l.k - 1) (IsUnary l.levels)) (op_at l.k) join (model_of_src_expr l.fn.first))) (after l.k) l.fn.ts
 
 abbrev pub decreases-tail-chain : goal.decreases-tail-chain
 decreases-tail-chain l = length l.rest

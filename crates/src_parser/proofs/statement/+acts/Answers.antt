@@ -4,7 +4,7 @@ use Rattle.grammar.specs.Reading.{head}
 use Rattle.grammar.proofs.Steps.{return_reads, never_stops}
 use Rattle.grammar.proofs.Passing.{fails_too, gives_too, reads_too, same_leads, there_return, there_bind, there_many, there_maybe, beyond_reads, beyond_fails, short_of, on, past, stuck, starts_inner, returned, returned_reads, maybe_none, maybe_reads, maybe_fails}
 use Rattle.grammar.proofs.Repeats.{list_ends, list_fails, list_goes_on}
-use Rattle.src_model.specs.Written.{act_of}
+use Rattle.src_model.specs.Written.{model_of_stmt}
 use Rattle.src_parser.specs.Inner.Steps.{others_of, may_follow, else_word, acts_word}
 use Rattle.grammar.proofs.Tokens.{begun, ends, there_sign, there_number, there_behind, there_before, not_there}
 use Rattle.grammar.proofs.Kept.{kept_reads, kept_fails, kept_gives}
@@ -27,7 +27,7 @@ pub block-returns : goal.block-returns
 block-returns t c =
     let s : c.args.levels ≡ suc (c.args.levels - 1) = omega arith in
     let leads = block_leads c.args.levels (c.args.levels - 1) s in
-    kept_gives (λ rest. (tt, rest.now)) (λ x. (map act_of x.0.items, x.1.now))
+    kept_gives (λ rest. (tt, rest.now)) (λ x. (map model_of_stmt x.0.items, x.1.now))
     (λ rest r. reads_too leads (on c.in_ok-rest.ensures (beyond_reads (ends acts_word (λ a. begun) refl) c.in_ok-body.ensures (on r return_reads))))
     (λ stop f. fails_too leads (past c.in_ok-rest.ensures (beyond_fails (ends acts_word (λ a. begun) refl) c.in_ok-body.ensures (stuck (λ u. there_return) f))))
     c.expect-2.result c.expect-2.ensures c.keeping.result c.keeping.ensures.read c.keeping.ensures.stopped
@@ -38,13 +38,13 @@ body-acts-init t c = rw c.new-acts.ensures.items same_leads
 pub body-returns-in_err-next : goal.body-returns-in_err-next
 body-returns-in_err-next t c =
     let p = err_from_is_err_and c.from_residual.result c.from_residual.ensures.1 in
-    rw (p.1, p.2) (let b = c.begins_act.ensures.0 c.acts-test.true in list_fails (acted c.args.levels) act_of c.acts.acts.items (λ vs. vs) c.acts.invariant (ap head b.parts) b.is c.in_err-next.ensures)
+    rw (p.1, p.2) (let b = c.begins_act.ensures.0 c.acts-test.true in list_fails (acted c.args.levels) model_of_stmt c.acts.acts.items (λ vs. vs) c.acts.invariant (ap head b.parts) b.is c.in_err-next.ensures)
 
 pub body-acts-preserved : goal.body-acts-preserved
-body-acts-preserved t c = let b = c.begins_act.ensures.0 c.acts-test.true in rw c.in_ok-push.ensures.items (list_goes_on (acted c.args.levels) act_of c.acts.acts.items (λ vs. vs) c.acts.invariant (ap head b.parts) b.is c.in_ok-next.next c.in_ok-next.ensures)
+body-acts-preserved t c = let b = c.begins_act.ensures.0 c.acts-test.true in rw c.in_ok-push.ensures.items (list_goes_on (acted c.args.levels) model_of_stmt c.acts.acts.items (λ vs. vs) c.acts.invariant (ap head b.parts) b.is c.in_ok-next.next c.in_ok-next.ensures)
 
 pub body-returns : goal.body-returns
-body-returns t c = list_ends (acted c.args.levels) act_of c.acts.acts.items (λ vs. vs) c.acts.invariant (not_so c.begins_act.ensures c.acts-test.false)
+body-returns t c = list_ends (acted c.args.levels) model_of_stmt c.acts.acts.items (λ vs. vs) c.acts.invariant (not_so c.begins_act.ensures c.acts-test.false)
 
 pub otherwise-returns-in_err-rest : goal.otherwise-returns-in_err-rest
 otherwise-returns-in_err-rest t c =
@@ -70,18 +70,18 @@ choice-returns-in_err-test t c =
 pub choice-returns-in_err-test-2 : goal.choice-returns-in_err-test-2
 choice-returns-in_err-test-2 t c =
     let p = err_from_is_err_and c.from_residual-in_err-test-2.result c.from_residual-in_err-test-2.ensures.1 in
-    rw (p.1, p.2) (beyond_fails (ends (may_follow 6) (λ a. starts_inner (block_starts c.args.levels)) refl) c.in_ok-test.ensures (stuck (λ b. there_bind there_maybe (λ o. there_return)) (kept_fails (λ x. (map act_of x.0.items, x.1.now)) c.block.ensures c.in_err-test-2.ensures.stopped)))
+    rw (p.1, p.2) (beyond_fails (ends (may_follow 6) (λ a. starts_inner (block_starts c.args.levels)) refl) c.in_ok-test.ensures (stuck (λ b. there_bind there_maybe (λ o. there_return)) (kept_fails (λ x. (map model_of_stmt x.0.items, x.1.now)) c.block.ensures c.in_err-test-2.ensures.stopped)))
 
 pub choice-returns-in_err-test-3 : goal.choice-returns-in_err-test-3
 choice-returns-in_err-test-3 t c =
     let p = err_from_is_err_and c.from_residual-in_err-test-3.result c.from_residual-in_err-test-3.ensures.1 in
-    let yes = kept_reads (λ x. (map act_of x.0.items, x.1.now)) c.block.ensures c.in_ok-test-2.ensures.read.1 in
+    let yes = kept_reads (λ x. (map model_of_stmt x.0.items, x.1.now)) c.block.ensures c.in_ok-test-2.ensures.read.1 in
     let no = kept_fails (λ x. (others_of x.0, x.1.now)) c.otherwise.ensures c.in_err-test-3.ensures.stopped in
     rw (p.1, p.2) (beyond_fails (ends (may_follow 6) (λ a. starts_inner (block_starts c.args.levels)) refl) c.in_ok-test.ensures (past yes (fails_too returned no)))
 
 pub choice-returns : goal.choice-returns
 choice-returns t c =
-    let yes = kept_reads (λ x. (map act_of x.0.items, x.1.now)) c.block.ensures c.in_ok-test-2.ensures.read.1 in
+    let yes = kept_reads (λ x. (map model_of_stmt x.0.items, x.1.now)) c.block.ensures c.in_ok-test-2.ensures.read.1 in
     let no = kept_reads (λ x. (others_of x.0, x.1.now)) c.otherwise.ensures c.in_ok-test-3.ensures.read.1 in
     if_kept c.in_ok-test-2.test c.in_ok-test-2.yes c.in_ok-test-3.no c.in_ok-test-3.ensures.read.0
     (rw c.in_ok-test-2.ensures.read.0 (beyond_reads (ends (may_follow 6) (λ a. starts_inner (block_starts c.args.levels)) refl) c.in_ok-test.ensures (on yes (returned_reads no))))
@@ -94,11 +94,11 @@ repetition-returns-in_err-test t c =
 pub repetition-returns-in_err-test-2 : goal.repetition-returns-in_err-test-2
 repetition-returns-in_err-test-2 t c =
     let p = err_from_is_err_and c.from_residual-in_err-test-2.result c.from_residual-in_err-test-2.ensures.1 in
-    rw (p.1, p.2) (beyond_fails (ends (may_follow 6) (λ a. starts_inner (block_starts c.args.levels)) refl) c.in_ok-test.ensures (stuck (λ b. there_return) (kept_fails (λ x. (map act_of x.0.items, x.1.now)) c.block.ensures c.in_err-test-2.ensures.stopped)))
+    rw (p.1, p.2) (beyond_fails (ends (may_follow 6) (λ a. starts_inner (block_starts c.args.levels)) refl) c.in_ok-test.ensures (stuck (λ b. there_return) (kept_fails (λ x. (map model_of_stmt x.0.items, x.1.now)) c.block.ensures c.in_err-test-2.ensures.stopped)))
 
 pub repetition-returns : goal.repetition-returns
 repetition-returns t c =
-    let body = kept_reads (λ x. (map act_of x.0.items, x.1.now)) c.block.ensures c.in_ok-test-2.ensures.read.1 in
+    let body = kept_reads (λ x. (map model_of_stmt x.0.items, x.1.now)) c.block.ensures c.in_ok-test-2.ensures.read.1 in
     rw c.in_ok-test-2.ensures.read.0 (while_reads c.in_ok-test.test c.in_ok-test-2.body (beyond_reads (ends (may_follow 6) (λ a. starts_inner (block_starts c.args.levels)) refl) c.in_ok-test.ensures (on body return_reads)))
 
 pub counting-returns-in_err-counter : goal.counting-returns-in_err-counter
@@ -131,10 +131,10 @@ pub act-returns-then-levels-eq0 : goal.act-returns-then-levels-eq0
 act-returns-then-levels-eq0 t c = no_level c.args.levels c.if-levels-eq0.true c.in-Some.ensures (sym c.compound_of.ensures ∙ c.in-Some-compound_of.is)
 
 pub act-returns-in-Some-compound_of : goal.act-returns-in-Some-compound_of
-act-returns-in-Some-compound_of t c = gives_too (λ x. (act_of x.0, x.1.now)) (compound_leads c.args.levels c.in-Some.ensures (sym c.compound_of.ensures ∙ c.in-Some-compound_of.is)) c.composed.result c.composed.ensures
+act-returns-in-Some-compound_of t c = gives_too (λ x. (model_of_stmt x.0, x.1.now)) (compound_leads c.args.levels c.in-Some.ensures (sym c.compound_of.ensures ∙ c.in-Some-compound_of.is)) c.composed.result c.composed.ensures
 
 pub act-returns-in-Name : goal.act-returns-in-Name
-act-returns-in-Name t c = gives_too (λ x. (act_of x.0, x.1.now)) (name_leads c.args.levels c.in-Some.ensures c.in-Name.is) c.assignment.result c.assignment.ensures
+act-returns-in-Name t c = gives_too (λ x. (model_of_stmt x.0, x.1.now)) (name_leads c.args.levels c.in-Some.ensures c.in-Name.is) c.assignment.result c.assignment.ensures
 
 pub act-returns-in_default-word : goal.act-returns-in_default-word
 act-returns-in_default-word t c = act_missed c.args.levels c.in-Some.ensures (sym c.compound_of.ensures ∙ c.in_default-compound_of.is) c.in_default-word.not-Name

@@ -1,7 +1,7 @@
 use Rattle.std.proofs.Common.{◌+◌, ◌*◌, ◌++◌, length, map}
 use Rattle.grammar.specs.Reading.{Leads}
 use Rattle.src_model.specs.Grammar.{IsBody}
-use Rattle.src_model.specs.Written.{act_of}
+use Rattle.src_model.specs.Written.{model_of_stmt}
 use Rattle.src_parser.specs.Inner.Steps.{after_acts}
 use Rattle.src_parser.proofs.statement.+acts.Given as goal
 
@@ -31,7 +31,7 @@ decreases-body l = 10 * l.levels + 6
 
 -- what completes the statements so far completes the whole
 abbrev pub invariant-body-acts : goal.invariant-body-acts
-invariant-body-acts l = Leads (λ vs. map act_of l.acts.items ++ vs) (IsBody l.levels) after_acts l.rest (IsBody l.levels) after_acts l.fn.ts
+invariant-body-acts l = Leads (λ vs. map model_of_stmt l.acts.items ++ vs) (IsBody l.levels) after_acts l.rest (IsBody l.levels) after_acts l.fn.ts
 
 abbrev pub decreases-body-acts : goal.decreases-body-acts
 decreases-body-acts l = length l.rest

@@ -1,7 +1,7 @@
 use Rattle.std.proofs.lemmas.Result.{err_from_is_err_and}
 use Rattle.grammar.proofs.Steps.{return_reads}
 use Rattle.grammar.proofs.Passing.{there_return, there_bind, beyond_reads, beyond_fails, short_of, on, past, stuck}
-use Rattle.src_model.specs.Written.{phrase_of}
+use Rattle.src_model.specs.Written.{model_of_src_expr}
 use Rattle.src_parser.specs.Inner.Steps.{may_follow}
 use Rattle.grammar.proofs.Tokens.{begun, ends, there_sign, there_before}
 use Rattle.src_parser.proofs.Statements.{there_outer}
@@ -20,7 +20,7 @@ returns-in_err-a c =
 
 pub returns : goal.returns
 returns c =
-    kept_gives (λ rest. (tt, rest.now)) (λ x. (phrase_of x.0, x.1.now))
+    kept_gives (λ rest. (tt, rest.now)) (λ x. (model_of_src_expr x.0, x.1.now))
     (λ rest r. on c.in_ok-rest.ensures (beyond_reads (ends (may_follow 6) (λ a. begun) c.requires) c.in_ok-a.ensures (on r return_reads)))
     (λ stop f. past c.in_ok-rest.ensures (beyond_fails (ends (may_follow 6) (λ a. begun) c.requires) c.in_ok-a.ensures (stuck (λ u. there_return) f)))
     c.expect-2.result c.expect-2.ensures c.keeping.result c.keeping.ensures.read c.keeping.ensures.stopped

@@ -1,7 +1,7 @@
 use Rattle.std.proofs.Common.{subst, arith}
 use Rattle.std.proofs.lemmas.Grind.{common_steps}
 use Rattle.std.proofs.lemmas.Result.{IfOk-at_ok, IfOk-from_err}
-use Rattle.src_model.specs.Written.{shape_of, low}
+use Rattle.src_model.specs.Written.{model_of_src_node, low}
 use Rattle.src_model.specs.Fitting.{Fitting}
 use Rattle.src_model.proofs.FittingLemmas.{width_wide}
 use Rattle.rec_bits.specs.Operators.{IsWidth}
@@ -10,9 +10,9 @@ use Rattle.src_trees.proofs.trees.+tree.Goals as goal
 pub tree-overflow_cast-result-in-Low : goal.tree-overflow_cast-result-in-Low
 tree-overflow_cast-result-in-Low t c =
     let x = c.in-Low.x.value in
-    let f : Fitting c.args.memory.now.word c.args.asked (low x.at (shape_of x.node) c.in-Low.width) = subst (λ n. Fitting c.args.memory.now.word c.args.asked (shape_of n)) c.in-Low.is c.requires.fitting in
+    let f : Fitting c.args.memory.now.word c.args.asked (low x.at (model_of_src_node x.node) c.in-Low.width) = subst (λ n. Fitting c.args.memory.now.word c.args.asked (model_of_src_node n)) c.in-Low.is c.requires.fitting in
     let i = subst IsWidth c.word-word.ensures.value c.word-word.ensures.wide in
-    let w = width_wide c.args.memory.now.word c.args.memory.now.word (shape_of x.node) i i f.0 in
+    let w = width_wide c.args.memory.now.word c.args.memory.now.word (model_of_src_node x.node) i i f.0 in
     omega (arith, w, f.2)
 
 pub tree-returns-in_ok-left-in-Bin-2 : goal.tree-returns-in_ok-left-in-Bin-2

@@ -2,8 +2,8 @@ use Rattle.std.proofs.Common.{take}
 use Rattle.bit_bdd.specs.Diagrams.{Extends}
 use Rattle.transfer_set.specs.Ready.{IsReady}
 use Rattle.form_model.specs.Covers.{stock_with}
-use Rattle.src_trees.specs.Jobs.{works_of}
-use Rattle.net_code.specs.Machines.{machine_netlist, machine_patterns}
+use Rattle.src_trees.specs.Jobs.{models_of_jobs}
+use Rattle.code_gen.specs.Machines.{machine_netlist, machine_patterns}
 use Rattle.test_code.specs.Codes.{IsCodeOf}
 use Rattle.test_code.proofs.code.code_of.Given as goal
 
@@ -11,5 +11,5 @@ abbrev pub invariant-loop-job : goal.invariant-loop-job
 invariant-loop-job l = record {
   grows : Extends l.initial.book l.book;
   ready : IsReady (machine_netlist l.machine) l.book l.machine.pool.now l.machine.patterns.now;
-  code : IsCodeOf (machine_netlist l.machine) (machine_patterns l.machine) (stock_with l.forms.list.items l.tests.temps l.forms.file) (take l.job-index (works_of l.tests.blocks.jobs.items)) l.code;
+  code : IsCodeOf (machine_netlist l.machine) (machine_patterns l.machine) (stock_with l.forms.list.items l.tests.temps l.forms.file) (take l.job-index (models_of_jobs l.tests.blocks.jobs.items)) l.code;
 }

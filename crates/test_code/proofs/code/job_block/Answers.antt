@@ -1,19 +1,19 @@
 use Rattle.std.proofs.Common.{◌≡◌, ◌∙◌, List, ap, subst, sym}
 use Rattle.std.proofs.lemmas.Result.{IfOk-from_err}
 use Rattle.block_words.specs.Laws.{operation_in}
-use Rattle.cover.specs.Best.{choice_of}
+use Rattle.cover.specs.Best.{model_of_job_cover}
 use Rattle.form_model.specs.Covers.{stock_with}
 use Rattle.form_model.specs.declared.forms.Step.{Step}
 use Rattle.form_model.specs.Live.{Regs, no_regs, regs_of, singles}
-use Rattle.form_model.specs.Rules.{rules_of}
+use Rattle.form_model.specs.Forms.{models_of_forms}
 use Rattle.form_model.specs.Steps.{cover_steps}
-use Rattle.src_trees.specs.Jobs.{work_of}
+use Rattle.src_trees.specs.Jobs.{model_of_job}
 use Rattle.word_fit.specs.Fits.{fits_over}
 use Rattle.word_fit.specs.Groups.{AllHaveWords}
 use Rattle.right_code.specs.Jobs.{job_steps, tree_or_none}
-use Rattle.net_code.specs.Blocks.{IsPackedBlock}
-use Rattle.net_code.specs.Machines.{machine_netlist, machine_patterns}
-use Rattle.net_code.proofs.Packing.{none_live, told_words}
+use Rattle.code_gen.specs.Blocks.{IsPackedBlock}
+use Rattle.code_gen.specs.Machines.{machine_netlist, machine_patterns}
+use Rattle.code_gen.proofs.Packing.{none_live, told_words}
 use Rattle.test_code.proofs.Fitting.{job_have, words_fit}
 use Rattle.test_code.proofs.code.job_block.Goals as goal
 
@@ -28,22 +28,22 @@ pack_block-requires-clause-words c =
     let patterns = machine_patterns c.args.machine.now in
     let forms = c.args.forms.now in
     let stock = stock_with forms.list.items c.args.temps forms.file in
-    let job = work_of c.args.job.now in
-    let choice = choice_of c.args.chosen.now in
+    let job = model_of_job c.args.job.now in
+    let choice = model_of_job_cover c.args.chosen.now in
     let emitted = c.in_ok-emitted.ensures in
     let is : c.as_slice.result.now ≡ job_steps stock job choice =
     c.as_slice.ensures ∙ emitted.steps ∙ ap (λ x. cover_steps stock job.destination x choice.plan) (sym (ap tree_or_none emitted.used)) in
     told_words netlist c.args.machine.now.pool.now c.args.machine.now.patterns.now _ _ c.requires.ready.patterns.file
     (subst (λ (steps : List Step). AllHaveWords (operation_in netlist patterns) (fits_over netlist (operation_in netlist patterns)) (singles steps) (regs_of 0)) (sym is)
-    (job_have netlist order keeps patterns c.requires.patterns (rules_of forms.list.items) forms.reach c.requires.forms c.args.temps forms.file job choice c.requires.job c.requires.file c.requires.chosen))
+    (job_have netlist order keeps patterns c.requires.patterns (models_of_forms forms.list.items) forms.reach c.requires.forms c.args.temps forms.file job choice c.requires.job c.requires.file c.requires.chosen))
 
 pub returns-clause-words : goal.returns-clause-words
 returns-clause-words c =
     let netlist = machine_netlist c.args.machine.now in
     let patterns = machine_patterns c.args.machine.now in
     let stock = stock_with c.args.forms.now.list.items c.args.temps c.args.forms.now.file in
-    let job = work_of c.args.job.now in
-    let choice = choice_of c.args.chosen.now in
+    let job = model_of_job c.args.job.now in
+    let choice = model_of_job_cover c.args.chosen.now in
     let emitted = c.in_ok-emitted.ensures in
     let is : c.as_slice.result.now ≡ job_steps stock job choice =
     c.as_slice.ensures ∙ emitted.steps ∙ ap (λ x. cover_steps stock job.destination x choice.plan) (sym (ap tree_or_none emitted.used)) in

@@ -2,7 +2,7 @@ use Rattle.std.proofs.lemmas.Result.{IfOk-from_err}
 use Rattle.std.proofs.Common.{◌==◌, ◌&&◌, ◌++◌, [], ◌∷◌, sym, ◌∙◌}
 use Rattle.bit_bdd.specs.Diagrams.{has_word}
 use Rattle.transfer_set.specs.declared.entries.Entry.{Entry}
-use Rattle.transfer_set.specs.Entries.{ids_move}
+use Rattle.transfer_set.specs.Entries.{ids_transfer}
 use Rattle.transfer_set.specs.Inner.Entries.{list_if}
 use Rattle.transfer_set.proofs.Collecting.{held_entries_later, held_entries_push, known_push, moves_later, moves_push, nothing, whole_later, whole_push, words_same}
 use Rattle.transfer_set.proofs.entries.add_entry.Goals as goal
@@ -13,7 +13,7 @@ returns-in-None-clause-words c = held_entries_later c.args.book.now c.and.new.se
 pub returns-in-None-clause-moves : goal.returns-in-None-clause-moves
 returns-in-None-clause-moves c pool id word =
     moves_later c.args.book.now c.and.new.self c.in_ok-set.ensures.grows pool c.args.out.now c.requires.words id word
-    ∙ nothing _ (ids_move pool c.args.addr c.args.value ∷ []) (c.args.storage == id) _ (sym (c.in_ok-set.ensures.words word) ∙ c.in-None.ensures.none word)
+    ∙ nothing _ (ids_transfer pool c.args.addr c.args.value ∷ []) (c.args.storage == id) _ (sym (c.in_ok-set.ensures.words word) ∙ c.in-None.ensures.none word)
 
 pub returns-in-None-clause-whole : goal.returns-in-None-clause-whole
 returns-in-None-clause-whole c netlist pool w is = whole_later c.args.book.now c.and.new.self c.in_ok-set.ensures.grows netlist pool c.args.out.now c.requires.words w
@@ -32,14 +32,14 @@ returns-in_ok-push-in-Some-clause-moves c pool id word =
     let q = c.in_ok-set.ensures.words word in
     rw c.in_ok-push-in-Some.ensures.pushed
     (moves_push c.and.new.self pool c.args.out.now x id word
-    ∙ (λ j. p j ++ list_if ((c.args.storage == id) && q j) (ids_move pool c.args.addr c.args.value ∷ [])))
+    ∙ (λ j. p j ++ list_if ((c.args.storage == id) && q j) (ids_transfer pool c.args.addr c.args.value ∷ [])))
 
 pub returns-in_ok-push-in-Some-clause-whole : goal.returns-in_ok-push-in-Some-clause-whole
 returns-in_ok-push-in-Some-clause-whole c netlist pool w is =
     let x : Entry = record { storage = c.args.storage; addr = c.args.addr; value = c.args.value; set = c.in_ok-set.set } in
     rw c.in_ok-push-in-Some.ensures.pushed
     (whole_push netlist pool c.and.new.self c.args.out.now x (whole_later c.args.book.now c.and.new.self c.in_ok-set.ensures.grows netlist pool c.args.out.now c.requires.words w)
-    (words_same netlist c.args.book.now.bits c.and.new.self.bits c.args.storage (ids_move pool c.args.addr c.args.value)
+    (words_same netlist c.args.book.now.bits c.and.new.self.bits c.args.storage (ids_transfer pool c.args.addr c.args.value)
     (λ word. has_word c.args.book.now c.args.a word && has_word c.args.book.now c.args.b word) (λ word. has_word c.and.new.self c.in_ok-set.set word)
     c.in_ok-set.ensures.grows.bits c.in_ok-set.ensures.words is))
 

@@ -4,11 +4,11 @@ use Rattle.std.specs.List.{slice_index_or}
 use Rattle.std.proofs.lemmas.Option.{slice_get-get_or}
 use Rattle.bit_bdd.specs.Diagrams.{has_word}
 use Rattle.bit_bdd.proofs.CallerLemmas.{same_words, extends_trans}
-use Rattle.net_model.specs.Terms.{Term, write_at}
-use Rattle.sym_expr.specs.Pools.{term_at}
+use Rattle.net_model.specs.Exprs.{ExprModel, write_at}
+use Rattle.sym_expr.specs.Pools.{expr_of_id}
 use Rattle.transfer_set.specs.declared.route.Route.{Route}
-use Rattle.transfer_set.specs.Routes.{terms_under}
-use Rattle.transfer_set.specs.Inner.Entries.{each, list_if, memory_moves, moves_under}
+use Rattle.transfer_set.specs.Routes.{models_under}
+use Rattle.transfer_set.specs.Inner.Entries.{each, list_if, memory_transfers, transfers_under}
 use Rattle.transfer_set.proofs.Collecting.{expr_at, held_entries_later, moves_later, set_at, sets_later, terms_later, terms_more, turn, whole_later, words_same}
 use Rattle.transfer_set.proofs.entries.add_memory.Goals as goal
 
@@ -39,25 +39,25 @@ loop-route-preserved c =
       words = c.in_ok-add_values.ensures.words;
       moves = λ pool id word.
           let words = c.in_ok-both.ensures.words word in
-          turn (λ (a : Term). each (memory_moves a) (terms_under c.args.book.now pool c.args.values.now word)) (term_at pool route.expr)
-          (terms_under c.args.book.now pool (take c.loop-route.route-index c.args.addrs.now) word) _
-          _ (moves_under c.and.new.self pool c.loop-route.out id word) _
-          (each (memory_moves (term_at pool route.expr)) (terms_under c.and.new.self pool c.args.values.now word))
+          turn (λ (a : ExprModel). each (memory_transfers a) (models_under c.args.book.now pool c.args.values.now word)) (expr_of_id pool route.expr)
+          (models_under c.args.book.now pool (take c.loop-route.route-index c.args.addrs.now) word) _
+          _ (transfers_under c.and.new.self pool c.loop-route.out id word) _
+          (each (memory_transfers (expr_of_id pool route.expr)) (models_under c.and.new.self pool c.args.values.now word))
           (c.args.storage == id) (has_word c.args.book.now c.args.on word) (has_word c.args.book.now route.set word)
           (has_word c.loop-route.book c.args.on word) (has_word c.loop-route.book route.set word)
           (moves_later c.loop-route.book c.and.new.self step pool c.loop-route.out c.loop-route.invariant.words id word ∙ c.loop-route.invariant.moves pool id word)
           (on word) (of_route word)
-          (ap (each (memory_moves (term_at pool route.expr))) (terms_later c.args.book.now c.and.new.self more pool c.args.values.now c.requires.values word))
+          (ap (each (memory_transfers (expr_of_id pool route.expr))) (terms_later c.args.book.now c.and.new.self more pool c.args.values.now c.requires.values word))
           (c.in_ok-add_values.ensures.moves pool id word
-          ∙ (λ j. moves_under c.and.new.self pool c.loop-route.out id word
-          ++ list_if ((c.args.storage == id) && words j) (each (memory_moves (term_at pool route.expr)) (terms_under c.and.new.self pool c.args.values.now word))))
+          ∙ (λ j. transfers_under c.and.new.self pool c.loop-route.out id word
+          ++ list_if ((c.args.storage == id) && words j) (each (memory_transfers (expr_of_id pool route.expr)) (models_under c.and.new.self pool c.args.values.now word))))
           (terms_more c.args.book.now pool c.args.addrs.now c.loop-route.route-index route at word);
       whole = λ netlist pool w h.
           c.in_ok-add_values.ensures.whole netlist pool
           (whole_later c.loop-route.book c.and.new.self step netlist pool c.loop-route.out c.loop-route.invariant.words (c.loop-route.invariant.whole netlist pool w h))
           (λ place value there.
           let of_value = same_words c.args.book.now c.and.new.self more value.set (set_at c.args.book.now c.args.values.now place value there c.requires.values).within in
-          words_same netlist c.args.book.now.bits c.and.new.self.bits c.args.storage (write_at (term_at pool route.expr) (term_at pool value.expr))
+          words_same netlist c.args.book.now.bits c.and.new.self.bits c.args.storage (write_at (expr_of_id pool route.expr) (expr_of_id pool value.expr))
           (λ word. (has_word c.args.book.now c.args.on word && has_word c.args.book.now route.set word) && has_word c.args.book.now value.set word)
           (λ word. has_word c.and.new.self c.in_ok-both.both word && has_word c.and.new.self value.set word)
           more.bits (λ word.

@@ -3,11 +3,11 @@ use Rattle.std.specs.List.{slice_index_or}
 use Rattle.std.proofs.lemmas.Option.{slice_get-get_or}
 use Rattle.bit_bdd.specs.Diagrams.{has_word}
 use Rattle.bit_bdd.proofs.CallerLemmas.{same_words, extends_trans}
-use Rattle.net_model.specs.Terms.{write}
-use Rattle.sym_expr.specs.Pools.{term_at}
+use Rattle.net_model.specs.Exprs.{write}
+use Rattle.sym_expr.specs.Pools.{expr_of_id}
 use Rattle.transfer_set.specs.declared.route.Route.{Route}
-use Rattle.transfer_set.specs.Routes.{terms_under}
-use Rattle.transfer_set.specs.Inner.Entries.{moves_under, register_moves}
+use Rattle.transfer_set.specs.Routes.{models_under}
+use Rattle.transfer_set.specs.Inner.Entries.{transfers_under, register_transfers}
 use Rattle.transfer_set.proofs.Collecting.{expr_at, set_at, terms_more, turn, words_same}
 use Rattle.transfer_set.proofs.entries.add_register.Goals as goal
 
@@ -32,16 +32,16 @@ loop-route-preserved c =
       grows = extends_trans c.args.book.now c.loop-route.book c.add_write.new.book grows c.in_ok-add_write.ensures.grows;
       words = c.in_ok-add_write.ensures.words;
       moves = λ id word.
-          turn (register_moves c.args.storage) (term_at c.args.pool.now route.expr)
-          (terms_under c.args.book.now c.args.pool.now (take c.loop-route.route-index c.args.routes.now) word) _
-          _ (moves_under c.loop-route.book c.args.pool.now c.loop-route.out id word) _ (register_moves c.args.storage (term_at c.args.pool.now route.expr))
+          turn (register_transfers c.args.storage) (expr_of_id c.args.pool.now route.expr)
+          (models_under c.args.book.now c.args.pool.now (take c.loop-route.route-index c.args.routes.now) word) _
+          _ (transfers_under c.loop-route.book c.args.pool.now c.loop-route.out id word) _ (register_transfers c.args.storage (expr_of_id c.args.pool.now route.expr))
           (c.args.storage == id) (has_word c.args.book.now c.args.on word) (has_word c.args.book.now route.set word)
           (has_word c.loop-route.book c.args.on word) (has_word c.loop-route.book route.set word)
           (c.loop-route.invariant.moves id word) (on word) (of_route word) refl (c.in_ok-add_write.ensures.moves id word)
           (terms_more c.args.book.now c.args.pool.now c.args.routes.now c.loop-route.route-index route at word);
       whole = λ netlist w h.
           c.in_ok-add_write.ensures.whole netlist (c.loop-route.invariant.whole netlist w h)
-          (λ other. words_same netlist c.args.book.now.bits c.loop-route.book.bits c.args.storage (write (term_at c.args.pool.now route.expr))
+          (λ other. words_same netlist c.args.book.now.bits c.loop-route.book.bits c.args.storage (write (expr_of_id c.args.pool.now route.expr))
           (λ word. has_word c.args.book.now c.args.on word && has_word c.args.book.now route.set word)
           (λ word. has_word c.loop-route.book c.args.on word && has_word c.loop-route.book route.set word)
           grows.bits (λ word. λ j. on word j && of_route word j) (h c.loop-route.route-index route at other));

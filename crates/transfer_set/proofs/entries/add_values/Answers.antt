@@ -4,11 +4,11 @@ use Rattle.std.specs.List.{slice_index_or}
 use Rattle.std.proofs.lemmas.Option.{slice_get-get_or}
 use Rattle.bit_bdd.specs.Diagrams.{has_word}
 use Rattle.bit_bdd.proofs.CallerLemmas.{same_words, extends_trans}
-use Rattle.net_model.specs.Terms.{write_at}
-use Rattle.sym_expr.specs.Pools.{term_at}
+use Rattle.net_model.specs.Exprs.{write_at}
+use Rattle.sym_expr.specs.Pools.{expr_of_id}
 use Rattle.transfer_set.specs.declared.route.Route.{Route}
-use Rattle.transfer_set.specs.Routes.{terms_under}
-use Rattle.transfer_set.specs.Inner.Entries.{memory_moves, moves_under}
+use Rattle.transfer_set.specs.Routes.{models_under}
+use Rattle.transfer_set.specs.Inner.Entries.{memory_transfers, transfers_under}
 use Rattle.transfer_set.proofs.Collecting.{expr_at, set_at, terms_more, turn, words_same}
 use Rattle.transfer_set.proofs.entries.add_values.Goals as goal
 
@@ -29,16 +29,16 @@ loop-route-preserved c =
       grows = extends_trans c.args.book.now c.loop-route.book c.add_entry.new.book grows c.in_ok-add_entry.ensures.grows;
       words = c.in_ok-add_entry.ensures.words;
       moves = λ pool id word.
-          turn (memory_moves (term_at pool c.args.addr)) (term_at pool route.expr)
-          (terms_under c.args.book.now pool (take c.loop-route.route-index c.args.values.now) word) _
-          _ (moves_under c.loop-route.book pool c.loop-route.out id word) _ (memory_moves (term_at pool c.args.addr) (term_at pool route.expr))
+          turn (memory_transfers (expr_of_id pool c.args.addr)) (expr_of_id pool route.expr)
+          (models_under c.args.book.now pool (take c.loop-route.route-index c.args.values.now) word) _
+          _ (transfers_under c.loop-route.book pool c.loop-route.out id word) _ (memory_transfers (expr_of_id pool c.args.addr) (expr_of_id pool route.expr))
           (c.args.storage == id) (has_word c.args.book.now c.args.on word) (has_word c.args.book.now route.set word)
           (has_word c.loop-route.book c.args.on word) (has_word c.loop-route.book route.set word)
           (c.loop-route.invariant.moves pool id word) (on word) (of_route word) refl (c.in_ok-add_entry.ensures.moves pool id word)
           (terms_more c.args.book.now pool c.args.values.now c.loop-route.route-index route at word);
       whole = λ netlist pool w h.
           c.in_ok-add_entry.ensures.whole netlist pool (c.loop-route.invariant.whole netlist pool w h)
-          (words_same netlist c.args.book.now.bits c.loop-route.book.bits c.args.storage (write_at (term_at pool c.args.addr) (term_at pool route.expr))
+          (words_same netlist c.args.book.now.bits c.loop-route.book.bits c.args.storage (write_at (expr_of_id pool c.args.addr) (expr_of_id pool route.expr))
           (λ word. has_word c.args.book.now c.args.on word && has_word c.args.book.now route.set word)
           (λ word. has_word c.loop-route.book c.args.on word && has_word c.loop-route.book route.set word)
           grows.bits (λ word. λ j. on word j && of_route word j) (h c.loop-route.route-index route at));

@@ -1,7 +1,7 @@
 use Rattle.std.proofs.Common.{◌++◌, length, ap, ◌∙◌}
 use Rattle.std.proofs.lemmas.Result.{on_ok_weaker}
 use Rattle.net_model.specs.Widths.{StorageFits}
-use Rattle.transfer_set.specs.Inner.Entries.{moves_under}
+use Rattle.transfer_set.specs.Inner.Entries.{transfers_under}
 use Rattle.transfer_set.proofs.Feeding.{all_at, memory_gives, memory_known, memory_whole}
 use Rattle.transfer_set.proofs.sources.add_array.Goals as goal
 
@@ -26,7 +26,7 @@ add_memory-requires-clause-values c =
 pub returns-clause-moves : goal.returns-clause-moves
 returns-clause-moves c = on_ok_weaker c.add_memory.result (λ gives n word fits.
     rw (c.when_set-on.ensures, c.routes_of-addrs.ensures, c.routes_of-values.ensures) at gives c.args.pool.now n word
-    ∙ ap (λ l. moves_under c.args.book.now c.args.pool.now c.args.out.now n word ++ l)
+    ∙ ap (λ l. transfers_under c.args.book.now c.args.pool.now c.args.out.now n word ++ l)
     (memory_gives c.args.checked.now.netlist c.args.book.now c.args.pool.now c.args.controls.now c.args.routes.now.of c.requires.source c.len-ids.ensures.one_each
     c.args.id c.args.cells.now _ c.requires.at.is c.requires.at.at (all_at (StorageFits c.args.checked.now.netlist) c.args.checked.now.netlist.storages c.args.id _ c.requires.at.at c.netlist-netlist.ensures.sound.typed.storages) n word fits))
     c.add_memory.ensures.moves

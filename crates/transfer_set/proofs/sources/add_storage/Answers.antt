@@ -3,7 +3,7 @@ use Rattle.std.proofs.lemmas.Option.{slice_get_read}
 use Rattle.std.proofs.lemmas.Result.{on_ok_weaker}
 use Rattle.net_model.specs.declared.hardware.Storage.{Storage}
 use Rattle.net_model.specs.Widths.{StorageFits}
-use Rattle.transfer_set.specs.Inner.Entries.{moves_under}
+use Rattle.transfer_set.specs.Inner.Entries.{transfers_under}
 use Rattle.transfer_set.specs.Inner.Sources.{memory, file}
 use Rattle.transfer_set.proofs.Feeding.{all_at, register_gives, register_known, register_whole}
 use Rattle.transfer_set.proofs.sources.add_storage.Goals as goal
@@ -36,7 +36,7 @@ pub returns-in-Register-clause-moves : goal.returns-in-Register-clause-moves
 returns-in-Register-clause-moves c = on_ok_weaker c.add_register.result (λ gives n word fits.
     let at = stored c.args.checked.now.netlist.storages c.args.id _ _ c.requires.id (rw (c.as_slice-storages.ensures, c.netlist.ensures.value) at c.index-storages-id.is) c.in-Register.is in
     rw (c.when_set-on.ensures, c.routes_of-inputs.ensures) at gives n word
-    ∙ ap (λ l. moves_under c.args.book.now c.args.pool.now c.args.out.now n word ++ l)
+    ∙ ap (λ l. transfers_under c.args.book.now c.args.pool.now c.args.out.now n word ++ l)
     (register_gives c.args.checked.now.netlist c.args.book.now c.args.pool.now c.args.controls.now c.args.routes.now.of c.requires.source c.len-ids.ensures.one_each
     c.args.id _ _ _ _ at (all_at (StorageFits c.args.checked.now.netlist) c.args.checked.now.netlist.storages c.args.id _ at c.netlist.ensures.sound.typed.storages) n word fits))
     c.add_register.ensures.moves

@@ -3,7 +3,7 @@ use Rattle.std.proofs.Common.{◌≡◌, ◌^◌, ◌<◌, ◌≤◌, ◌==◌, 
 use Rattle.bit_bdd.specs.Diagrams.{has_word}
 use Rattle.bit_bdd.proofs.CallerLemmas.{extends_trans, same_words}
 use Rattle.net_model.proofs.KeptRules.{few_storages}
-use Rattle.net_model.specs.Transfers.{move_at}
+use Rattle.net_model.specs.Transfers.{transfer_at}
 use Rattle.transfer_set.specs.Inner.Entries.{list_if}
 use Rattle.transfer_set.specs.Inner.Sources.{changes}
 use Rattle.transfer_set.proofs.Finding.{each_is, every_is}
@@ -30,8 +30,8 @@ loop-id-preserved c =
           let same = same_words c.args.book.now c.loop-id.book grows c.args.controls.now.legal c.requires.source.within word in
           let so_far = c.loop-id.invariant.moves n word fits in
           c.in_ok-add_storage.ensures.moves n word (subst (λ b. word < 2 ^ b) (sym grows.bits) fits)
-          ∙ (λ j. so_far j ++ list_if ((c.loop-id.id == n) && same j) (changes (move_at c.args.checked.now.netlist word c.loop-id.id)))
-          ∙ upto c.loop-id.id n (has_word c.args.book.now c.args.controls.now.legal word) (λ m. changes (move_at c.args.checked.now.netlist word m));
+          ∙ (λ j. so_far j ++ list_if ((c.loop-id.id == n) && same j) (changes (transfer_at c.args.checked.now.netlist word c.loop-id.id)))
+          ∙ upto c.loop-id.id n (has_word c.args.book.now c.args.controls.now.legal word) (λ m. changes (transfer_at c.args.checked.now.netlist word m));
       whole = c.in_ok-add_storage.ensures.whole c.loop-id.invariant.whole;
       known = c.in_ok-add_storage.ensures.known c.loop-id.invariant.known;
     }

@@ -1,7 +1,7 @@
 use Rattle.std.proofs.Common.{◌≡◌, ℕ, ◌^◌, ◌<◌, ◌&&◌, length, nat_lt}
 use Rattle.bit_bdd.specs.Diagrams.{Extends, has_word}
-use Rattle.net_model.specs.Transfers.{move_at}
-use Rattle.transfer_set.specs.Inner.Entries.{HaveWords, AreKnown, AreWhole, list_if, moves_under}
+use Rattle.net_model.specs.Transfers.{transfer_at}
+use Rattle.transfer_set.specs.Inner.Entries.{HaveWords, AreKnown, AreWhole, list_if, transfers_under}
 use Rattle.transfer_set.specs.Inner.Sources.{changes}
 use Rattle.transfer_set.proofs.sources.collect_entries.Given as goal
 
@@ -9,7 +9,7 @@ abbrev pub invariant-loop-id : goal.invariant-loop-id
 invariant-loop-id l = record {
   grows : Extends l.initial.book l.book;
   words : HaveWords l.book l.out;
-  moves : (n word : ℕ) → word < 2 ^ l.initial.book.bits → moves_under l.book l.pool l.out n word ≡ list_if (nat_lt n l.id && has_word l.initial.book l.controls.legal word) (changes (move_at l.checked.netlist word n));
+  moves : (n word : ℕ) → word < 2 ^ l.initial.book.bits → transfers_under l.book l.pool l.out n word ≡ list_if (nat_lt n l.id && has_word l.initial.book l.controls.legal word) (changes (transfer_at l.checked.netlist word n));
   whole : AreWhole l.checked.netlist l.pool l.book l.out;
   known : AreKnown (length l.pool) l.out;
 }

@@ -1,5 +1,5 @@
 use Rattle.std.proofs.Common.{subst, sym}
-use Rattle.tree_grammar.specs.Parts.{AreAt}
+use Rattle.tree_grammar.specs.Leaves.{AreAt}
 use Rattle.tree_grammar.proofs.forms.match_at.Goals as goal
 
 pub returns-in-Some-clause-at : goal.returns-in-Some-clause-at

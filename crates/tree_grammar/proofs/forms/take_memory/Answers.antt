@@ -1,6 +1,6 @@
 use Rattle.std.proofs.Common.{subst, sym}
 use Rattle.std.proofs.lemmas.Result.{IfOk-from_err}
-use Rattle.form_model.specs.Trees.{tree_term}
+use Rattle.form_model.specs.Trees.{model_of_tree}
 use Rattle.tree_grammar.specs.Numbers.{HoldsSubtrees}
 use Rattle.tree_grammar.proofs.forms.take_memory.Goals as goal
 
@@ -9,11 +9,11 @@ returns-in_default-2-clause-at c = λ nodes s old. c.in_ok-x.ensures.at nodes s.
 
 pub returns-in_default-3-clause-at : goal.returns-in_default-3-clause-at
 returns-in_default-3-clause-at c = λ nodes s old.
-    c.in_ok-y.ensures.at nodes (subst (λ n. HoldsSubtrees nodes n (tree_term c.args.tree.now)) (sym c.in_ok-after.ensures) s.value) (c.in_ok-x.ensures.at nodes s.address old)
+    c.in_ok-y.ensures.at nodes (subst (λ n. HoldsSubtrees nodes n (model_of_tree c.args.tree.now)) (sym c.in_ok-after.ensures) s.value) (c.in_ok-x.ensures.at nodes s.address old)
 
 pub returns-clause-at : goal.returns-clause-at
 returns-clause-at c = λ nodes s old.
-    c.in_ok-y.ensures.at nodes (subst (λ n. HoldsSubtrees nodes n (tree_term c.args.tree.now)) (sym c.in_ok-after.ensures) s.value) (c.in_ok-x.ensures.at nodes s.address old)
+    c.in_ok-y.ensures.at nodes (subst (λ n. HoldsSubtrees nodes n (model_of_tree c.args.tree.now)) (sym c.in_ok-after.ensures) s.value) (c.in_ok-x.ensures.at nodes s.address old)
 
 pub returns-in_err-after-clause-found : goal.returns-in_err-after-clause-found
 returns-in_err-after-clause-found c = IfOk-from_err c.from_residual.result _ c.from_residual.ensures.0

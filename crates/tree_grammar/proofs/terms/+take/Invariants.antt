@@ -1,5 +1,5 @@
-use Rattle.net_model.specs.Terms.{size_of, term_of}
+use Rattle.net_model.specs.Exprs.{size_of, model_of_expr}
 use Rattle.tree_grammar.proofs.terms.+take.Given as goal
 
 abbrev pub decreases-take : goal.decreases-take
-decreases-take l = size_of (term_of l.e.now)
+decreases-take l = size_of (model_of_expr l.e.now)

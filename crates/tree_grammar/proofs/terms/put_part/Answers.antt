@@ -1,5 +1,5 @@
 use Rattle.std.proofs.Common.{subst, sym}
-use Rattle.tree_grammar.specs.Parts.{AreAt}
+use Rattle.tree_grammar.specs.Leaves.{AreAt}
 use Rattle.tree_grammar.proofs.NumberLemmas.{are_push}
 use Rattle.tree_grammar.proofs.terms.put_part.Goals as goal
 

@@ -1,12 +1,12 @@
 use Rattle.std.proofs.Common.{◌+◌, ◌≡◌, arith, ap, subst}
-use Rattle.form_model.specs.Trees.{tree_term}
+use Rattle.form_model.specs.Trees.{model_of_tree}
 use Rattle.tree_sharing.specs.Inner.Sharing.{operand_size, first_of, OperandShared}
 use Rattle.tree_sharing.proofs.SharingLemmas.{share_more, tree_sizes}
 use Rattle.tree_sharing.proofs.sharing.+sharing.Goals as goal
 
 pub share-returns-clause-shared : goal.share-returns-clause-shared
 share-returns-clause-shared t c =
-    let tree = tree_term c.args.tree.now in
+    let tree = model_of_tree c.args.tree.now in
     let next : c.in_ok-x.x.next ≡ c.args.at + 1 + operand_size (first_of tree) =
     (let a = ap operand_size c.first_operand.ensures in omega (arith, a, c.in_ok-x.ensures.next)) in
     share_more c.args.sharing.now c.share_operand.new.sharing c.share_operand-2.new.sharing c.first_with.new.sharing tree c.args.at c.in_ok-x.x.next c.in_ok-x.x.first c.in_ok-y.y.first c.in_ok-first.first c.root_of.result (tree_sizes c.args.tree.now) next

@@ -1,8 +1,8 @@
 use Rattle.std.proofs.Common.{sym, subst, arith, length, ◌≡◌, ◌+◌}
-use Rattle.net_model.specs.Terms.{size_of}
-use Rattle.form_model.specs.Trees.{tree_term}
+use Rattle.net_model.specs.Exprs.{size_of}
+use Rattle.form_model.specs.Trees.{model_of_tree}
 use Rattle.tree_grammar.specs.Numbers.{HoldsSubtrees}
-use Rattle.tree_grammar.specs.Parts.{destination_at}
+use Rattle.tree_grammar.specs.Leaves.{model_of_destination}
 use Rattle.tree_sharing.specs.Sharing.{job_nodes}
 use Rattle.tree_sharing.specs.Inner.Sharing.{AreDoneBelow, HaveNumbers}
 use Rattle.tree_sharing.proofs.NodeLemmas.{root_stands}
@@ -11,8 +11,8 @@ use Rattle.tree_sharing.proofs.sharing.share_all.Goals as goal
 
 pub returns : goal.returns
 returns c =
-    let destination = destination_at c.args.destination in
-    let tree = tree_term c.args.tree.now in
+    let destination = model_of_destination c.args.destination in
+    let tree = model_of_tree c.args.tree.now in
     let nodes = job_nodes destination tree in
     let stands = root_stands destination tree in
     let address = c.in_ok-share_address.ensures.done nodes stands.address (subst (HaveNumbers nodes) (sym c.requires.none) tt) in

@@ -1,6 +1,6 @@
 use Rattle.std.proofs.Common.{IfSome, Option, subst}
 use Rattle.mode_set.specs.Plans.{UsableAt, stock_at}
-use Rattle.src_trees.specs.Jobs.{work_of}
+use Rattle.src_trees.specs.Jobs.{model_of_job}
 use Rattle.respell.specs.Inner.Choosing.{IsFound}
 use Rattle.respell.specs.declared.jobs.Spelled.{Spelled}
 use Rattle.respell.proofs.Gains.{gain}
@@ -13,6 +13,6 @@ returns-in-Some c =
     let Usable = UsableAt speller.usable.now in
     let own = c.in_ok-own.own in
     let other = c.in-Some.other in
-    gain stock Usable speller.limits.cell speller.limits.temps speller.limits.nodes own other.turned (work_of c.args.job.now) (work_of other.job) c.in_ok-own.ensures
-    (subst (λ (found : Option Spelled). IfSome found (λ (s : Spelled). IsFound stock Usable speller.limits.cell speller.limits.temps speller.limits.nodes own s.turned (work_of c.args.job.now) (work_of s.job))) c.in-Some.is
+    gain stock Usable speller.limits.cell speller.limits.temps speller.limits.nodes own other.turned (model_of_job c.args.job.now) (model_of_job other.job) c.in_ok-own.ensures
+    (subst (λ (found : Option Spelled). IfSome found (λ (s : Spelled). IsFound stock Usable speller.limits.cell speller.limits.temps speller.limits.nodes own s.turned (model_of_job c.args.job.now) (model_of_job s.job))) c.in-Some.is
     c.in_ok-other.ensures)

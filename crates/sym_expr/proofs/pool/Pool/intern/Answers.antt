@@ -5,11 +5,11 @@ use Rattle.indexmap.proofs.CallerLemmas.{insert_entry-new}
 use Rattle.sym_expr.specs.declared.pool.Node.{Node}
 use Rattle.sym_expr.specs.declared.pool.Node.TheVariants.{Word}
 use Rattle.sym_expr.specs.contracts.pool.NodePartialEq.TheImpl.{ghosts as node_eq}
-use Rattle.sym_expr.specs.Pools.{AllBelow, HeadFits, node_term, children_of, term_at}
+use Rattle.sym_expr.specs.Pools.{AllBelow, HeadFits, node_expr, children_of, expr_of_id}
 use Rattle.sym_expr.specs.Measures.{IsMeasure, IsMeasuredPool}
 use Rattle.sym_expr.proofs.Keys.{exact_node, alike_node}
 use Rattle.sym_expr.proofs.Lists.{position_some, position_none, position_none_len}
-use Rattle.sym_expr.proofs.Trees.{term_at-node, term_at-push}
+use Rattle.sym_expr.proofs.Trees.{expr_of_id-node, expr_of_id-push}
 use Rattle.sym_expr.proofs.Growth.{grows_push}
 use Rattle.sym_expr.proofs.Measured.{push_measured, keys-push}
 use Rattle.sym_expr.proofs.pool.Pool.intern.Goals as goal
@@ -23,7 +23,7 @@ pub returns-in-Some-clause-term : goal.returns-in-Some-clause-term
 returns-in-Some-clause-term c =
     let keys = keys_of c.self.inside.nodes.entries in
     let at = found keys c.args.node c.in-Some.place (position_some (node_eq.eq c.args.node) keys (Word 0) c.in-Some.place (sym c.get_index_of.ensures.index ∙ c.in-Some.is)) in
-    rw (← c.self.view_is) (term_at-node keys c.in-Some.place c.args.node at (c.self.invariant.pool.below c.in-Some.place c.args.node at))
+    rw (← c.self.view_is) (expr_of_id-node keys c.in-Some.place c.args.node at (c.self.invariant.pool.below c.in-Some.place c.args.node at))
 
 -- ---- the node is new
 
@@ -46,11 +46,11 @@ keys c = ap keys_of (entries c) ∙ keys-push c.self.inside.nodes.entries c.args
 below : (c : goal.In_ok-place) → AllBelow (length (keys_of c.self.inside.nodes.entries)) (children_of c.args.node)
 below c = subst (λ (l : List Node). AllBelow (length l) (children_of c.args.node)) (sym c.self.view_is) c.requires.parts
 
-fits : (c : goal.In_ok-place) → HeadFits (node_term c.args.node (term_at (keys_of c.self.inside.nodes.entries)))
-fits c = subst (λ (l : List Node). HeadFits (node_term c.args.node (term_at l))) (sym c.self.view_is) c.requires.fits
+fits : (c : goal.In_ok-place) → HeadFits (node_expr c.args.node (expr_of_id (keys_of c.self.inside.nodes.entries)))
+fits c = subst (λ (l : List Node). HeadFits (node_expr c.args.node (expr_of_id l))) (sym c.self.view_is) c.requires.fits
 
-known : (c : goal.In_ok-place) → IsMeasure (node_term c.args.node (term_at (keys_of c.self.inside.nodes.entries))) c.measure-measure.result
-known c = subst (λ (l : List Node). IsMeasure (node_term c.args.node (term_at l)) c.measure-measure.result) (sym c.self.view_is) c.measure-measure.ensures
+known : (c : goal.In_ok-place) → IsMeasure (node_expr c.args.node (expr_of_id (keys_of c.self.inside.nodes.entries))) c.measure-measure.result
+known c = subst (λ (l : List Node). IsMeasure (node_expr c.args.node (expr_of_id l)) c.measure-measure.result) (sym c.self.view_is) c.measure-measure.ensures
 
 -- the new id is the number of those before
 place : (c : goal.In_ok-place) → c.in_ok-place.place ≡ length (keys_of c.self.inside.nodes.entries)
@@ -65,4 +65,4 @@ pub returns-clause-grows : goal.returns-clause-grows
 returns-clause-grows c = rw (keys c, ← c.self.view_is) (grows_push (keys_of c.self.inside.nodes.entries) c.args.node)
 
 pub returns-clause-term : goal.returns-clause-term
-returns-clause-term c = rw (keys c, ← c.self.view_is) (term_at-push (keys_of c.self.inside.nodes.entries) c.args.node c.in_ok-place.place (place c))
+returns-clause-term c = rw (keys c, ← c.self.view_is) (expr_of_id-push (keys_of c.self.inside.nodes.entries) c.args.node c.in_ok-place.place (place c))

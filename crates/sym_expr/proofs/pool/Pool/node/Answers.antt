@@ -4,8 +4,8 @@ use Rattle.std.specs.Map.{keys_of}
 use Rattle.std.proofs.lemmas.Option.{slice_get-get_or}
 use Rattle.sym_expr.specs.declared.pool.Node.{Node}
 use Rattle.sym_expr.specs.declared.pool.Node.TheVariants.{Word}
-use Rattle.sym_expr.specs.Pools.{TermFits, term_at, node_term}
-use Rattle.sym_expr.proofs.Trees.{term_at-node}
+use Rattle.sym_expr.specs.Pools.{ExprFits, expr_of_id, node_expr}
+use Rattle.sym_expr.proofs.Trees.{expr_of_id-node}
 use Rattle.sym_expr.proofs.pool.Pool.node.Goals as goal
 
 shown : (c : goal.After-result-1) → c.as_slice.result.now ≡ keys_of c.self.inside.nodes.entries
@@ -17,8 +17,8 @@ within c = subst (λ (l : List Node). c.args.id < length l) (sym c.self.view_is)
 at : (c : goal.After-result-1) → slice_get (keys_of c.self.inside.nodes.entries) c.args.id ≡ Some (slice_index_or (keys_of c.self.inside.nodes.entries) c.args.id (Word 0))
 at c = slice_get-get_or (keys_of c.self.inside.nodes.entries) c.args.id (Word 0) (within c)
 
-term : (c : goal.After-result-1) → term_at (keys_of c.self.inside.nodes.entries) c.args.id ≡ node_term (slice_index_or (keys_of c.self.inside.nodes.entries) c.args.id (Word 0)) (term_at (keys_of c.self.inside.nodes.entries))
-term c = term_at-node (keys_of c.self.inside.nodes.entries) c.args.id _ (at c) (c.self.invariant.pool.below c.args.id _ (at c))
+term : (c : goal.After-result-1) → expr_of_id (keys_of c.self.inside.nodes.entries) c.args.id ≡ node_expr (slice_index_or (keys_of c.self.inside.nodes.entries) c.args.id (Word 0)) (expr_of_id (keys_of c.self.inside.nodes.entries))
+term c = expr_of_id-node (keys_of c.self.inside.nodes.entries) c.args.id _ (at c) (c.self.invariant.pool.below c.args.id _ (at c))
 
 pub returns-clause-term : goal.returns-clause-term
 returns-clause-term c = rw (shown c, ← c.self.view_is) (term c)
@@ -27,4 +27,4 @@ pub returns-clause-below : goal.returns-clause-below
 returns-clause-below c = rw (shown c) (c.self.invariant.pool.below c.args.id _ (at c))
 
 pub returns-clause-fits : goal.returns-clause-fits
-returns-clause-fits c = rw (shown c, ← c.self.view_is) (subst TermFits (term c) (c.self.invariant.pool.fits c.args.id (within c)))
+returns-clause-fits c = rw (shown c, ← c.self.view_is) (subst ExprFits (term c) (c.self.invariant.pool.fits c.args.id (within c)))

@@ -1,13 +1,13 @@
 use Rattle.std.proofs.Common.{Some, ap, refl, sym, ◌∙◌}
 use Rattle.std.proofs.lemmas.Option.{slice_get_read}
-use Rattle.tree_laws.specs.Classes.{are_joined, term_in}
+use Rattle.tree_laws.specs.Classes.{are_joined, expr_in}
 use Rattle.tree_laws.proofs.Found.{found_below, is_root, other_unread}
 use Rattle.tree_laws.proofs.Standing.{one_stands}
 use Rattle.tree_laws.proofs.classes.Classes.picked.Goals as goal
 
 pub returns-in-Some-find-clause-stands : goal.returns-in-Some-find-clause-stands
 returns-in-Some-find-clause-stands c =
-    one_stands c.args.self.now (term_in c.args.self.now c.in-Some.node.now) c.in-Some-find.found c.args.class (c.is_joined.ensures.one c.if-is_joined.true) c.in-Some-find.ensures.stands
+    one_stands c.args.self.now (expr_in c.args.self.now c.in-Some.node.now) c.in-Some-find.found c.args.class (c.is_joined.ensures.one c.if-is_joined.true) c.in-Some-find.ensures.stands
 
 pub returns-in-Some-find-clause-root : goal.returns-in-Some-find-clause-root
 returns-in-Some-find-clause-root c =

@@ -1,0 +1,132 @@
+-- The plans of jobs, their costs and the words of items, one after the other.
+use Rattle.std.proofs.Common.{◌≡◌, ℕ, zero, suc, ◌+◌, ◌<◌, ◌≤◌, List, [], ◌∷◌, ◌++◌, Some, map, option_map, take, length, get_or, slice_get, refl, sym, ap, subst, ◌∙◌, add-one, append_assoc, arith}
+use Rattle.std.specs.List.{AllByRecursion}
+use Rattle.std.proofs.lemmas.List.{length-take-le, map-append}
+use Rattle.std.proofs.lemmas.Option.{slice_get-map, slice_get_read}
+use Rattle.net_model.specs.declared.hardware.Netlist.{Netlist}
+use Rattle.net_model.specs.Patterns.{Pattern}
+use Rattle.code_model.specs.declared.image.Word.{Word}
+use Rattle.form_model.specs.Covers.{StockModel, job_cost}
+use Rattle.form_model.specs.Live.{Regs}
+use Rattle.mode_set.specs.declared.plans.Plan.{Plan}
+use Rattle.mode_set.specs.Costs.{IsPlanned, PlanModel, mode_cost, mode_words}
+use Rattle.mode_set.specs.Plans.{model_of_plan}
+use Rattle.branch_fix.specs.declared.laid.Item.{Item}
+use Rattle.src_trees.specs.Lowered.{JobModel}
+use Rattle.right_code.specs.Covered.{AllPlanned, HasCover, IsFirstBare, numbered, plan_costs}
+use Rattle.compaction.specs.declared.packer.PackedBlock.{PackedBlock}
+use Rattle.code_gen.specs.Inner.Coded.{AreItemWords, IsWordOf}
+use Rattle.code_gen.specs.Inner.Planning.{told_costs}
+use Rattle.code_gen.specs.Inner.Uncovered.{IsOneBare, IsUncovered}
+use Rattle.code_gen.specs.declared.fault.CodeFault.{CodeFault}
+use Rattle.code_gen.specs.declared.fault.CodeFault.TheVariants.{NoStep, NoJump, NoCover, NoReach, ImageFull, Memory}
+use Rattle.code_gen.proofs.Stepping.{plans_even}
+
+-- ---- lists
+
+pub take_get : {X : Type 0} (xs : List X) (i : ℕ) (x : X) → slice_get xs i ≡ Some x → take (i + 1) xs ≡ take i xs ++ (x ∷ [])
+take_get {X = X} xs i x h = ap (λ k. take k xs) (add-one i) ∙ go xs i h
+  where
+    go : (ys : List X) (k : ℕ) → slice_get ys k ≡ Some x → take (suc k) ys ≡ take k ys ++ (x ∷ [])
+    go [] k e = absurd cc
+    go (y ∷ ys) zero e = let q : y ≡ x = cc in ap (λ (z : X). z ∷ []) q
+    go (y ∷ ys) (suc k) e = ap (λ (zs : List X). y ∷ zs) (go ys k e)
+
+pub all_more : {X : Type 0} (P : X → Type 0) (xs : List X) (x : X) → AllByRecursion P xs → P x → AllByRecursion P (xs ++ x ∷ [])
+all_more P [] x h p = (p, tt)
+all_more P (y ∷ xs) x h p = (h.0, all_more P xs x h.1 p)
+
+-- an element of a list that was mapped
+pub mapped_get : {X Y : Type 0} (f : X → Y) (xs : List X) (k : ℕ) (x : X) → k < length xs → x ≡ get_or xs k x → slice_get (map f xs) k ≡ Some (f x)
+mapped_get f xs k x lt e = slice_get-map f xs k ∙ ap (option_map f) (slice_get_read xs (length xs) k x refl lt e)
+
+get_taken : {X : Type 0} (xs : List X) (n k : ℕ) → k < n → slice_get (take n xs) k ≡ slice_get xs k
+get_taken [] (suc n) k lt = refl
+get_taken xs zero k lt = absurd (omega arith)
+get_taken (x ∷ xs) (suc n) zero lt = refl
+get_taken (x ∷ xs) (suc n) (suc k) lt = get_taken xs n k (omega arith)
+
+-- ---- plans
+
+module _ (stock : ℕ → StockModel) (Usable : ℕ → Type 0) where
+  pub planned_more : (works : List JobModel) (plans : List PlanModel) (work : JobModel) (planned : PlanModel) → AllPlanned stock Usable works plans → IsPlanned stock Usable work.destination work.trees planned
+      → AllPlanned stock Usable (works ++ work ∷ []) (plans ++ planned ∷ [])
+  planned_more [] [] work planned h is = (is, tt)
+  planned_more [] (d ∷ plans) work planned h is = absurd h
+  planned_more (x ∷ works) [] work planned h is = absurd h
+  planned_more (x ∷ works) (d ∷ plans) work planned h is = (h.0, planned_more works plans work planned h.1 is)
+
+  pub costs_more : (works : List JobModel) (plans : List PlanModel) (work : JobModel) (planned : PlanModel) → AllPlanned stock Usable works plans
+      → plan_costs (works ++ work ∷ []) (plans ++ planned ∷ []) ≡ plan_costs works plans ++ mode_cost planned.mode work.destination planned.choice.plan ∷ []
+  costs_more [] [] work planned h = refl
+  costs_more [] (d ∷ plans) work planned h = absurd h
+  costs_more (x ∷ works) [] work planned h = absurd h
+  costs_more (x ∷ works) (d ∷ plans) work planned h = ap (λ (costs : List ℕ). mode_cost d.mode x.destination d.choice.plan ∷ costs) (costs_more works plans work planned h.1)
+
+  -- the first jobs have as many plans
+  pub planned_count : (works : List JobModel) (plans : List PlanModel) (number : ℕ) → number ≤ length works → AllPlanned stock Usable (take number works) plans → length plans ≡ number
+  planned_count works plans number le h = plans_even stock Usable (take number works) plans h ∙ length-take-le number works le
+
+  -- one job more
+  module _ (works : List JobModel) (old new : List Plan) (number : ℕ) (work : JobModel) (plan : Plan) (at : slice_get works number ≡ Some work) (more : new ≡ old ++ plan ∷ [])
+      (all : AllPlanned stock Usable (take number works) (map model_of_plan old)) where
+    jobs_taken : take (number + 1) works ≡ take number works ++ work ∷ []
+    jobs_taken = take_get works number work at
+
+    plans_made : map model_of_plan new ≡ map model_of_plan old ++ model_of_plan plan ∷ []
+    plans_made = ap (map model_of_plan) more ∙ map-append model_of_plan old (plan ∷ [])
+
+    pub plans_more : IsPlanned stock Usable work.destination work.trees (model_of_plan plan) → AllPlanned stock Usable (take (number + 1) works) (map model_of_plan new)
+    plans_more is =
+        subst (λ ws. AllPlanned stock Usable ws (map model_of_plan new)) (sym jobs_taken)
+        (subst (AllPlanned stock Usable (take number works ++ work ∷ [])) (sym plans_made) (planned_more (take number works) (map model_of_plan old) work (model_of_plan plan) all is))
+
+    pub prices_more : plan.cover.cost ≡ job_cost work.destination (model_of_plan plan).choice.plan → told_costs old ≡ plan_costs (take number works) (map model_of_plan old)
+        → told_costs new ≡ plan_costs (take (number + 1) works) (map model_of_plan new)
+    prices_more price before =
+        ap told_costs more
+        ∙ map-append (λ (p : Plan). p.cover.cost + mode_words p.mode) old (plan ∷ [])
+        ∙ (λ i. before i ++ (price i + mode_words plan.mode) ∷ [])
+        ∙ sym (costs_more (take number works) (map model_of_plan old) work (model_of_plan plan) all)
+        ∙ (λ i. plan_costs (sym jobs_taken i) (sym plans_made i))
+
+  has_covers : (works : List JobModel) (plans : List PlanModel) → AllPlanned stock Usable works plans → (k : ℕ) (other : JobModel) → slice_get works k ≡ Some other → HasCover stock Usable other
+  has_covers [] plans h k other e = absurd (cc e)
+  has_covers (x ∷ works) [] h k other e = absurd h
+  has_covers (x ∷ works) (d ∷ plans) h zero other e =
+      (let q : x ≡ other = cc in subst (HasCover stock Usable) q (record { mode = d.mode; choice = d.choice; covers = record { can = h.0.can; may = h.0.may; covers = h.0.chosen.covers } }))
+  has_covers (x ∷ works) (d ∷ plans) h (suc k) other e = has_covers works plans h.1 k other e
+
+  -- the first job that has no cover
+  pub uncovered : (works : List JobModel) (plans : List PlanModel) (number : ℕ) (work : JobModel) (fault : CodeFault) → AllPlanned stock Usable (take number works) plans → slice_get works number ≡ Some work
+      → IsOneBare stock Usable work number fault → IsUncovered stock Usable works fault
+  uncovered works plans number work (NoCover told) h at bare =
+      subst (IsFirstBare stock Usable works) (sym bare.0)
+      (record {
+        job = work;
+        at = at;
+        none = bare.1;
+        earlier = λ k other lt e. has_covers (take number works) plans h k other (get_taken works number k lt ∙ e);
+      })
+  uncovered works plans number work NoStep h at bare = absurd bare
+  uncovered works plans number work NoJump h at bare = absurd bare
+  uncovered works plans number work (NoReach bound reach) h at bare = absurd bare
+  uncovered works plans number work (ImageFull len size bound) h at bare = absurd bare
+  uncovered works plans number work Memory h at bare = tt
+
+-- ---- costs
+
+pub numbered_more : (lines : List (ℕ × ℕ)) (number cost : ℕ) (costs rest : List ℕ) → costs ≡ cost ∷ rest
+    → (lines ++ (number, cost) ∷ []) ++ numbered (number + 1) rest ≡ lines ++ numbered number costs
+numbered_more lines number cost costs rest e =
+    append_assoc lines ((number, cost) ∷ []) (numbered (number + 1) rest) ∙ ap (λ (list : List ℕ). lines ++ numbered number list) (sym e)
+
+-- ---- words
+
+module _ (netlist : Netlist) (patterns : List Pattern) (kept : Regs) (blocks : List PackedBlock) where
+  pub words_more : (items : List Item) (words : List Word) (item : Item) (word : Word) → AreItemWords netlist patterns kept blocks items words → IsWordOf netlist patterns kept blocks item word
+      → AreItemWords netlist patterns kept blocks (items ++ item ∷ []) (words ++ word ∷ [])
+  words_more [] [] item word h is = (is, tt)
+  words_more [] (w ∷ words) item word h is = absurd h
+  words_more (x ∷ items) [] item word h is = absurd h
+  words_more (x ∷ items) (w ∷ words) item word h is = (h.0, words_more items words item word h.1 is)

@@ -1,0 +1,20 @@
+use Rattle.std.proofs.lemmas.Result.{IfOk-from_err}
+use Rattle.explain_command.proofs.ending.add_image_full.Goals as goal
+
+pub returns-in_err-add_bytes : goal.returns-in_err-add_bytes
+returns-in_err-add_bytes c = IfOk-from_err c.from_residual.result _ c.from_residual.ensures.0
+
+pub returns-in_err-add_number : goal.returns-in_err-add_number
+returns-in_err-add_number c = IfOk-from_err c.from_residual-in_err-add_number.result _ c.from_residual-in_err-add_number.ensures.0
+
+pub returns-in_err-add_bytes-2 : goal.returns-in_err-add_bytes-2
+returns-in_err-add_bytes-2 c = IfOk-from_err c.from_residual-in_err-add_bytes-2.result _ c.from_residual-in_err-add_bytes-2.ensures.0
+
+pub returns-in_err-add_number-2 : goal.returns-in_err-add_number-2
+returns-in_err-add_number-2 c = IfOk-from_err c.from_residual-in_err-add_number-2.result _ c.from_residual-in_err-add_number-2.ensures.0
+
+pub returns-in_err-add_bytes-3 : goal.returns-in_err-add_bytes-3
+returns-in_err-add_bytes-3 c = IfOk-from_err c.from_residual-in_err-add_bytes-3.result _ c.from_residual-in_err-add_bytes-3.ensures.0
+
+pub returns-in_err-add_number-3 : goal.returns-in_err-add_number-3
+returns-in_err-add_number-3 c = IfOk-from_err c.from_residual-in_err-add_number-3.result _ c.from_residual-in_err-add_number-3.ensures.0

@@ -1,0 +1,11 @@
+use Rattle.std.proofs.lemmas.Result.{IfOk-from_err}
+use Rattle.explain_command.proofs.heading.add_tree_line.Goals as goal
+
+pub returns-in_err-add_bytes : goal.returns-in_err-add_bytes
+returns-in_err-add_bytes c = IfOk-from_err c.from_residual.result _ c.from_residual.ensures.0
+
+pub returns-in_err-add_bytes-2 : goal.returns-in_err-add_bytes-2
+returns-in_err-add_bytes-2 c = IfOk-from_err c.from_residual-in_err-add_bytes-2.result _ c.from_residual-in_err-add_bytes-2.ensures.0
+
+pub returns-in_err-add_tree : goal.returns-in_err-add_tree
+returns-in_err-add_tree c = IfOk-from_err c.from_residual-in_err-add_tree.result _ c.from_residual-in_err-add_tree.ensures.0

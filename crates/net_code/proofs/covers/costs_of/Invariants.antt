@@ -1,6 +1,0 @@
-use Rattle.std.proofs.Common.{◌≡◌, take}
-use Rattle.net_code.specs.Inner.Planning.{told_costs}
-use Rattle.net_code.proofs.covers.costs_of.Given as goal
-
-abbrev pub invariant-loop-plan : goal.invariant-loop-plan
-invariant-loop-plan l = l.costs ≡ told_costs (take l.plan-index l.plans)

@@ -1,8 +1,0 @@
-use Rattle.net_code.specs.Inner.Planning.{AreFormsBelow, AreReadyAll}
-use Rattle.net_code.proofs.modes.forms_by_mode.Given as goal
-
-abbrev pub invariant-loop-mode : goal.invariant-loop-mode
-invariant-loop-mode l = record {
-  ready : AreReadyAll l.machines l.books;
-  forms : AreFormsBelow l.netlist l.machines l.mode l.list;
-}

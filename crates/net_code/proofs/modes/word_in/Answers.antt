@@ -1,4 +1,0 @@
-use Rattle.net_code.proofs.modes.word_in.Goals as goal
-
-pub mode_word-requires-clause-forms : goal.mode_word-requires-clause-forms
-mode_word-requires-clause-forms c = (c.args.all.now.reach, c.requires.forms)

@@ -1,7 +1,0 @@
-use Rattle.std.proofs.Common.{◌≡◌}
-use Rattle.net_extract.specs.Extracts.{AreTextsBelow}
-use Rattle.net_extract.proofs.texts.mode_texts.Given as goal
-
--- the texts of the modes so far
-abbrev pub invariant-loop-isa : goal.invariant-loop-isa
-invariant-loop-isa l = (l.mode ≡ l.isa-index) × AreTextsBelow l.modes.netlist l.mode l.text.items

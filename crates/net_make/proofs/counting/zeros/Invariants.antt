@@ -1,6 +1,0 @@
-use Rattle.std.proofs.Common.{◌≡◌, ◌++◌, drop}
-use Rattle.src_model.specs.Meaning.{zeros}
-use Rattle.net_make.proofs.counting.zeros.Given as goal
-
-abbrev pub invariant-loop-var : goal.invariant-loop-var
-invariant-loop-var l = l.cells ++ zeros (drop l.var-index l.vars) ≡ zeros l.vars

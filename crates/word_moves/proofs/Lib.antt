@@ -1,5 +1,0 @@
-pub mod Evaluated
-pub mod Targets
-pub mod Wide
-pub mod Traced
-pub mod Moved
