@@ -11,8 +11,8 @@ pub record Machine : Type 0 where
   pub netlist : Netlist
   pub patterns : List Pattern
 
--- the newest edition of the netlist texts for which words are assembled: a text of a later one has
--- a netlist, and patterns, for each mode
+-- the newest edition of the netlist texts for which words are assembled, that of register files: a
+-- text of a later one has a netlist, and patterns, for each mode, or a second data memory
 abbrev pub assembled_edition : ℕ
 assembled_edition = 2
 

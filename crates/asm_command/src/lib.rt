@@ -25,7 +25,9 @@
 //!   one, and the answers exclude each other; `Tables` and `Read` from what was read to the texts;
 //!   `Again` for the laws; `Zips` for lists in step.
 //!
-//! A netlist with modes has words for each mode, so texts of its edition aren't taken.
+//! Netlist texts of the first two editions are taken, those with a register file among them. Those of
+//! the later ones are refused: a netlist with modes has words for each mode, and one with a bank has
+//! a second data memory.
 #![tactic(auto)]
 
 mod assembling;

@@ -10,7 +10,7 @@
 //!
 //! - `words`: the least word of a group.
 //! - `laws`: the two laws.
-//! - `specs/`: `Words` (groups that have words, by a table of patterns), `Formed` and `Laws`, all
+//! - `specs/`: `Words` (groups that have words, by a machine), `Formed` and `Laws`, all
 //!   cited by public contracts.
 //! - `proofs/`: `Worded` for the laws.
 #![tactic(auto)]

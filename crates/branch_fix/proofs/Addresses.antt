@@ -121,23 +121,23 @@ inner_mark at (q ∷ parts) (suc k) p a e low high = skip at q parts a (omega ar
 
 -- ---- parts of a flow
 
-pub part_at : (rules : List FormModel) (flow : List Flow) (at : ℕ) (rest : List Flow) (parts : List LayoutPart) (k N : ℕ) (f : Flow)
-    → PartsFit rules flow at rest parts → slice_get rest k ≡ Some f → N ≡ at + k → (p : LayoutPart) × (slice_get parts k ≡ Some p) × FitsPart rules flow N f p
-part_at rules flow at [] [] k N f h e n = absurd (cc e)
-part_at rules flow at [] (p ∷ parts) k N f h e n = absurd h
-part_at rules flow at (g ∷ rest) [] k N f h e n = absurd h
-part_at rules flow at (g ∷ rest) (p ∷ parts) zero N f h e n =
+pub part_at : (forms : List FormModel) (flow : List Flow) (at : ℕ) (rest : List Flow) (parts : List LayoutPart) (k N : ℕ) (f : Flow)
+    → PartsFit forms flow at rest parts → slice_get rest k ≡ Some f → N ≡ at + k → (p : LayoutPart) × (slice_get parts k ≡ Some p) × FitsPart forms flow N f p
+part_at forms flow at [] [] k N f h e n = absurd (cc e)
+part_at forms flow at [] (p ∷ parts) k N f h e n = absurd h
+part_at forms flow at (g ∷ rest) [] k N f h e n = absurd h
+part_at forms flow at (g ∷ rest) (p ∷ parts) zero N f h e n =
     let s : g ≡ f = cc in
     let m : at ≡ N = omega arith in
-    (p, refl, subst (λ x. FitsPart rules flow x f p) m (subst (λ x. FitsPart rules flow at x p) s h.0))
-part_at rules flow at (g ∷ rest) (p ∷ parts) (suc k) N f h e n = part_at rules flow (at + 1) rest parts k N f h.1 e (omega arith)
+    (p, refl, subst (λ x. FitsPart forms flow x f p) m (subst (λ x. FitsPart forms flow at x p) s h.0))
+part_at forms flow at (g ∷ rest) (p ∷ parts) (suc k) N f h e n = part_at forms flow (at + 1) rest parts k N f h.1 e (omega arith)
 
-pub fit_length : (rules : List FormModel) (flow : List Flow) (at : ℕ) (rest : List Flow) (parts : List LayoutPart) → PartsFit rules flow at rest parts
+pub fit_length : (forms : List FormModel) (flow : List Flow) (at : ℕ) (rest : List Flow) (parts : List LayoutPart) → PartsFit forms flow at rest parts
     → length parts ≡ length rest
-fit_length rules flow at [] [] h = refl
-fit_length rules flow at [] (p ∷ parts) h = absurd h
-fit_length rules flow at (g ∷ rest) [] h = absurd h
-fit_length rules flow at (g ∷ rest) (p ∷ parts) h = let l = fit_length rules flow (at + 1) rest parts h.1 in omega (arith, l)
+fit_length forms flow at [] [] h = refl
+fit_length forms flow at [] (p ∷ parts) h = absurd h
+fit_length forms flow at (g ∷ rest) [] h = absurd h
+fit_length forms flow at (g ∷ rest) (p ∷ parts) h = let l = fit_length forms flow (at + 1) rest parts h.1 in omega (arith, l)
 
 -- only an end part has the end's mark
 at_or_later : (b : Bool) (here later : Option Checkpoint) (c : Checkpoint) → (if b then here else later) ≡ Some c
@@ -166,16 +166,16 @@ end_mark at (End ∷ parts) a e = by (at_or_later (at == a) (Some TheEnd) (label
     by (inl (p, q)) more = let s : at ≡ a = eqb-true at a p in (0, refl, omega arith)
     by (inr l) more = let h = more l in (suc h.0, h.1, omega (arith, h.2))
 
-pub flow_end : (rules : List FormModel) (flow : List Flow) (at : ℕ) (rest : List Flow) (parts : List LayoutPart) (k : ℕ) → PartsFit rules flow at rest parts
+pub flow_end : (forms : List FormModel) (flow : List Flow) (at : ℕ) (rest : List Flow) (parts : List LayoutPart) (k : ℕ) → PartsFit forms flow at rest parts
     → slice_get parts k ≡ Some End → slice_get rest k ≡ Some Ended
-flow_end rules flow at [] [] k h e = absurd (cc e)
-flow_end rules flow at [] (p ∷ parts) k h e = absurd h
-flow_end rules flow at (g ∷ rest) [] k h e = absurd h
-flow_end rules flow at (g ∷ rest) (p ∷ parts) zero h e = let s : p ≡ End = cc in by g (subst (λ x. FitsPart rules flow at g x) s h.0)
+flow_end forms flow at [] [] k h e = absurd (cc e)
+flow_end forms flow at [] (p ∷ parts) k h e = absurd h
+flow_end forms flow at (g ∷ rest) [] k h e = absurd h
+flow_end forms flow at (g ∷ rest) (p ∷ parts) zero h e = let s : p ≡ End = cc in by g (subst (λ x. FitsPart forms flow at g x) s h.0)
   where
-    by : (g : Flow) → FitsPart rules flow at g End → Some g ≡ Some Ended
+    by : (g : Flow) → FitsPart forms flow at g End → Some g ≡ Some Ended
     by (Assign tree) h = absurd h
     by (Tested tree one none) h = absurd h
     by (Jumped to) h = absurd h
     by Ended h = refl
-flow_end rules flow at (g ∷ rest) (p ∷ parts) (suc k) h e = flow_end rules flow (at + 1) rest parts k h.1 e
+flow_end forms flow at (g ∷ rest) (p ∷ parts) (suc k) h e = flow_end forms flow (at + 1) rest parts k h.1 e

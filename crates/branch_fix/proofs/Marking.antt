@@ -12,14 +12,14 @@ use Rattle.branch_fix.specs.Marked.{labels, Ascend, AreMarked}
 abbrev label_of : Mark → Option ℕ
 label_of mark = mark.label
 
-each_label : (rules : List FormModel) (flow : List Flow) (at : ℕ) (rest : List Flow) (parts : List LayoutPart) (a : ℕ) → PartsFit rules flow at rest parts
+each_label : (forms : List FormModel) (flow : List Flow) (at : ℕ) (rest : List Flow) (parts : List LayoutPart) (a : ℕ) → PartsFit forms flow at rest parts
     → map (λ (mark : Mark). mark.label) (marks_from a parts) ≡ labels rest
-each_label rules flow at [] [] a h = refl
-each_label rules flow at [] (p ∷ parts) a h = absurd h
-each_label rules flow at (f ∷ rest) [] a h = absurd h
-each_label rules flow at (f ∷ rest) (p ∷ parts) a h = by f p h.0 (each_label rules flow (at + 1) rest parts (a + room p) h.1)
+each_label forms flow at [] [] a h = refl
+each_label forms flow at [] (p ∷ parts) a h = absurd h
+each_label forms flow at (f ∷ rest) [] a h = absurd h
+each_label forms flow at (f ∷ rest) (p ∷ parts) a h = by f p h.0 (each_label forms flow (at + 1) rest parts (a + room p) h.1)
   where
-    by : (f : Flow) (p : LayoutPart) → FitsPart rules flow at f p → map (λ (mark : Mark). mark.label) (marks_from (a + room p) parts) ≡ labels rest
+    by : (f : Flow) (p : LayoutPart) → FitsPart forms flow at f p → map (λ (mark : Mark). mark.label) (marks_from (a + room p) parts) ≡ labels rest
         → map (λ (mark : Mark). mark.label) (marks_from a (p ∷ parts)) ≡ labels (f ∷ rest)
     by (Assign tree) (Block block words) g k = k
     by (Assign tree) Inner g k = k
@@ -62,6 +62,6 @@ ascending a end (Test f ∷ parts) le =
 ascending a end (Jump to ∷ parts) le = less a (a + 1) end (marks_from (a + 1) parts) (omega arith) (ascending (a + 1) end parts (omega arith))
 ascending a end (End ∷ parts) le = (omega arith, ascending (a + 1) end parts (omega arith))
 
-pub are_marked : (rules : List FormModel) (flow : List Flow) (parts : List LayoutPart) → PartsFit rules flow 0 flow parts
+pub are_marked : (forms : List FormModel) (flow : List Flow) (parts : List LayoutPart) → PartsFit forms flow 0 flow parts
     → AreMarked flow (total parts) (marks_from 0 parts)
-are_marked rules flow parts h = record { each = each_label rules flow 0 flow parts 0 h; apart = ascending 0 (total parts) parts (omega arith) }
+are_marked forms flow parts h = record { each = each_label forms flow 0 flow parts 0 h; apart = ascending 0 (total parts) parts (omega arith) }

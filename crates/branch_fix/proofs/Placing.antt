@@ -64,7 +64,7 @@ module _ (netlist : Netlist) (image : Image) where
   tail_other true false p to other s b free comes here = stay_tail s other 0 (subst (λ a. IsCalm netlist a s) (comes refl refl) here)
   tail_other false false p to other s b free comes here = jump_tail s (p + 1) other b (free (p + 1) (omega arith) (omega arith)) here
 
-  module _ (temps : ℕ) (rules : List FormModel) (flow : List Flow) (jobs : List JobModel) (parts : List LayoutPart) (end : ℕ) (is_flow : IsFlow flow end) (made : IsMade netlist image temps rules flow jobs parts) where
+  module _ (temps : ℕ) (forms : List FormModel) (flow : List Flow) (jobs : List JobModel) (parts : List LayoutPart) (end : ℕ) (is_flow : IsFlow flow end) (made : IsMade netlist image temps forms flow jobs parts) where
     label_is : (a : ℕ) → label_at image.marks a ≡ label_at (marks_from 0 parts) a
     label_is a = ap (λ ms. label_at ms a) made.marks
 
@@ -75,15 +75,15 @@ module _ (netlist : Netlist) (image : Image) where
     own : (k : ℕ) (p : LayoutPart) → slice_get parts k ≡ Some p → 1 ≤ room p → label_at image.marks (address parts k) ≡ own_label p
     own k p e some = label_is (address parts k) ∙ ap (label_at (marks_from 0 parts)) (let z : address parts k ≡ 0 + address parts k = omega arith in z) ∙ first_mark 0 parts k p e some
 
-    part_of : (k : ℕ) (f : Flow) → slice_get flow k ≡ Some f → (p : LayoutPart) × (slice_get parts k ≡ Some p) × FitsPart rules flow k f p
-    part_of k f e = part_at rules flow 0 flow parts k k f made.fit e (omega arith)
+    part_of : (k : ℕ) (f : Flow) → slice_get flow k ≡ Some f → (p : LayoutPart) × (slice_get parts k ≡ Some p) × FitsPart forms flow k f p
+    part_of k f e = part_at forms flow 0 flow parts k k f made.fit e (omega arith)
 
     -- ---- jumps
 
     jump_part : (k to : ℕ) → slice_get flow k ≡ Some (Jumped to) → slice_get parts k ≡ Some (Jump to)
     jump_part k to e = by (part_of k (Jumped to) e)
       where
-        by : (p : LayoutPart) × (slice_get parts k ≡ Some p) × FitsPart rules flow k (Jumped to) p → slice_get parts k ≡ Some (Jump to)
+        by : (p : LayoutPart) × (slice_get parts k ≡ Some p) × FitsPart forms flow k (Jumped to) p → slice_get parts k ≡ Some (Jump to)
         by (Block block words, g, h) = absurd h
         by (Inner, g, h) = absurd h
         by (Test f, g, h) = absurd h
@@ -113,7 +113,7 @@ module _ (netlist : Netlist) (image : Image) where
     inner_part : (k tree : ℕ) → slice_get flow k ≡ Some (Assign tree) → continues flow k ≡ true → slice_get parts k ≡ Some Inner
     inner_part k tree e c = by (part_of k (Assign tree) e)
       where
-        by : (p : LayoutPart) × (slice_get parts k ≡ Some p) × FitsPart rules flow k (Assign tree) p → slice_get parts k ≡ Some Inner
+        by : (p : LayoutPart) × (slice_get parts k ≡ Some p) × FitsPart forms flow k (Assign tree) p → slice_get parts k ≡ Some Inner
         by (Block block words, g, h) = absurd (cc (c, h))
         by (Inner, g, h) = g
         by (Test f, g, h) = absurd h
@@ -124,7 +124,7 @@ module _ (netlist : Netlist) (image : Image) where
         → (block : ℕ) × (words : ℕ) × (slice_get parts k ≡ Some (Block block words))
     block_part k tree e c = by (part_of k (Assign tree) e)
       where
-        by : (p : LayoutPart) × (slice_get parts k ≡ Some p) × FitsPart rules flow k (Assign tree) p
+        by : (p : LayoutPart) × (slice_get parts k ≡ Some p) × FitsPart forms flow k (Assign tree) p
             → (block : ℕ) × (words : ℕ) × (slice_get parts k ≡ Some (Block block words))
         by (Block block words, g, h) = (block, words, g)
         by (Inner, g, h) = absurd (cc (c, h))
@@ -237,7 +237,7 @@ module _ (netlist : Netlist) (image : Image) where
         → DoesTest netlist image temps tree job (address parts at) (address parts when_one) (address parts when_zero)
     test_does at tree when_one when_zero e job at_jobs = by (part_of at (Tested tree when_one when_zero) e)
       where
-        by : (p : LayoutPart) × (slice_get parts at ≡ Some p) × FitsPart rules flow at (Tested tree when_one when_zero) p
+        by : (p : LayoutPart) × (slice_get parts at ≡ Some p) × FitsPart forms flow at (Tested tree when_one when_zero) p
             → DoesTest netlist image temps tree job (address parts at) (address parts when_one) (address parts when_zero)
         by (Block block words, g, h) = absurd h
         by (Inner, g, h) = absurd h
@@ -247,8 +247,8 @@ module _ (netlist : Netlist) (image : Image) where
             let d = made.forks at f g job (ap (slice_get jobs) h.0 ∙ at_jobs) in
             let next_at = address_next parts at (Test f) g in
             let comes = λ (n : f.next ≡ true) (l : f.long ≡ false). next_comes f g h.1 n l in
-            let one_is : (if form_at_one (slice_get rules f.form) then address parts f.to else address parts f.other) ≡ address parts when_one = pick_one (form_at_one (slice_get rules f.form)) f h.2 h.3 in
-            let zero_is : (if form_at_one (slice_get rules f.form) then address parts f.other else address parts f.to) ≡ address parts when_zero = pick_zero (form_at_one (slice_get rules f.form)) f h.2 h.3 in
+            let one_is : (if form_at_one (slice_get forms f.form) then address parts f.to else address parts f.other) ≡ address parts when_one = pick_one (form_at_one (slice_get forms f.form)) f h.2 h.3 in
+            let zero_is : (if form_at_one (slice_get forms f.form) then address parts f.other else address parts f.to) ≡ address parts when_zero = pick_zero (form_at_one (slice_get forms f.form)) f h.2 h.3 in
             let ahead = is_flow.ahead at tree when_one when_zero e in
             let up_one = address_rises parts (at + 1) when_one (omega (arith, ahead)) in
             let up_zero = address_rises parts (at + 1) when_zero (omega (arith, ahead)) in
@@ -263,8 +263,8 @@ module _ (netlist : Netlist) (image : Image) where
               asks = λ s here lies.
                   subst (λ t. Decides netlist image temps t d.operands.used (address parts when_one) (address parts when_zero) (f.words + tail_words f.next f.long) s) h.0
                   (subst (λ a. Decides netlist image temps f.tree d.operands.used a (address parts when_zero) (f.words + tail_words f.next f.long) s) one_is
-                  (subst (λ a. Decides netlist image temps f.tree d.operands.used (if form_at_one (slice_get rules f.form) then address parts f.to else address parts f.other) a (f.words + tail_words f.next f.long) s) zero_is
-                  (fork_decides at f job (form_at_one (slice_get rules f.form)) (address parts f.to) (address parts f.other) g d comes s here lies)));
+                  (subst (λ a. Decides netlist image temps f.tree d.operands.used (if form_at_one (slice_get forms f.form) then address parts f.to else address parts f.other) a (f.words + tail_words f.next f.long) s) zero_is
+                  (fork_decides at f job (form_at_one (slice_get forms f.form)) (address parts f.to) (address parts f.other) g d comes s here lies)));
             }
           where
             next_comes : (f : BranchedTest) → slice_get parts at ≡ Some (Test f) → f.next ≡ (f.other == at + 1) → f.next ≡ true → f.long ≡ false
@@ -290,7 +290,7 @@ module _ (netlist : Netlist) (image : Image) where
     end_part : (k : ℕ) → slice_get flow k ≡ Some Ended → slice_get parts k ≡ Some End
     end_part k e = by (part_of k Ended e)
       where
-        by : (p : LayoutPart) × (slice_get parts k ≡ Some p) × FitsPart rules flow k Ended p → slice_get parts k ≡ Some End
+        by : (p : LayoutPart) × (slice_get parts k ≡ Some p) × FitsPart forms flow k Ended p → slice_get parts k ≡ Some End
         by (Block block words, g, h) = absurd h
         by (Inner, g, h) = absurd h
         by (Test f, g, h) = absurd h
@@ -314,7 +314,7 @@ module _ (netlist : Netlist) (image : Image) where
           end_label = own end End e (omega arith);
           end_only = λ x l.
               let k = end_mark 0 parts x (sym (label_is x) ∙ l) in
-              let f = flow_end rules flow 0 flow parts k.0 made.fit k.1 in
+              let f = flow_end forms flow 0 flow parts k.0 made.fit k.1 in
               let same = is_flow.only k.0 f in
               omega (arith, k.2, ap (address parts) same);
           end_word = made.ends end e;

@@ -43,8 +43,8 @@ shown_means shape s v e = by (shape_setting shape v) refl e
     by None q h = absurd (cc h)
     by (Some b) q h = setting_means shape s v b q
 
-pub jumps_lead : (rule : FormModel) (s : State) (to : ℕ) → shows rule.value to ≡ true → mean rule.value s (jump_step (Some rule) to).setting ≡ to
-jumps_lead rule s to e = shown_means rule.value s to e
+pub jumps_lead : (form : FormModel) (s : State) (to : ℕ) → shows form.value to ≡ true → mean form.value s (jump_step (Some form) to).setting ≡ to
+jumps_lead form s to e = shown_means form.value s to e
 
 pub absolute_leads : (shape : ExprModel) (s : State) (from to : ℕ) (long : Bool) → shows shape to ≡ true
     → mean shape s (target_setting (absolute shape) from to long) ≡ to

@@ -32,21 +32,21 @@ behind_length jump false true to other = refl
 behind_length jump true false to other = refl
 behind_length jump false false to other = refl
 
-pub part_length : (rules : List FormModel) (jump : Option FormModel) (addresses : List ℕ) (at : ℕ) (p : LayoutPart)
-    → length (part_items rules jump addresses at p) ≡ room p
-part_length rules jump addresses at (Block block words) = groups_length block 0 words
-part_length rules jump addresses at Inner = refl
-part_length rules jump addresses at (Test f) =
+pub part_length : (forms : List FormModel) (jump : Option FormModel) (addresses : List ℕ) (at : ℕ) (p : LayoutPart)
+    → length (part_items forms jump addresses at p) ≡ room p
+part_length forms jump addresses at (Block block words) = groups_length block 0 words
+part_length forms jump addresses at Inner = refl
+part_length forms jump addresses at (Test f) =
     let g = groups_length f.block 0 f.words in
     let b = behind_length jump f.next f.long (slice_index addresses f.to) (slice_index addresses f.other) in
     length-append (groups f.block 0 f.words) _ ∙ omega (arith, g, b)
-part_length rules jump addresses at (Jump to) = refl
-part_length rules jump addresses at End = refl
+part_length forms jump addresses at (Jump to) = refl
+part_length forms jump addresses at End = refl
 
-pub items_length : (rules : List FormModel) (jump : Option FormModel) (addresses : List ℕ) (at : ℕ) (parts : List LayoutPart)
-    → length (items_from rules jump addresses at parts) ≡ total parts
-items_length rules jump addresses at [] = refl
-items_length rules jump addresses at (p ∷ parts) =
-    let l = part_length rules jump addresses at p in
-    let r = items_length rules jump addresses (at + room p) parts in
-    length-append (part_items rules jump addresses at p) (items_from rules jump addresses (at + room p) parts) ∙ omega (arith, l, r)
+pub items_length : (forms : List FormModel) (jump : Option FormModel) (addresses : List ℕ) (at : ℕ) (parts : List LayoutPart)
+    → length (items_from forms jump addresses at parts) ≡ total parts
+items_length forms jump addresses at [] = refl
+items_length forms jump addresses at (p ∷ parts) =
+    let l = part_length forms jump addresses at p in
+    let r = items_length forms jump addresses (at + room p) parts in
+    length-append (part_items forms jump addresses at p) (items_from forms jump addresses (at + room p) parts) ∙ omega (arith, l, r)

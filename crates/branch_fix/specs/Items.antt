@@ -31,12 +31,12 @@ reaches _ reach = false
 -- the first jump form of this reach
 abbrev pub jump_form : List FormModel → ℕ → Option FormModel
 jump_form [] reach = None
-jump_form (rule ∷ rules) reach = if reaches rule.goal reach then Some rule else jump_form rules reach
+jump_form (form ∷ forms) reach = if reaches form.goal reach then Some form else jump_form forms reach
 
 -- a word of a form whose target has this value
 abbrev pub jump_step : Option FormModel → ℕ → Step
 jump_step None to = record { pattern = 0; setting = 0 }
-jump_step (Some rule) to = record { pattern = rule.pattern; setting = unwrap_or (shape_setting rule.value to) 0 }
+jump_step (Some form) to = record { pattern = form.pattern; setting = unwrap_or (shape_setting form.value to) 0 }
 
 -- a form that is looked at, if there is one
 abbrev pub form_in : Option (Bor Form) → Option FormModel
@@ -57,8 +57,8 @@ goal_setting _ from to long = 0
 -- the branch word at an address: the bits of its condition and those of its target
 abbrev pub branch_step : Option FormModel → ℕ → ℕ → ℕ → Bool → Step
 branch_step None setting from to long = record { pattern = 0; setting = 0 }
-branch_step (Some rule) setting from to long =
-    record { pattern = rule.pattern; setting = bit_or setting (goal_setting rule.goal from to long) }
+branch_step (Some form) setting from to long =
+    record { pattern = form.pattern; setting = bit_or setting (goal_setting form.goal from to long) }
 
 -- the words behind it
 abbrev pub behind : Option FormModel → Bool → Bool → ℕ → ℕ → List Item
@@ -69,16 +69,16 @@ behind jump false false to other = Word (jump_step jump other) ∷ []
 -- ---- all words
 
 abbrev pub part_items : List FormModel → Option FormModel → List ℕ → ℕ → LayoutPart → List Item
-part_items rules jump addresses at (Block block words) = groups block 0 words
-part_items rules jump addresses at Inner = []
-part_items rules jump addresses at (Test f) =
+part_items forms jump addresses at (Block block words) = groups block 0 words
+part_items forms jump addresses at Inner = []
+part_items forms jump addresses at (Test f) =
     groups f.block 0 f.words
-    ++ (Word (branch_step (slice_get rules f.form) f.setting (at + f.words) (slice_index addresses f.to) f.long)
+    ++ (Word (branch_step (slice_get forms f.form) f.setting (at + f.words) (slice_index addresses f.to) f.long)
     ∷ behind jump f.next f.long (slice_index addresses f.to) (slice_index addresses f.other))
-part_items rules jump addresses at (Jump to) = Word (jump_step jump (slice_index addresses to)) ∷ []
-part_items rules jump addresses at End = Word (jump_step jump at) ∷ []
+part_items forms jump addresses at (Jump to) = Word (jump_step jump (slice_index addresses to)) ∷ []
+part_items forms jump addresses at End = Word (jump_step jump at) ∷ []
 
 abbrev pub items_from : List FormModel → Option FormModel → List ℕ → ℕ → List LayoutPart → List Item
-items_from rules jump addresses at [] = []
-items_from rules jump addresses at (p ∷ parts) =
-    part_items rules jump addresses at p ++ items_from rules jump addresses (at + room p) parts
+items_from forms jump addresses at [] = []
+items_from forms jump addresses at (p ∷ parts) =
+    part_items forms jump addresses at p ++ items_from forms jump addresses (at + room p) parts

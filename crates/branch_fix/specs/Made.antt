@@ -101,14 +101,14 @@ pub record DoesFork (netlist : Netlist) (image : Image) (temps : ℕ)
 
 -- words stand for all parts, and the marks are theirs
 pub record IsMade (netlist : Netlist) (image : Image) (temps : ℕ)
-    (rules : List FormModel) (flow : List Flow) (jobs : List JobModel) (parts : List LayoutPart) : Type 0 where
-  pub fit : PartsFit rules flow 0 flow parts
+    (forms : List FormModel) (flow : List Flow) (jobs : List JobModel) (parts : List LayoutPart) : Type 0 where
+  pub fit : PartsFit forms flow 0 flow parts
   pub marks : image.marks ≡ marks_from 0 parts
   pub blocks : (at n block words : ℕ) → IsAssignBlock flow at n →
       slice_get parts at ≡ Some (Block block words) →
       DoesBlock netlist image temps (jobs_at flow jobs at n) (address parts at) words
   pub forks : (at : ℕ) (f : BranchedTest) → slice_get parts at ≡ Some (Test f) → (job : JobModel) → slice_get jobs f.tree ≡ Some job
-      → DoesFork netlist image temps job (form_at_one (slice_get rules f.form)) f (address parts at)
+      → DoesFork netlist image temps job (form_at_one (slice_get forms f.form)) f (address parts at)
       (address parts f.to) (address parts f.other)
   pub jumps : (at to : ℕ) → slice_get parts at ≡ Some (Jump to) →
       GoesTo netlist image (address parts at) (address parts to)

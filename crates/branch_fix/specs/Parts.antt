@@ -12,6 +12,7 @@ use Rattle.form_model.specs.declared.flow.Flow.{Flow}
 use Rattle.form_model.specs.declared.flow.Flow.TheVariants.{Assign, Test as Tested, Jump as Jumped, End as Ended}
 use Rattle.form_model.specs.Forms.{FormModel, GoalModel, branches}
 use Rattle.src_trees.specs.Blocks.{continues}
+use Rattle.branch_fix.specs.declared.outline.Branch.{Branch}
 use Rattle.branch_fix.specs.declared.part.LayoutPart.{LayoutPart}
 use Rattle.branch_fix.specs.declared.part.LayoutPart.TheVariants.{Block, Inner, Test, Jump, End}
 
@@ -24,7 +25,7 @@ goal_at_one _ = true
 
 abbrev pub form_at_one : Option FormModel → Bool
 form_at_one None = true
-form_at_one (Some rule) = goal_at_one rule.goal
+form_at_one (Some form) = goal_at_one form.goal
 
 -- a test at a place, with its branch form and setting, where the form tells which of the two
 -- targets is the branch's
@@ -42,15 +43,15 @@ fork_to tree block words form setting at to other =
       long = false;
     })
 
--- the branch form and the setting that are given for a test
-abbrev pub branch_or_zero : Option (ℕ × ℕ) → ℕ × ℕ
-branch_or_zero None = (0, 0)
+-- the branch that is given for a test
+abbrev pub branch_or_zero : Option Branch → Branch
+branch_or_zero None = record { form = 0; setting = 0 }
 branch_or_zero (Some branch) = branch
 
-abbrev pub fork_of : List FormModel → ℕ → ℕ → ℕ → ℕ × ℕ → ℕ → ℕ → ℕ → LayoutPart
-fork_of rules tree block words branch at when_one when_zero =
-    if form_at_one (slice_get rules branch.0) then fork_to tree block words branch.0 branch.1 at when_one when_zero
-    else fork_to tree block words branch.0 branch.1 at when_zero when_one
+abbrev pub fork_of : List FormModel → ℕ → ℕ → ℕ → Branch → ℕ → ℕ → ℕ → LayoutPart
+fork_of forms tree block words branch at when_one when_zero =
+    if form_at_one (slice_get forms branch.form) then fork_to tree block words branch.form branch.setting at when_one when_zero
+    else fork_to tree block words branch.form branch.setting at when_zero when_one
 
 -- ---- blocks and tests are numbered in the order of the flow
 
@@ -81,26 +82,26 @@ tests_before flow (suc at) = tests_before flow at + place_tests (slice_get flow 
 -- ---- parts
 
 -- the part of a place, with so many blocks and tests before it
-abbrev pub part_for : List FormModel → List Flow → List ℕ → List (ℕ × ℕ) → Flow → ℕ → ℕ → ℕ → LayoutPart
-part_for rules flow sizes forks (Assign tree) at block test =
+abbrev pub part_for : List FormModel → List Flow → List ℕ → List Branch → Flow → ℕ → ℕ → ℕ → LayoutPart
+part_for forms flow sizes forks (Assign tree) at block test =
     if continues flow at then Inner else Block block (slice_index sizes block)
-part_for rules flow sizes forks (Tested tree when_one when_zero) at block test =
-    fork_of rules tree block (slice_index sizes block) (branch_or_zero (slice_get forks test)) at when_one when_zero
-part_for rules flow sizes forks (Jumped to) at block test = Jump to
-part_for rules flow sizes forks Ended at block test = End
+part_for forms flow sizes forks (Tested tree when_one when_zero) at block test =
+    fork_of forms tree block (slice_index sizes block) (branch_or_zero (slice_get forks test)) at when_one when_zero
+part_for forms flow sizes forks (Jumped to) at block test = Jump to
+part_for forms flow sizes forks Ended at block test = End
 
-abbrev pub place_part : List FormModel → List Flow → List ℕ → List (ℕ × ℕ) → Flow → ℕ → LayoutPart
-place_part rules flow sizes forks f at =
-    part_for rules flow sizes forks f at (blocks_before flow at) (tests_before flow at)
+abbrev pub place_part : List FormModel → List Flow → List ℕ → List Branch → Flow → ℕ → LayoutPart
+place_part forms flow sizes forks f at =
+    part_for forms flow sizes forks f at (blocks_before flow at) (tests_before flow at)
 
 -- those of the places from one on, and of all
-abbrev pub parts_from : List FormModel → List Flow → List ℕ → List (ℕ × ℕ) → List Flow → ℕ → List LayoutPart
-parts_from rules flow sizes forks [] at = []
-parts_from rules flow sizes forks (f ∷ rest) at =
-    place_part rules flow sizes forks f at ∷ parts_from rules flow sizes forks rest (at + 1)
+abbrev pub parts_from : List FormModel → List Flow → List ℕ → List Branch → List Flow → ℕ → List LayoutPart
+parts_from forms flow sizes forks [] at = []
+parts_from forms flow sizes forks (f ∷ rest) at =
+    place_part forms flow sizes forks f at ∷ parts_from forms flow sizes forks rest (at + 1)
 
-abbrev pub parts_of : List FormModel → List Flow → List ℕ → List (ℕ × ℕ) → List LayoutPart
-parts_of rules flow sizes forks = parts_from rules flow sizes forks flow 0
+abbrev pub parts_of : List FormModel → List Flow → List ℕ → List Branch → List LayoutPart
+parts_of forms flow sizes forks = parts_from forms flow sizes forks flow 0
 
 -- ---- words and addresses
 
@@ -148,17 +149,17 @@ marks_from at (p ∷ parts) = own_marks at p ++ marks_from (at + room p) parts
 
 -- a part stands for a place of the flow
 abbrev pub FitsPart : List FormModel → List Flow → ℕ → Flow → LayoutPart → Type 0
-FitsPart rules flow at (Assign tree) (Block block words) = continues flow at ≡ false
-FitsPart rules flow at (Assign tree) Inner = continues flow at ≡ true
-FitsPart rules flow at (Tested tree when_one when_zero) (Test f) =
+FitsPart forms flow at (Assign tree) (Block block words) = continues flow at ≡ false
+FitsPart forms flow at (Assign tree) Inner = continues flow at ≡ true
+FitsPart forms flow at (Tested tree when_one when_zero) (Test f) =
     (f.tree ≡ tree) × (f.next ≡ (f.other == at + 1))
-    × (f.to ≡ (if form_at_one (slice_get rules f.form) then when_one else when_zero))
-    × (f.other ≡ (if form_at_one (slice_get rules f.form) then when_zero else when_one))
-FitsPart rules flow at (Jumped to) (Jump place) = place ≡ to
-FitsPart rules flow at Ended End = Unit {0}
-FitsPart rules flow at _ _ = ⊥
+    × (f.to ≡ (if form_at_one (slice_get forms f.form) then when_one else when_zero))
+    × (f.other ≡ (if form_at_one (slice_get forms f.form) then when_zero else when_one))
+FitsPart forms flow at (Jumped to) (Jump place) = place ≡ to
+FitsPart forms flow at Ended End = Unit {0}
+FitsPart forms flow at _ _ = ⊥
 
 abbrev pub PartsFit : List FormModel → List Flow → ℕ → List Flow → List LayoutPart → Type 0
-PartsFit rules flow at [] [] = Unit {0}
-PartsFit rules flow at (f ∷ rest) (p ∷ parts) = FitsPart rules flow at f p × PartsFit rules flow (at + 1) rest parts
-PartsFit rules flow at _ _ = ⊥
+PartsFit forms flow at [] [] = Unit {0}
+PartsFit forms flow at (f ∷ rest) (p ∷ parts) = FitsPart forms flow at f p × PartsFit forms flow (at + 1) rest parts
+PartsFit forms flow at _ _ = ⊥

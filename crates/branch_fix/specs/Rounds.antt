@@ -31,45 +31,45 @@ goal_shows _ from to = true
 
 abbrev pub form_shows : Option FormModel → ℕ → ℕ → Bool
 form_shows None from to = true
-form_shows (Some rule) from to = goal_shows rule.goal from to
+form_shows (Some form) from to = goal_shows form.goal from to
 
 -- in a round each relative branch that doesn't show its distance becomes three words, and stays so
 abbrev pub widened : List FormModel → List ℕ → ℕ → BranchedTest → BranchedTest
-widened rules addresses at f = record f {
+widened forms addresses at f = record f {
   long = f.long
-      || not (form_shows (slice_get rules f.form) (at + f.words) (slice_index addresses f.to));
+      || not (form_shows (slice_get forms f.form) (at + f.words) (slice_index addresses f.to));
 }
 
 -- part by part
 abbrev pub widened_part : List FormModel → List ℕ → ℕ → LayoutPart → LayoutPart
-widened_part rules addresses at (Block block words) = Block block words
-widened_part rules addresses at Inner = Inner
-widened_part rules addresses at (Test f) = Test (widened rules addresses at f)
-widened_part rules addresses at (Jump to) = Jump to
-widened_part rules addresses at End = End
+widened_part forms addresses at (Block block words) = Block block words
+widened_part forms addresses at Inner = Inner
+widened_part forms addresses at (Test f) = Test (widened forms addresses at f)
+widened_part forms addresses at (Jump to) = Jump to
+widened_part forms addresses at End = End
 
 abbrev pub widened_from : List FormModel → List ℕ → ℕ → List LayoutPart → List LayoutPart
-widened_from rules addresses at [] = []
-widened_from rules addresses at (p ∷ parts) =
-    widened_part rules addresses at p ∷ widened_from rules addresses (at + room p) parts
+widened_from forms addresses at [] = []
+widened_from forms addresses at (p ∷ parts) =
+    widened_part forms addresses at p ∷ widened_from forms addresses (at + room p) parts
 
 abbrev pub round : List FormModel → List LayoutPart → List LayoutPart
-round rules parts = widened_from rules (starts parts) 0 parts
+round forms parts = widened_from forms (starts parts) 0 parts
 
 abbrev pub rounds : List FormModel → ℕ → List LayoutPart → List LayoutPart
-rounds rules zero parts = parts
-rounds rules (suc n) parts = rounds rules n (round rules parts)
+rounds forms zero parts = parts
+rounds forms (suc n) parts = rounds forms n (round forms parts)
 
 -- what some rounds make of parts
-pub record IsRound (rules : List FormModel) (first parts : List LayoutPart) : Type 0 where
+pub record IsRound (forms : List FormModel) (first parts : List LayoutPart) : Type 0 where
   pub count : ℕ
-  pub made : parts ≡ rounds rules count first
+  pub made : parts ≡ rounds forms count first
 
 -- rounds are repeated until one changes nothing
-pub record IsFixpoint (rules : List FormModel) (first last : List LayoutPart) : Type 0 where
+pub record IsFixpoint (forms : List FormModel) (first last : List LayoutPart) : Type 0 where
   pub count : ℕ
-  pub made : last ≡ rounds rules count first
-  pub still : round rules last ≡ last
+  pub made : last ≡ rounds forms count first
+  pub still : round forms last ≡ last
 
 -- how many tests are three words
 abbrev pub is_long : LayoutPart → Bool

@@ -9,6 +9,7 @@ use Rattle.form_model.specs.declared.flow.Flow.TheVariants.{Assign, Test, Jump a
 use Rattle.form_model.specs.Forms.{FormModel, TargetModel, absolute, relative, jumps, branches}
 use Rattle.branch_fix.specs.declared.laid.Item.{Item}
 use Rattle.branch_fix.specs.declared.laid.Item.TheVariants.{Group, Jump}
+use Rattle.branch_fix.specs.declared.outline.Branch.{Branch}
 use Rattle.branch_fix.specs.declared.part.LayoutPart.TheVariants.{Block, Inner, Test as TestPart, Jump as JumpPart, End as EndPart}
 use Rattle.branch_fix.specs.Costs.{block_costs}
 use Rattle.branch_fix.specs.Parts.{parts_of, starts, marks_from, total}
@@ -44,18 +45,22 @@ branch_form_model target = record {
   tied = None;
 }
 
+-- its test has the first form, and sets no bits
+abbrev one_branch : List Branch
+one_branch = record { form = 0; setting = 0 } ∷ []
+
 -- the words of a flow whose branches go so: one for the test, five for the block
 abbrev laid : TargetModel → ℕ → List Item
 laid target n = items_from (branch_form_model target ∷ jump_form_model ∷ []) (jump_form (branch_form_model target ∷ jump_form_model ∷ []) 256)
     (starts (rounds (branch_form_model target ∷ jump_form_model ∷ []) n
-    (parts_of (branch_form_model target ∷ jump_form_model ∷ []) flow (1 ∷ 5 ∷ []) ((0, 0) ∷ [])))) 0
+    (parts_of (branch_form_model target ∷ jump_form_model ∷ []) flow (1 ∷ 5 ∷ []) one_branch))) 0
     (rounds (branch_form_model target ∷ jump_form_model ∷ []) n
-    (parts_of (branch_form_model target ∷ jump_form_model ∷ []) flow (1 ∷ 5 ∷ []) ((0, 0) ∷ [])))
+    (parts_of (branch_form_model target ∷ jump_form_model ∷ []) flow (1 ∷ 5 ∷ []) one_branch))
 
 abbrev marked_at : TargetModel → ℕ → List Mark
 marked_at target n =
     marks_from 0 (rounds (branch_form_model target ∷ jump_form_model ∷ []) n
-    (parts_of (branch_form_model target ∷ jump_form_model ∷ []) flow (1 ∷ 5 ∷ []) ((0, 0) ∷ [])))
+    (parts_of (branch_form_model target ∷ jump_form_model ∷ []) flow (1 ∷ 5 ∷ []) one_branch))
 
 abbrev to_word : ℕ → ℕ → Item
 to_word pattern setting = Jump (record { pattern = pattern; setting = setting })
@@ -98,7 +103,7 @@ most_words : bound_of flow (1 ∷ 5 ∷ []) ≡ 11
 most_words = refl
 
 far_total : total (rounds (branch_form_model (relative narrow) ∷ jump_form_model ∷ []) 1
-    (parts_of (branch_form_model (relative narrow) ∷ jump_form_model ∷ []) flow (1 ∷ 5 ∷ []) ((0, 0) ∷ [])))
+    (parts_of (branch_form_model (relative narrow) ∷ jump_form_model ∷ []) flow (1 ∷ 5 ∷ []) one_branch))
     ≡ 11
 far_total = refl
 
@@ -112,9 +117,9 @@ forked_laid target =
     items_from (branch_form_model target ∷ jump_form_model ∷ [])
     (jump_form (branch_form_model target ∷ jump_form_model ∷ []) 256)
     (starts (rounds (branch_form_model target ∷ jump_form_model ∷ []) 1
-    (parts_of (branch_form_model target ∷ jump_form_model ∷ []) forked (1 ∷ 1 ∷ []) ((0, 0) ∷ [])))) 0
+    (parts_of (branch_form_model target ∷ jump_form_model ∷ []) forked (1 ∷ 1 ∷ []) one_branch))) 0
     (rounds (branch_form_model target ∷ jump_form_model ∷ []) 1
-    (parts_of (branch_form_model target ∷ jump_form_model ∷ []) forked (1 ∷ 1 ∷ []) ((0, 0) ∷ [])))
+    (parts_of (branch_form_model target ∷ jump_form_model ∷ []) forked (1 ∷ 1 ∷ []) one_branch))
 
 forked_words : forked_laid (absolute field)
     ≡ Group 0 0 ∷ to_word 1 3 ∷ to_word 2 5 ∷ Group 1 0 ∷ to_word 2 5 ∷ to_word 2 5 ∷ []
@@ -143,7 +148,7 @@ longer = Assign 0 ∷ Assign 1 ∷ Test 2 6 3 ∷ Assign 3 ∷ Assign 4 ∷ Jump
 longer_costs : block_costs longer (10 ∷ 20 ∷ 30 ∷ 40 ∷ 50 ∷ []) longer 0 ≡ 30 ∷ 30 ∷ 90 ∷ []
 longer_costs = refl
 
-longer_parts : parts_of [] longer (3 ∷ 1 ∷ 9 ∷ []) ((0, 0) ∷ []) ≡
+longer_parts : parts_of [] longer (3 ∷ 1 ∷ 9 ∷ []) one_branch ≡
     Block 0 3 ∷ Inner
     ∷ TestPart (record {
       tree = 2;

@@ -1,30 +1,32 @@
 //! The parts of a flow.
 
-ghost use Rattle.std.specs.Prelude.{◌≡◌, ◌+◌, ◌<◌, ◌≤◌, ◌==◌, ◌^◌, IfOk, MatchOption, None, Some, length, slice_index, slice_get};
+ghost use Rattle.std.specs.Prelude.{◌≡◌, ◌+◌, ◌<◌, ◌≤◌, IfOk, MatchOption, None, Some, if◌then◌else◌, length, slice_index, slice_get};
+ghost use Rattle.form_model.specs.declared.flow.Flow.{Flow as ThePlace};
 ghost use Rattle.form_model.specs.Forms.{model_of_form, models_of_forms};
 ghost use Rattle.src_trees.specs.Blocks.{continues};
 ghost use Rattle.branch_fix.specs.Entered.{entered_places};
-ghost use Rattle.branch_fix.specs.Parts.{form_at_one, branch_or_zero, fork_of, part_for, parts_of, place_blocks, place_tests};
+ghost use Rattle.branch_fix.specs.Parts.{branch_or_zero, form_at_one, part_for, parts_of, place_blocks, place_tests};
 
 use crate::begun::{continues, entered};
+use crate::outline::{Branch, Outline};
 use crate::part::{BranchedTest, LayoutPart};
 use form_model::{Flow, Form, Goal};
 use rec_bits::{Items, NoMemory};
 use std::alloc::Global;
 
 /// The form of this number.
-pub fn form_at(forms: &[Form], form: u64) -> Option<&Form>
+pub fn form_at(forms: &[Form], form: usize) -> Option<&Form>
     ensures { MatchOption result (slice_get (models_of_forms forms.now) form ≡ None) (λ found.
         slice_get (models_of_forms forms.now) form ≡ Some (model_of_form found.now)) }
 {
-    forms.get(form as usize)
+    forms.get(form)
 }
 
 // Whether a branch form goes to its target where its condition is 1.
-fn at_one(forms: &[Form], form: u64) -> bool
+fn at_one(forms: &[Form], form: usize) -> bool
     ensures { result ≡ form_at_one (slice_get (models_of_forms forms.now) form) }
 {
-    match forms.get(form as usize) {
+    match forms.get(form) {
         None => true,
         Some(form) => match &form.goal {
             Goal::Branch { when_one, .. } => *when_one,
@@ -33,156 +35,165 @@ fn at_one(forms: &[Form], form: u64) -> bool
     }
 }
 
-fn size_at(sizes: &[u32], block: u32) -> u32
-    ensures { result ≡ slice_index sizes.now block }
-{
-    match sizes.get(block as usize) {
-        Some(words) => *words,
-        None => 0,
+// How many blocks and tests begin before a place of a flow.
+#[derive(Clone, Copy)]
+struct Before {
+    blocks: u32,
+    tests: usize,
+}
+
+// The two places that a test leads to: that of its branch, and the other one.
+#[derive(Clone, Copy)]
+struct Ways {
+    to: u32,
+    other: u32,
+}
+
+impl<'a> Outline<'a> {
+    // The words of a block.
+    fn size_at(&self, block: u32) -> u32
+        ensures { result ≡ slice_index self.now.sizes.now block }
+    {
+        match self.sizes.get(block as usize) {
+            Some(words) => *words,
+            None => 0,
+        }
     }
-}
 
-fn given(branches: &[(u64, u64)], test: usize) -> (u64, u64)
-    ensures { result ≡ branch_or_zero (slice_get branches.now test) }
-{
-    match branches.get(test) {
-        Some(branch) => *branch,
-        None => (0, 0),
+    // The branch of a test.
+    fn branch_at(&self, test: usize) -> Branch
+        ensures { result ≡ branch_or_zero (slice_get self.now.branches.now test) }
+    {
+        match self.branches.get(test) {
+            Some(branch) => *branch,
+            None => Branch {
+                form: 0,
+                setting: 0,
+            },
+        }
     }
-}
 
-// A test at a place: its branch form tells which of the two targets is the branch's.
-fn fork(
-    forms: &[Form],
-    tree: u32,
-    block: u32,
-    words: u32,
-    branch: (u64, u64),
-    at: usize,
-    when_one: u32,
-    when_zero: u32,
-) -> LayoutPart
-    requires { at < 2 ^ 63 }
-    ensures { result ≡ fork_of (models_of_forms forms.now) tree block words branch at when_one when_zero }
-{
-    let (form, setting) = branch;
-    let (to, other) = if at_one(forms, form) {
-        (when_one, when_zero)
-    } else {
-        (when_zero, when_one)
-    };
-    LayoutPart::Test(BranchedTest {
-        tree,
-        block,
-        words,
-        form,
-        setting,
-        to,
-        other,
-        next: other as usize == at + 1,
-        long: false,
-    })
-}
-
-// The part of a flow's place, with so many blocks and tests before it.
-fn part_for(
-    forms: &[Form],
-    flow: &[Flow],
-    entered: &[bool],
-    sizes: &[u32],
-    branches: &[(u64, u64)],
-    place: Flow,
-    at: usize,
-    block: u32,
-    test: usize,
-) -> LayoutPart
-    requires at { at < length flow.now }
-    requires entered { entered.now ≡ entered_places flow.now }
-    ensures { result ≡ part_for (models_of_forms forms.now) flow.now sizes.now branches.now place at block test }
-{
-    match place {
-        Flow::Assign(_) => {
-            if continues(flow, entered, at) {
-                LayoutPart::Inner
-            } else {
-                LayoutPart::Block {
-                    block,
-                    words: size_at(sizes, block),
-                }
+    // Which of a test's two targets is that of its branch, as the branch's form tells.
+    fn ways(&self, branch: Branch, when_one: u32, when_zero: u32) -> Ways
+        ensures to { result.to ≡ (if form_at_one (slice_get (models_of_forms self.now.forms.now.list.items) branch.form)
+            then when_one else when_zero) }
+        ensures other { result.other ≡ (if form_at_one (slice_get (models_of_forms self.now.forms.now.list.items) branch.form)
+            then when_zero else when_one) }
+    {
+        if at_one(&self.forms.list, branch.form) {
+            Ways {
+                to: when_one,
+                other: when_zero,
+            }
+        } else {
+            Ways {
+                to: when_zero,
+                other: when_one,
             }
         }
-        Flow::Test {
-            tree,
-            when_one,
-            when_zero,
-        } => fork(
-            forms,
-            tree,
-            block,
-            size_at(sizes, block),
-            given(branches, test),
-            at,
-            when_one,
-            when_zero,
-        ),
-        Flow::Jump(to) => LayoutPart::Jump(to),
-        Flow::End => LayoutPart::End,
+    }
+
+    // The part of a place, with so many blocks and tests before it.
+    fn part_at(&self, entered: &[bool], at: usize, before: Before) -> LayoutPart
+        requires at { at < length self.now.flow.now }
+        requires entered { entered.now ≡ entered_places self.now.flow.now }
+        ensures { (place : ThePlace) → slice_get self.now.flow.now at ≡ Some place →
+            result ≡ part_for (models_of_forms self.now.forms.now.list.items) self.now.flow.now self.now.sizes.now
+            self.now.branches.now place at before.blocks before.tests }
+    {
+        let block = before.blocks;
+        match self.flow[at] {
+            Flow::Assign(_) => {
+                if continues(self.flow, entered, at) {
+                    LayoutPart::Inner
+                } else {
+                    LayoutPart::Block {
+                        block,
+                        words: self.size_at(block),
+                    }
+                }
+            }
+            Flow::Test {
+                tree,
+                when_one,
+                when_zero,
+            } => {
+                let branch = self.branch_at(before.tests);
+                let Ways { to, other } = self.ways(branch, when_one, when_zero);
+                LayoutPart::Test(BranchedTest {
+                    tree,
+                    block,
+                    words: self.size_at(block),
+                    form: branch.form,
+                    setting: branch.setting,
+                    to,
+                    other,
+                    next: other as usize == at + 1,
+                    long: false,
+                })
+            }
+            Flow::Jump(to) => LayoutPart::Jump(to),
+            Flow::End => LayoutPart::End,
+        }
+    }
+
+    // How many blocks begin at a place.
+    fn blocks_at(&self, entered: &[bool], at: usize) -> u32
+        requires at { at < length self.now.flow.now }
+        requires entered { entered.now ≡ entered_places self.now.flow.now }
+        ensures { result ≡ place_blocks (slice_get self.now.flow.now at) (continues self.now.flow.now at) }
+    {
+        match self.flow[at] {
+            Flow::Assign(_) => u32::from(!continues(self.flow, entered, at)),
+            Flow::Test { .. } => 1,
+            Flow::Jump(_) | Flow::End => 0,
+        }
+    }
+
+    // How many tests there are at a place.
+    fn tests_at(&self, at: usize) -> usize
+        requires { at < length self.now.flow.now }
+        ensures value { result ≡ place_tests (slice_get self.now.flow.now at) }
+        ensures few { result ≤ 1 }
+    {
+        usize::from(matches!(self.flow[at], Flow::Test { .. }))
+    }
+
+    // How many blocks and tests begin before the place behind this one. Want of memory where the
+    // blocks are more than can be numbered.
+    fn behind(&self, entered: &[bool], at: usize, before: Before) -> Result<Before, NoMemory>
+        requires at { at < length self.now.flow.now }
+        requires entered { entered.now ≡ entered_places self.now.flow.now }
+        requires few { before.tests ≤ at }
+        ensures blocks { IfOk result (λ next. next.blocks
+            ≡ before.blocks + place_blocks (slice_get self.now.flow.now at) (continues self.now.flow.now at)) }
+        ensures tests { IfOk result (λ next. next.tests ≡ before.tests + place_tests (slice_get self.now.flow.now at)) }
+        ensures few { IfOk result (λ next. next.tests ≤ at + 1) }
+    {
+        match before.blocks.checked_add(self.blocks_at(entered, at)) {
+            Some(blocks) => Ok(Before {
+                blocks,
+                tests: before.tests + self.tests_at(at),
+            }),
+            None => Err(NoMemory),
+        }
     }
 }
 
-// How many blocks begin at a flow's place.
-fn blocks_at(flow: &[Flow], entered: &[bool], place: Flow, at: usize) -> u32
-    requires at { at < length flow.now }
-    requires entered { entered.now ≡ entered_places flow.now }
-    ensures { result ≡ place_blocks (Some place) (continues flow.now at) }
+/// The parts of an outline's flow.
+pub fn parts(alloc: Global, outline: &Outline<'_>) -> Result<Items<LayoutPart>, NoMemory>
+    ensures { IfOk result (λ parts. parts ≡ parts_of (models_of_forms outline.now.forms.now.list.items)
+        outline.now.flow.now outline.now.sizes.now outline.now.branches.now) }
 {
-    match place {
-        Flow::Assign(_) => u32::from(!continues(flow, entered, at)),
-        Flow::Test { .. } => 1,
-        Flow::Jump(_) | Flow::End => 0,
-    }
-}
-
-fn tests_at(place: Flow) -> usize
-    ensures value { result ≡ place_tests (Some place) }
-    ensures few { result ≤ 1 }
-{
-    usize::from(matches!(place, Flow::Test { .. }))
-}
-
-// How many blocks there are with some more. Want of memory where they are more than can be
-// numbered.
-fn more_blocks(block: u32, more: u32) -> Result<u32, NoMemory>
-    ensures { IfOk result (λ n. n ≡ block + more) }
-{
-    match block.checked_add(more) {
-        Some(n) => Ok(n),
-        None => Err(NoMemory),
-    }
-}
-
-/// The parts of a flow: `sizes` has the words of each block, and `branches` the branch form and the
-/// setting of each test.
-pub fn parts(
-    alloc: Global,
-    forms: &[Form],
-    flow: &[Flow],
-    sizes: &[u32],
-    branches: &[(u64, u64)],
-) -> Result<Items<LayoutPart>, NoMemory>
-    ensures { IfOk result (λ parts. parts ≡ parts_of (models_of_forms forms.now) flow.now sizes.now branches.now) }
-{
-    let entered = entered(alloc, flow)?;
+    let entered = entered(alloc, outline.flow)?;
     let mut parts = Items::new(alloc);
-    let mut block = 0;
-    let mut test = 0;
-    for (at, place) in flow.iter().enumerate() {
-        let part = part_for(
-            forms, flow, &entered, sizes, branches, *place, at, block, test,
-        );
-        parts.push(part)?;
-        block = more_blocks(block, blocks_at(flow, &entered, *place, at))?;
-        test += tests_at(*place);
+    let mut before = Before {
+        blocks: 0,
+        tests: 0,
+    };
+    for at in 0..outline.flow.len() {
+        parts.push(outline.part_at(&entered, at, before))?;
+        before = outline.behind(&entered, at, before)?;
     }
     Ok(parts)
 }

@@ -21,6 +21,7 @@ ghost use Rattle.src_trees.specs.Held.{HasCellRoom, HoldsVars};
 ghost use Rattle.src_trees.specs.Lowered.{MemoryMap, JobModel};
 ghost use Rattle.src_trees.specs.Meant.{DoProgram};
 ghost use Rattle.src_trees.specs.Turned.{Turns, TurnsTests, jobs_of_told, turned_flow};
+ghost use Rattle.branch_fix.specs.declared.outline.Branch.{Branch};
 ghost use Rattle.branch_fix.specs.declared.part.BranchedTest.{BranchedTest};
 ghost use Rattle.branch_fix.specs.declared.part.LayoutPart.{LayoutPart};
 ghost use Rattle.branch_fix.specs.declared.part.LayoutPart.TheVariants.{Test};
@@ -36,21 +37,21 @@ ghost use Rattle.branch_fix.specs.Made.{IsMade};
 /// does one of a flow some tests of which are turned, by jobs that do so once they are turned back.
 pub fn law_of_layouts()
     ensures own { (netlist : Netlist) (image : Image)
-        (m : MemoryMap) (temps : ℕ) (l : ProgramModel) (jobs : List JobModel) (rules : List FormModel) (parts : List LayoutPart) →
+        (m : MemoryMap) (temps : ℕ) (l : ProgramModel) (jobs : List JobModel) (forms : List FormModel) (parts : List LayoutPart) →
         first_fault m.word l ≡ None → memory_width netlist.storages ≡ m.word →
         HoldsVars temps l.vars m → HasCellRoom temps m (memory_size netlist.storages) →
         image.places ≡ m.places → DoProgram m temps l jobs →
-        IsMade netlist image temps rules (program_flow l) jobs parts →
+        IsMade netlist image temps forms (program_flow l) jobs parts →
         length (words_of image) ≡ total parts →
         TracesRight netlist image (strace m.word l) }
     ensures turned { (netlist : Netlist) (image : Image)
-        (m : MemoryMap) (temps : ℕ) (l : ProgramModel) (turned : Turns) (jobs : List JobModel) (rules : List FormModel)
+        (m : MemoryMap) (temps : ℕ) (l : ProgramModel) (turned : Turns) (jobs : List JobModel) (forms : List FormModel)
         (parts : List LayoutPart) →
         first_fault m.word l ≡ None → memory_width netlist.storages ≡ m.word →
         HoldsVars temps l.vars m → HasCellRoom temps m (memory_size netlist.storages) →
         image.places ≡ m.places → TurnsTests turned (program_flow l) →
         DoProgram m temps l (jobs_of_told turned jobs) →
-        IsMade netlist image temps rules (turned_flow turned (program_flow l)) jobs parts →
+        IsMade netlist image temps forms (turned_flow turned (program_flow l)) jobs parts →
         length (words_of image) ≡ total parts →
         TracesRight netlist image (strace m.word l) }
 {}
@@ -59,15 +60,15 @@ pub fn law_of_layouts()
 /// relative branch that is not three words shows its distance, between the addresses that the parts
 /// have.
 pub fn law_of_parts()
-    ensures one { (rules : List FormModel) (first a b : List LayoutPart) → IsFixpoint rules first a →
-        IsFixpoint rules first b → a ≡ b }
-    ensures fit { (rules : List FormModel) (flow : List Flow) (sizes : List ℕ) (branches : List (ℕ × ℕ))
+    ensures one { (forms : List FormModel) (first a b : List LayoutPart) → IsFixpoint forms first a →
+        IsFixpoint forms first b → a ≡ b }
+    ensures fit { (forms : List FormModel) (flow : List Flow) (sizes : List ℕ) (branches : List Branch)
         (parts : List LayoutPart) →
-        IsFixpoint rules (parts_of rules flow sizes branches) parts →
-        PartsFit rules flow 0 flow parts }
-    ensures shown { (rules : List FormModel) (first parts : List LayoutPart) (k : ℕ) (f : BranchedTest) →
-        IsFixpoint rules first parts → slice_get parts k ≡ Some (Test f) → f.long ≡ false →
-        form_shows (slice_get rules f.form) (address parts k + f.words) (slice_index (starts parts) f.to) ≡ true }
+        IsFixpoint forms (parts_of forms flow sizes branches) parts →
+        PartsFit forms flow 0 flow parts }
+    ensures shown { (forms : List FormModel) (first parts : List LayoutPart) (k : ℕ) (f : BranchedTest) →
+        IsFixpoint forms first parts → slice_get parts k ≡ Some (Test f) → f.long ≡ false →
+        form_shows (slice_get forms f.form) (address parts k + f.words) (slice_index (starts parts) f.to) ≡ true }
     ensures addresses { (parts : List LayoutPart) (k : ℕ) → k ≤ length parts →
         slice_index (starts parts) k ≡ address parts k }
 {}
@@ -92,8 +93,8 @@ pub fn law_of_bounds()
 /// The bits that a jump or branch word has for its target lead to it from every state, where the
 /// target's shape shows them.
 pub fn law_of_targets()
-    ensures jumps { (rule : FormModel) (s : State) (to : ℕ) → shows rule.value to ≡ true →
-        mean rule.value s (jump_step (Some rule) to).setting ≡ to }
+    ensures jumps { (form : FormModel) (s : State) (to : ℕ) → shows form.value to ≡ true →
+        mean form.value s (jump_step (Some form) to).setting ≡ to }
     ensures absolute { (shape : ExprModel) (s : State) (from to : ℕ) (long : Bool) → shows shape to ≡ true →
         mean shape s (target_setting (absolute shape) from to long) ≡ to }
     ensures relative { (shape : ExprModel) (s : State) (from to : ℕ) → expr_width shape ≤ 64 →

@@ -6,7 +6,7 @@ ghost use Rattle.branch_fix.specs.Parts.{parts_of, starts, marks_from, total};
 ghost use Rattle.branch_fix.specs.Rounds.{IsFixpoint};
 ghost use Rattle.branch_fix.specs.Bounds.{control_words, sum_of};
 ghost use Rattle.branch_fix.specs.Items.{jump_form, items_from};
-ghost use Rattle.branch_fix.specs.Laid.{IsLaid, IsLayFault, outline};
+ghost use Rattle.branch_fix.specs.Laid.{IsLaid, IsLayFault, model_of_outline};
 
 use crate::cut::parts;
 use crate::fault::LayFault;
@@ -14,80 +14,63 @@ use crate::items::items;
 use crate::jumps::jump_form;
 use crate::laid::Laid;
 use crate::marks::marks;
+use crate::outline::Outline;
 use crate::part::LayoutPart;
 use crate::rooms::{starts, total};
 use crate::widen::settled;
-use form_model::{Flow, Form, Forms};
+use form_model::Forms;
 use rec_bits::{Items, NoMemory};
 use std::alloc::Global;
 
 // The words and the marks of parts.
-fn lay(alloc: Global, forms: &[Form], reach: u64, parts: &[LayoutPart]) -> Result<Laid, NoMemory>
+fn lay(alloc: Global, forms: &Forms, parts: &[LayoutPart]) -> Result<Laid, NoMemory>
     requires { total parts.now < 2 ^ 64 }
-    ensures items { IfOk result (λ laid. laid.items
-        ≡ items_from (models_of_forms forms.now) (jump_form (models_of_forms forms.now) reach) (starts parts.now) 0 parts.now) }
+    ensures items { IfOk result (λ laid. laid.items ≡ items_from (models_of_forms forms.now.list.items)
+        (jump_form (models_of_forms forms.now.list.items) forms.now.reach) (starts parts.now) 0 parts.now) }
     ensures marks { IfOk result (λ laid. laid.marks ≡ marks_from 0 parts.now) }
 {
-    let jump = jump_form(forms, reach);
+    let list = forms.list.as_slice();
+    let jump = jump_form(list, forms.reach);
     let addresses = starts(alloc, parts)?;
-    let items = items(alloc, forms, jump, addresses.as_slice(), parts)?;
+    let items = items(alloc, list, jump, addresses.as_slice(), parts)?;
     let marks = marks(alloc, parts)?;
     Ok(Laid { items, marks })
 }
 
-// The parts of a flow, after the rounds.
-fn settled_parts(
-    alloc: Global,
-    forms: &[Form],
-    flow: &[Flow],
-    sizes: &[u32],
-    branches: &[(u64, u64)],
-) -> Result<Items<LayoutPart>, NoMemory>
-    requires { sum_of sizes.now + control_words flow.now < 2 ^ 64 }
-    ensures { IfOk result (λ last. IsFixpoint (models_of_forms forms.now)
-        (parts_of (models_of_forms forms.now) flow.now sizes.now branches.now) last) }
+// The parts of an outline's flow, after the rounds.
+fn settled_parts(alloc: Global, outline: &Outline<'_>) -> Result<Items<LayoutPart>, NoMemory>
+    requires { sum_of outline.now.sizes.now + control_words outline.now.flow.now < 2 ^ 64 }
+    ensures { IfOk result (λ last. IsFixpoint (models_of_forms outline.now.forms.now.list.items)
+        (parts_of (models_of_forms outline.now.forms.now.list.items) outline.now.flow.now outline.now.sizes.now
+        outline.now.branches.now) last) }
 {
-    let first = parts(alloc, forms, flow, sizes, branches)?;
-    settled(alloc, forms, first)
+    let first = parts(alloc, outline)?;
+    settled(alloc, outline.forms.list.as_slice(), first)
 }
 
 /// Lays out code: where the words of its blocks stand, its jump and branch words, and its marks.
 ///
-/// `sizes` has the number of words of each block of the flow, that of a test's operands among them,
-/// which is 0 where there are none. `branches` has for each test, in the order of the flow, its
-/// branch form, by its place in the list of forms, and the setting of its condition's bits. There
-/// is room for `words` words, and the code has at most `bound`, which the blocks' sizes have to
-/// keep.
-///
 /// Refused are a code that may be longer than a jump reaches, and then one that is longer than
 /// there is room for.
-pub fn lay_out(
-    alloc: Global,
-    flow: &[Flow],
-    sizes: &[u32],
-    branches: &[(u64, u64)],
-    forms: &Forms,
-    words: u64,
-    bound: u64,
-) -> Result<Laid, LayFault>
-    requires bound { sum_of sizes.now + control_words flow.now ≤ bound }
-    ensures laid { IfOk result (IsLaid (outline flow.now sizes.now branches.now forms.now words bound)) }
-    ensures refused { IfErr result (IsLayFault (outline flow.now sizes.now branches.now forms.now words bound)) }
+pub fn lay_out(alloc: Global, outline: &Outline<'_>) -> Result<Laid, LayFault>
+    requires bound { sum_of outline.now.sizes.now + control_words outline.now.flow.now ≤ outline.now.bound }
+    ensures laid { IfOk result (IsLaid (model_of_outline outline.now)) }
+    ensures refused { IfErr result (IsLayFault (model_of_outline outline.now)) }
 {
-    let reach = forms.reach;
+    let bound = outline.bound;
+    let reach = outline.forms.reach;
     if bound > reach {
         return Err(LayFault::NoReach { bound, reach });
     }
-    let list = forms.list.as_slice();
-    let parts = settled_parts(alloc, list, flow, sizes, branches)?;
+    let parts = settled_parts(alloc, outline)?;
     let len = total(parts.as_slice());
-    if len > words {
+    if len > outline.words {
         return Err(LayFault::ImageFull {
             len,
-            size: words,
+            size: outline.words,
             bound,
         });
     }
-    let laid = lay(alloc, list, reach, parts.as_slice())?;
+    let laid = lay(alloc, outline.forms, parts.as_slice())?;
     Ok(laid)
 }

@@ -1,8 +1,8 @@
 //! Where the words of a program's code stand: its branch and jump words, the addresses that they go
 //! to, and its marks.
 //!
-//! Promise: `lay_out` gives the words and marks of a flow, whose blocks have so many words each,
-//! exactly (`laid`: `IsLaid`), or tells that the bound is beyond the reach of jumps, and then that
+//! Promise: `lay_out` gives the words and marks of an `Outline`, a flow whose blocks have so many
+//! words each, exactly (`laid`: `IsLaid`), or tells that the bound is beyond the reach of jumps, and then that
 //! the words are more than there is room for (`refused`: `IsLayFault`). `bound` gives the bound of
 //! a flow (`bound_of`). The laws: an image whose words stand for a flow's parts traces the program
 //! (`law_of_layouts`: `IsMade`), the rounds settle on one list of parts (`law_of_parts`), the bound
@@ -15,9 +15,10 @@
 //!
 //! Files:
 //!
+//! - `outline`: what is laid out.
 //! - `part`: what stands at the places of a flow.
 //! - `begun`: which places begin a block.
-//! - `cut`: the parts of a flow, given the words of blocks and the branches of tests.
+//! - `cut`: the parts of an outline's flow.
 //! - `rooms`: the words of parts, and their addresses.
 //! - `widen`: the rounds: relative branches that don't show their distance become three words.
 //! - `jumps`, `laid`, `items`: jump and branch words, and the words of all parts.
@@ -43,6 +44,7 @@ mod laid;
 mod laws;
 mod layout;
 mod marks;
+mod outline;
 mod part;
 mod rooms;
 mod widen;
@@ -53,3 +55,4 @@ pub use fault::LayFault;
 pub use laid::{Item, Laid};
 pub use laws::{law_of_bounds, law_of_layouts, law_of_parts, law_of_targets};
 pub use layout::lay_out;
+pub use outline::{Branch, Outline};

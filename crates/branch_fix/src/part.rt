@@ -9,7 +9,7 @@ pub struct BranchedTest {
     pub block: u32,
     pub words: u32,
     /// Its branch form, by its place in the list, and the setting of its condition's bits.
-    pub form: u64,
+    pub form: usize,
     pub setting: u64,
     /// The place of the flow that the branch goes to.
     pub to: u32,

@@ -38,7 +38,7 @@ fn form_shows(form: &Form, from: u64, to: u64) -> Result<bool, NoMemory>
     }
 }
 
-fn shows_target(forms: &[Form], form: u64, from: u64, to: u64) -> Result<bool, NoMemory>
+fn shows_target(forms: &[Form], form: usize, from: u64, to: u64) -> Result<bool, NoMemory>
     ensures { IfOk result (λ shown. shown ≡ form_shows (slice_get (models_of_forms forms.now) form) from to) }
 {
     match form_at(forms, form) {

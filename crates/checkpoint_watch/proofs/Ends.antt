@@ -22,10 +22,10 @@ front_end zero ps e = absurd (let z : false ≡ true = e in cc)
 front_end (suc k) [] e = e
 front_end (suc k) (p ∷ ps) e = either (is_end p.label) (has_passed_end (take k ps)) (has_passed_end ps) (λ q. front_end k ps q) e
 
-module _ (netlist : Netlist) (image : Image) (width : ℕ) (listing : ProgramModel) (right : TracesRight netlist image (strace width listing)) (s : State) (here : IsCalm netlist 0 s) where
-  pub end_shown : PassesEnd (strace width listing) (store_in image s) → ReachesEnd netlist image s
+module _ (netlist : Netlist) (image : Image) (width : ℕ) (program : ProgramModel) (right : TracesRight netlist image (strace width program)) (s : State) (here : IsCalm netlist 0 s) where
+  pub end_shown : PassesEnd (strace width program) (store_in image s) → ReachesEnd netlist image s
   end_shown passes =
-      let h : ShowsSource netlist image (strace width listing) s passes.count = right.shows s here passes.count in
+      let h : ShowsSource netlist image (strace width program) s passes.count = right.shows s here passes.count in
       record {
         clocks = passes.count * length (words_of image);
         entries = h.entries;
@@ -33,9 +33,9 @@ module _ (netlist : Netlist) (image : Image) (width : ℕ) (listing : ProgramMod
         ended = front_end passes.count (passed_of h.entries) (ap has_passed_end h.passed ∙ passes.ended);
       }
 
-  pub end_meant : ReachesEnd netlist image s → PassesEnd (strace width listing) (store_in image s)
+  pub end_meant : ReachesEnd netlist image s → PassesEnd (strace width program) (store_in image s)
   end_meant reaches =
-      let h : ShowsFirst netlist image (strace width listing) s reaches.clocks = shows_first netlist image (strace width listing) right (strace_steady width listing) (strace_enough width listing) s reaches.clocks here in
+      let h : ShowsFirst netlist image (strace width program) s reaches.clocks = shows_first netlist image (strace width program) right (strace_steady width program) (strace_enough width program) s reaches.clocks here in
       let same : Shows reaches.entries ≡ Shows h.entries = sym reaches.traced ∙ h.traced in
       let f : reaches.entries ≡ h.entries = cc in
       record {

@@ -111,16 +111,16 @@ pub record ShowsFirst (netlist : Netlist) (image : Image) (trace : List ℕ → 
 abbrev pub IsSteady : (List ℕ → ℕ → List Passed) → Type 0
 IsSteady trace = (cells : List ℕ) (j k n : ℕ) → n ≡ j + k → take j (trace cells n) ≡ trace cells j
 
-pub strace_steady : (word : ℕ) (listing : ProgramModel) → IsSteady (strace word listing)
-strace_steady word listing cells j k n e =
-    front (λ more now. strace word listing now more) (λ m. in_steady word listing.vars (stmts_of listing.body) 0 m finish (finish_steady m)) k j n e cells
+pub strace_steady : (word : ℕ) (program : ProgramModel) → IsSteady (strace word program)
+strace_steady word program cells j k n e =
+    front (λ more now. strace word program now more) (λ m. in_steady word program.vars (stmts_of program.body) 0 m finish (finish_steady m)) k j n e cells
 
 -- and as many as are asked for, or the end among them
 abbrev pub IsEnough : (List ℕ → ℕ → List Passed) → Type 0
 IsEnough trace = (cells : List ℕ) (m : ℕ) → IsWhole m (trace cells m)
 
-pub strace_enough : (word : ℕ) (listing : ProgramModel) → IsEnough (strace word listing)
-strace_enough word listing cells m = in_whole word listing.vars (stmts_of listing.body) 0 m finish (finish_whole m) m (omega arith) cells
+pub strace_enough : (word : ℕ) (program : ProgramModel) → IsEnough (strace word program)
+strace_enough word program cells m = in_whole word program.vars (stmts_of program.body) 0 m finish (finish_whole m) m (omega arith) cells
 
 module _ (netlist : Netlist) (image : Image) (trace : List ℕ → ℕ → List Passed) (right : TracesRight netlist image trace) (steady : IsSteady trace) (enough : IsEnough trace) where
   -- so many checkpoints more take more clocks

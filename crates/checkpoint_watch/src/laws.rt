@@ -16,9 +16,9 @@ ghost use Rattle.checkpoint_watch.specs.Texts.{checkpoint_line};
 /// A netlist on an image that traces a program comes to the end mark exactly when the program ends,
 /// from every state to start from.
 pub fn law_of_ends()
-    ensures { (netlist : Netlist) (image : Image) (width : ℕ) (listing : ProgramModel) (s : State) →
-        TracesRight netlist image (strace width listing) → IsCalm netlist 0 s →
-        (PassesEnd (strace width listing) (store_in image s) ↔ ReachesEnd netlist image s) }
+    ensures { (netlist : Netlist) (image : Image) (width : ℕ) (program : ProgramModel) (s : State) →
+        TracesRight netlist image (strace width program) → IsCalm netlist 0 s →
+        (PassesEnd (strace width program) (store_in image s) ↔ ReachesEnd netlist image s) }
 {}
 
 /// No line is longer than its room, whatever store it is relative to.

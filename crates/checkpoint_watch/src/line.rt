@@ -132,15 +132,21 @@ fn put_label(line: &mut Vec<u8>, label: Checkpoint) -> Result<(), NoMemory>
     }
 }
 
-/// Puts the line of the checkpoint with this label, seen in this cycle, behind what `line` holds:
-/// what changed since the store `before`, where the first of the variables' cells stands at
-/// `address`. It fails only where `line` has no room for all of it and gets no more.
+/// A checkpoint, and the cycle in which it is seen.
+#[derive(Clone, Copy)]
+pub struct SeenCheckpoint {
+    pub cycle: u32,
+    pub label: Checkpoint,
+}
+
+/// Puts the line of a checkpoint behind what `line` holds: what changed since the store `before`,
+/// where the first of the variables' cells stands at `address`. It fails only where `line` has no
+/// room for all of it and gets no more.
 pub fn write_line(
     line: &mut Vec<u8>,
     vars: &[Var],
     before: &[u64],
-    cycle: u32,
-    label: Checkpoint,
+    seen: SeenCheckpoint,
     address: u32,
     sim: &Sim<'_>,
 ) -> Result<(), NoMemory>
@@ -149,17 +155,17 @@ pub fn write_line(
     requires few { length sim.now.state.cells < 2 ^ 32 }
     ensures text { OnOk result (line.new.items ≡ line.old.items
         ++ checkpoint_line vars.now before.now
-        (trace_entry cycle label (store_from vars.now address sim.now.state.cells))) }
+        (trace_entry seen.cycle seen.label (store_from vars.now address sim.now.state.cells))) }
     ensures room { vec_capacity line.old ≤ vec_capacity line.new }
     ensures succeeds { length line.old.items
         + length (checkpoint_line vars.now before.now
-        (trace_entry cycle label (store_from vars.now address sim.now.state.cells)))
+        (trace_entry seen.cycle seen.label (store_from vars.now address sim.now.state.cells)))
         ≤ vec_capacity line.old → IsOk result }
 {
     line.extend_from_slice(b"at ")?;
-    put_number(line, u64::from(cycle))?;
+    put_number(line, u64::from(seen.cycle))?;
     line.extend_from_slice(b" ")?;
-    put_label(line, label)?;
+    put_label(line, seen.label)?;
     put_changes(line, vars, before, address, sim)?;
     line.extend_from_slice(b"\n")?;
     Ok(())

@@ -9,6 +9,7 @@ ghost use Rattle.checkpoint_watch.specs.Puts.{Puts};
 ghost use Rattle.checkpoint_watch.specs.Inner.Scenes.{IsScene};
 ghost use Rattle.checkpoint_watch.specs.Inner.Traces.{IsNext, IsShown, ends_at, line_at, store_after_line, trace_ends, trace_lines};
 
+use crate::line::SeenCheckpoint;
 use crate::marks::label_at;
 use crate::writer::LineWriter;
 use code_model::Image;
@@ -54,7 +55,8 @@ fn look<S: Sink>(
     match label_at(image.marks.as_slice(), sim.pc()) {
         None => Ok(false),
         Some(label) => {
-            writer.write(cycle, label, sim.now(), sink)?;
+            let seen = SeenCheckpoint { cycle, label };
+            writer.write(seen, sim.now(), sink)?;
             Ok(label == Checkpoint::End)
         }
     }

@@ -7,12 +7,12 @@ ghost use Rattle.checkpoint_watch.specs.Texts.{checkpoint_line, trace_entry, sto
 ghost use Rattle.src_model.specs.Meaning.{zeros};
 ghost use Rattle.checkpoint_watch.specs.Puts.{Puts};
 
-use crate::line::write_line;
+use crate::line::{SeenCheckpoint, write_line};
 use crate::room::line_room;
 use cycle_sim::{Sim, zeros};
 use rec_bits::{Items, NoMemory};
 use rec_io::{Sink, WriteFault, put_all};
-use src_model::{Checkpoint, Var};
+use src_model::Var;
 use std::alloc::Global;
 
 /// The variables of a program, what the last line told of them, and the room of a line.
@@ -71,14 +71,14 @@ impl<'a> LineWriter<'a> {
     }
 
     // Sets the line to that of a checkpoint, which fits its room.
-    fn set_line(&mut self, cycle: u32, label: Checkpoint, sim: &Sim<'_>)
+    fn set_line(&mut self, seen: SeenCheckpoint, sim: &Sim<'_>)
         requires within { self.old.address + cell_count self.old.vars.now ≤ length sim.now.state.cells }
         requires few { length sim.now.state.cells < 2 ^ 32 }
         requires values { (cell : ℕ) → slice_index sim.now.state.cells cell < 2 ^ 64 }
-        requires label { CheckpointFits label }
+        requires label { CheckpointFits seen.label }
         ensures line { self.new.line.items
             ≡ checkpoint_line self.old.vars.now self.old.last_cells
-            (trace_entry cycle label (store_from self.old.vars.now self.old.address sim.now.state.cells)) }
+            (trace_entry seen.cycle seen.label (store_from self.old.vars.now self.old.address sim.now.state.cells)) }
         ensures vars { self.new.vars.now ≡ self.old.vars.now }
         ensures address { self.new.address ≡ self.old.address }
         ensures last_cells { self.new.last_cells ≡ self.old.last_cells }
@@ -89,8 +89,7 @@ impl<'a> LineWriter<'a> {
             &mut self.line,
             self.vars,
             last_cells,
-            cycle,
-            label,
+            seen,
             self.address,
             sim,
         ) {
@@ -99,27 +98,26 @@ impl<'a> LineWriter<'a> {
         }
     }
 
-    /// Puts the line of the checkpoint with this label, as it is seen in the simulator's state.
+    /// Puts the line of a checkpoint, as it is seen in the simulator's state.
     pub fn write<S: Sink>(
         &mut self,
-        cycle: u32,
-        label: Checkpoint,
+        seen: SeenCheckpoint,
         sim: &Sim<'_>,
         sink: &mut S,
     ) -> Result<(), WriteFault>
         requires within { self.old.address + cell_count self.old.vars.now ≤ length sim.now.state.cells }
         requires few { length sim.now.state.cells < 2 ^ 32 }
         requires values { (cell : ℕ) → slice_index sim.now.state.cells cell < 2 ^ 64 }
-        requires label { CheckpointFits label }
+        requires label { CheckpointFits seen.label }
         ensures puts { Puts (S.state sink.old) (S.state sink.new)
             (checkpoint_line self.old.vars.now self.old.last_cells
-            (trace_entry cycle label (store_from self.old.vars.now self.old.address sim.now.state.cells))) result }
+            (trace_entry seen.cycle seen.label (store_from self.old.vars.now self.old.address sim.now.state.cells))) result }
         ensures last_cells { OnOk result (self.new.last_cells
             ≡ store_from self.old.vars.now self.old.address sim.now.state.cells) }
         ensures vars { self.new.vars.now ≡ self.old.vars.now }
         ensures address { self.new.address ≡ self.old.address }
     {
-        self.set_line(cycle, label, sim);
+        self.set_line(seen, sim);
         put_all(sink, &self.line)?;
         copy_cells(&mut self.last_cells, self.address, sim);
         Ok(())

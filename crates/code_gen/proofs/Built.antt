@@ -30,6 +30,7 @@ use Rattle.mode_set.specs.Keeping.{IsModeRegister, Isas, IsUsable}
 use Rattle.word_fit.specs.Fits.{FitsTurning}
 use Rattle.src_trees.specs.Lowered.{JobModel}
 use Rattle.src_trees.proofs.LowerLemmas.{in_few}
+use Rattle.branch_fix.specs.declared.outline.Branch.{Branch}
 use Rattle.branch_fix.specs.Bounds.{bound_of, control_words, program_bound, sum_of}
 use Rattle.branch_fix.specs.Costs.{SizesWithin, block_costs}
 use Rattle.branch_fix.specs.Laid.{IsLaid, outline}
@@ -45,14 +46,14 @@ use Rattle.right_code.proofs.TaskFlows.{task_bound, task_is_flow, task_words}
 use Rattle.compaction.specs.declared.packer.PackedBlock.{PackedBlock}
 use Rattle.code_gen.specs.declared.fault.CodeFault.{CodeFault}
 use Rattle.code_gen.specs.declared.fault.CodeFault.TheVariants.{NoStep, NoJump, NoCover, NoReach, ImageFull, Memory}
-use Rattle.compaction.specs.declared.machine.Machine.{Machine}
+use Rattle.compaction.specs.declared.machine.KnownMachine.{KnownMachine}
 use Rattle.code_gen.specs.declared.views.Modes.{Modes}
 use Rattle.code_gen.specs.declared.views.PlannedProgram.{PlannedProgram}
 use Rattle.code_gen.specs.Inner.Coded.{AreItemWords, HasWord, IsBlockCode}
 use Rattle.code_gen.specs.Inner.Imaged.{ArePlaces, IsImageMade, IsLengthFault, IsNear, IsTaskImage, OfTask}
 use Rattle.code_gen.specs.Inner.Planning.{IsPlanning, costs_in, plans_in, reach_at, reach_or_none, jobs_in}
 use Rattle.code_gen.specs.Inner.Views.{mode_bits}
-use Rattle.code_gen.specs.Machines.{machine_netlist, machine_patterns}
+use Rattle.code_gen.specs.Machines.{known_netlist, known_patterns}
 use Rattle.code_gen.specs.Refusals.{IsBeyondReach, IsCodeFault, IsCoverable, IsJumpless, IsReached, IsStepless, IsImageTooLong}
 use Rattle.code_gen.proofs.Fitting.{image_fitting}
 use Rattle.code_gen.proofs.Frames.{covered, forms_there, plan_of_job, test_mode, tests}
@@ -64,11 +65,11 @@ use Rattle.code_gen.proofs.Told.{has_jumps}
 use Rattle.code_gen.proofs.Whole.{image_made, task_outline}
 
 -- jobs with plans have as many costs
-costs_long : (stock : ℕ → StockModel) (Usable : ℕ → Type 0) (works : List JobModel) (plans : List PlanModel) → AllPlanned stock Usable works plans → length (plan_costs works plans) ≡ length works
+costs_long : (stock : ℕ → StockModel) (Usable : ℕ → Type 0) (jobs : List JobModel) (plans : List PlanModel) → AllPlanned stock Usable jobs plans → length (plan_costs jobs plans) ≡ length jobs
 costs_long stock Usable [] [] h = refl
 costs_long stock Usable [] (d ∷ plans) h = absurd h
-costs_long stock Usable (w ∷ works) [] h = absurd h
-costs_long stock Usable (w ∷ works) (d ∷ plans) h = ap suc (costs_long stock Usable works plans h.1)
+costs_long stock Usable (w ∷ jobs) [] h = absurd h
+costs_long stock Usable (w ∷ jobs) (d ∷ plans) h = ap suc (costs_long stock Usable jobs plans h.1)
 
 -- items whose jumps have words
 all_have : (netlist : Netlist) (patterns : List Pattern) (kept : Regs) (items : List Item)
@@ -91,15 +92,15 @@ words_moved n m p q a b blocks items words e f g h =
 module _ (modes : Modes) (program : PlannedProgram) (task : Task) (isas : Isas task.netlist) (p : IsPlanning modes program task isas) where
   -- the costs of the task's jobs
   pub costs_are : costs_in program ≡ plan_costs (task_jobs task) (plans_in program)
-  costs_are = p.costs ∙ ap (λ (works : List JobModel). plan_costs works (plans_in program)) p.works
+  costs_are = p.costs ∙ ap (λ (jobs : List JobModel). plan_costs jobs (plans_in program)) p.jobs
 
   costs_many : length (plan_costs (jobs_in program) (plans_in program)) ≡ length (task_jobs task)
   costs_many =
-      ap (λ (works : List JobModel). length (plan_costs works (plans_in program))) p.works
+      ap (λ (jobs : List JobModel). length (plan_costs jobs (plans_in program))) p.jobs
       ∙ costs_long (mode_stock task isas) (IsUsable task.netlist isas) (task_jobs task) (plans_in program) p.plans
 
   -- the bound is the task's
-  pub bound_there : bound_of program.flow.now (costs_in program) ≡ program_bound task.listing (plan_costs (task_jobs task) (plans_in program))
+  pub bound_there : bound_of program.flow.now (costs_in program) ≡ program_bound task.program (plan_costs (task_jobs task) (plans_in program))
   bound_there = (λ j. bound_of (p.flow j) (costs_are j)) ∙ task_words task p.checked.jobs (plan_costs (task_jobs task) (plans_in program))
 
   -- the register that holds the mode is one of the netlist of mode 0, too
@@ -107,12 +108,12 @@ module _ (modes : Modes) (program : PlannedProgram) (task : Task) (isas : Isas t
   first_register = base_register task.netlist 0 task.netlist.special (mode_register task.netlist task.netlist.special p.checked.netlist.special)
 
   -- jumps reach as far as those of mode 0 that keep the mode
-  pub reach_is : reach_at modes 0 ≡ greatest_reach (isas 0).rules
+  pub reach_is : reach_at modes 0 ≡ greatest_reach (isas 0).keeping
   reach_is =
       let f = forms_there modes program task isas p 0 (some_modes task.netlist) in
       ap reach_or_none f.1 ∙ p.modes.reach 0 f.0 f.1
 
-  module _ (blocks : List PackedBlock) (branches : List (ℕ × ℕ)) (code : IsBlockCode task isas program.flow.now (jobs_in program) (plans_in program) (length program.flow.now) blocks branches) where
+  module _ (blocks : List PackedBlock) (branches : List Branch) (code : IsBlockCode task isas program.flow.now (jobs_in program) (plans_in program) (length program.flow.now) blocks branches) where
     -- the blocks keep to the bound
     pub within : sum_of (sizes blocks) + control_words program.flow.now ≤ bound_of program.flow.now (costs_in program)
     within =
@@ -125,15 +126,15 @@ module _ (modes : Modes) (program : PlannedProgram) (task : Task) (isas : Isas t
 
     code_there : IsBlockCode task isas task.flow (task_jobs task) (plans_in program) (length task.flow) blocks branches
     code_there =
-        subst (λ (works : List JobModel). IsBlockCode task isas task.flow works (plans_in program) (length task.flow) blocks branches) p.works
+        subst (λ (jobs : List JobModel). IsBlockCode task isas task.flow jobs (plans_in program) (length task.flow) blocks branches) p.jobs
         (subst (λ (flow : List Flow). IsBlockCode task isas flow (jobs_in program) (plans_in program) (length flow) blocks branches) p.flow code)
 
     module _ (laid : Laid) (forms : Forms) (most bound : ℕ) (first : slice_get modes.forms.now 0 ≡ Some forms) (is : IsLaid (outline program.flow.now (sizes blocks) branches forms most bound) laid) where
-      laid_there : IsLaid (task_outline task (isas 0).rules (sizes blocks) branches most bound) laid
+      laid_there : IsLaid (task_outline task (isas 0).keeping (sizes blocks) branches most bound) laid
       laid_there =
-          subst (λ (list : List FormModel). IsLaid (record { flow = task.flow; sizes = sizes blocks; branches = branches; rules = list; reach = greatest_reach (isas 0).rules; words = most; bound = bound }) laid) (p.modes.forms 0 forms first)
-          (subst (λ far. IsLaid (record { flow = task.flow; sizes = sizes blocks; branches = branches; rules = models_of_forms forms.list.items; reach = far; words = most; bound = bound }) laid) (p.modes.reach 0 forms first)
-          (subst (λ (flow : List Flow). IsLaid (record { flow = flow; sizes = sizes blocks; branches = branches; rules = models_of_forms forms.list.items; reach = forms.reach; words = most; bound = bound }) laid) p.flow is))
+          subst (λ (list : List FormModel). IsLaid (record { flow = task.flow; sizes = sizes blocks; branches = branches; forms = list; reach = greatest_reach (isas 0).keeping; words = most; bound = bound }) laid) (p.modes.forms 0 forms first)
+          (subst (λ far. IsLaid (record { flow = task.flow; sizes = sizes blocks; branches = branches; forms = models_of_forms forms.list.items; reach = far; words = most; bound = bound }) laid) (p.modes.reach 0 forms first)
+          (subst (λ (flow : List Flow). IsLaid (record { flow = flow; sizes = sizes blocks; branches = branches; forms = models_of_forms forms.list.items; reach = forms.reach; words = most; bound = bound }) laid) p.flow is))
 
       items_there : (k : ℕ) (step : Step) → slice_get laid.items k ≡ Some (Jump step)
           → (word : ℕ) × FitsTurning (base_at task.netlist 0) word (operation_in (base_at task.netlist 0) (isas 0).patterns step) (regs_of (mode_bits task.netlist.special))
@@ -143,34 +144,34 @@ module _ (modes : Modes) (program : PlannedProgram) (task : Task) (isas : Isas t
           let long = laid_there.long in
           let w =
           jump_words_of task p.checked isas (plans_in program) p.plans laid_there.parts
-          (record { sizes = sizes blocks; settings = branches; settled = laid_there.settled; reached = omega (arith, most_words, reaches, long) })
+          (record { sizes = sizes blocks; branches = branches; settled = laid_there.settled; reached = omega (arith, most_words, reaches, long) })
           (branches_made task isas task.flow (task_jobs task) (plans_in program) blocks branches code_there laid_there.parts laid_there.settled)
           k step (ap (λ xs. slice_get xs k) (sym laid_there.items) ∙ e) in
           (w.0, turn_kept (base_at task.netlist 0) (operation_in (base_at task.netlist 0) (isas 0).patterns step) task.netlist.special first_register w.0 w.1)
 
       -- each jump and branch has a word
-      pub items_have : (machine : Machine) → slice_get modes.machines.now 0 ≡ Some machine → AllByRecursion (HasWord (machine_netlist machine) (machine_patterns machine) (regs_of (mode_bits modes.special))) laid.items
+      pub items_have : (machine : KnownMachine) → slice_get modes.machines.now 0 ≡ Some machine → AllByRecursion (HasWord (known_netlist machine) (known_patterns machine) (regs_of (mode_bits modes.special))) laid.items
       items_have machine there =
-          have_moved (base_at task.netlist 0) (machine_netlist machine) (isas 0).patterns (machine_patterns machine) (regs_of (mode_bits task.netlist.special)) (regs_of (mode_bits modes.special)) laid.items
+          have_moved (base_at task.netlist 0) (known_netlist machine) (isas 0).patterns (known_patterns machine) (regs_of (mode_bits task.netlist.special)) (regs_of (mode_bits modes.special)) laid.items
           (sym (p.modes.nets 0 machine there)) (sym (p.modes.patterns 0 machine there)) (ap (λ (o : Option ℕ). regs_of (mode_bits o)) (sym p.modes.special))
           (all_have (base_at task.netlist 0) (isas 0).patterns (regs_of (mode_bits task.netlist.special)) laid.items items_there)
 
       -- the image is made for the task
-      module _ (bound_of_costs : bound ≡ bound_of program.flow.now (costs_in program)) (places : Places) (placed : ArePlaces task places) (image : Image) (machine : Machine) (there : slice_get modes.machines.now 0 ≡ Some machine)
-          (items : AreItemWords (machine_netlist machine) (machine_patterns machine) (regs_of (mode_bits modes.special)) blocks laid.items image.words) where
-        bits_there : word_width (machine_netlist machine) ≡ word_width task.netlist
+      module _ (bound_of_costs : bound ≡ bound_of program.flow.now (costs_in program)) (places : Places) (placed : ArePlaces task places) (image : Image) (machine : KnownMachine) (there : slice_get modes.machines.now 0 ≡ Some machine)
+          (items : AreItemWords (known_netlist machine) (known_patterns machine) (regs_of (mode_bits modes.special)) blocks laid.items image.words) where
+        bits_there : word_width (known_netlist machine) ≡ word_width task.netlist
         bits_there = ap word_width (p.modes.nets 0 machine there) ∙ word_same (base_at task.netlist 0) task.netlist (base_of task.netlist task.netlist.special 0).codes
           where
             word_same : (n m : Netlist) → n.codes ≡ m.codes → word_width n ≡ word_width m
             word_same n m e = ap (λ (codes : List Code). code_bits (slice_get codes 0)) e
 
-        pub is_made : image.marks ≡ laid.marks → image.costs ≡ numbered 0 (costs_in program) → image.bits ≡ word_width (machine_netlist machine)
+        pub is_made : image.marks ≡ laid.marks → image.costs ≡ numbered 0 (costs_in program) → image.bits ≡ word_width (known_netlist machine)
             → image.temps ≡ places.temps → image.places ≡ places.list → IsImageMade image task
         is_made marks costs bits temps list =
             let made =
             image_made task isas first_register (plans_in program) p.plans blocks branches code_there laid most bound laid_there
             (bound_of_costs ∙ bound_there) image
-            (words_moved (machine_netlist machine) (base_at task.netlist 0) (machine_patterns machine) (isas 0).patterns (regs_of (mode_bits modes.special)) (regs_of (mode_bits task.netlist.special)) blocks laid.items image.words
+            (words_moved (known_netlist machine) (base_at task.netlist 0) (known_patterns machine) (isas 0).patterns (regs_of (mode_bits modes.special)) (regs_of (mode_bits task.netlist.special)) blocks laid.items image.words
             (p.modes.nets 0 machine there) (p.modes.patterns 0 machine there) (ap (λ (o : Option ℕ). regs_of (mode_bits o)) p.modes.special) items)
             marks (costs ∙ ap (numbered 0) costs_are) (bits ∙ bits_there)
             (record { temps = temps ∙ placed.temps; places = list ∙ placed.list; held = p.checked.jobs.held; room = p.checked.jobs.room }) in
@@ -205,7 +206,7 @@ module _ (modes : Modes) (program : PlannedProgram) (task : Task) (isas : Isas t
     too_long image made len size long room above =
         let words : length (words_of image) ≡ length image.words = length-map image.words (λ (w : Word). w.word) in
         let own = made.made in
-        let own_bound : HasBound task (program_bound task.listing (plan_costs (task_jobs task) own.plans)) (greatest_reach (own.isas 0).rules) =
+        let own_bound : HasBound task (program_bound task.program (plan_costs (task_jobs task) own.plans)) (greatest_reach (own.isas 0).keeping) =
         record { isas = own.isas; plans = own.plans; planned = own.planned; is = refl; far = refl } in
         let same = bound_one task _ _ bound reach own_bound bounded in
         let one = same.0 in
@@ -222,7 +223,7 @@ module _ (modes : Modes) (program : PlannedProgram) (task : Task) (isas : Isas t
         }
 
   -- the code is as large as that of mode 0
-  pub codes_there : (machine : Machine) → slice_get modes.machines.now 0 ≡ Some machine → code_size (machine_netlist machine).codes ≡ code_size task.netlist.codes
+  pub codes_there : (machine : KnownMachine) → slice_get modes.machines.now 0 ≡ Some machine → code_size (known_netlist machine).codes ≡ code_size task.netlist.codes
   codes_there machine there = ap (λ (n : Netlist). code_size n.codes) (p.modes.nets 0 machine there) ∙ ap code_size (base_of task.netlist task.netlist.special 0).codes
 
   -- there is room for an image
@@ -245,17 +246,17 @@ module _ (modes : Modes) (program : PlannedProgram) (task : Task) (isas : Isas t
 -- ---- tasks
 
 -- a checked task has few trees
-pub few_works : (task : Task) → IsChecked task → length (task_jobs task) ≤ 65536
-few_works task checked =
-    let statements = (rules_hold task.width task.listing checked.program).few_statements in
-    let works = checked.jobs.count in
-    omega (arith, statements, works)
+pub few_jobs : (task : Task) → IsChecked task → length (task_jobs task) ≤ 65536
+few_jobs task checked =
+    let statements = (rules_hold task.width task.program checked.program).few_statements in
+    let jobs = checked.jobs.count in
+    omega (arith, statements, jobs)
 
 -- and its flow few places
 pub few_places : (task : Task) → IsChecked task → length task.flow ≤ 2 ^ 32
 few_places task checked =
-    let statements = (rules_hold task.width task.listing checked.program).few_statements in
-    let places = in_few (stmts_of task.listing.body) in
+    let statements = (rules_hold task.width task.program checked.program).few_statements in
+    let places = in_few (stmts_of task.program.body) in
     let long = (task_is_flow task checked.jobs).long in
     omega (arith, statements, places, long)
 

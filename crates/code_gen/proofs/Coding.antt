@@ -6,6 +6,7 @@ use Rattle.form_model.specs.declared.flow.Flow.{Flow}
 use Rattle.form_model.specs.declared.flow.Flow.TheVariants.{Assign, Test, Jump, End}
 use Rattle.src_trees.specs.Blocks.{IsAssignBlock, continues, is_assign, jobs_at}
 use Rattle.src_trees.specs.Lowered.{JobModel}
+use Rattle.branch_fix.specs.declared.outline.Branch.{Branch}
 use Rattle.branch_fix.specs.Parts.{branch_or_zero, blocks_before, place_blocks, place_tests, tests_before}
 use Rattle.mode_set.specs.Costs.{PlanModel}
 use Rattle.mode_set.specs.Keeping.{Isas}
@@ -104,15 +105,15 @@ no_test (Some End) e = refl
 
 -- ---- one place more
 
-module _ (task : Task) (isas : Isas task.netlist) (flow : List Flow) (works : List JobModel) (plans : List PlanModel) where
-  abbrev Coded : ℕ → List PackedBlock → List (ℕ × ℕ) → Type 0
-  Coded = IsBlockCode task isas flow works plans
+module _ (task : Task) (isas : Isas task.netlist) (flow : List Flow) (models : List JobModel) (plans : List PlanModel) where
+  abbrev Coded : ℕ → List PackedBlock → List Branch → Type 0
+  Coded = IsBlockCode task isas flow models plans
 
   pub nothing_coded : Coded 0 [] []
   nothing_coded = record { long = refl; many = refl; runs = λ at n lt. absurd (omega arith); tests = λ at tree one none lt. absurd (omega arith) }
 
   -- where no block begins
-  pub skipped : (upto : ℕ) (blocks : List PackedBlock) (branches : List (ℕ × ℕ)) → Coded upto blocks branches → place_blocks (slice_get flow upto) (continues flow upto) ≡ 0 → place_tests (slice_get flow upto) ≡ 0
+  pub skipped : (upto : ℕ) (blocks : List PackedBlock) (branches : List Branch) → Coded upto blocks branches → place_blocks (slice_get flow upto) (continues flow upto) ≡ 0 → place_tests (slice_get flow upto) ≡ 0
       → Coded (upto + 1) blocks branches
   skipped upto blocks branches h b t = record {
     long = let e = ap (blocks_before flow) (add-one upto) in omega (arith, h.long, b, e);
@@ -128,13 +129,13 @@ module _ (task : Task) (isas : Isas task.netlist) (flow : List Flow) (works : Li
   }
 
   -- a block of assignments
-  pub run_more : (upto n : ℕ) (blocks : List PackedBlock) (branches : List (ℕ × ℕ)) (new : PackedBlock) → Coded upto blocks branches → IsAssignBlock flow upto n → place_tests (slice_get flow upto) ≡ 0
-      → IsRunCode task isas (jobs_at flow works upto n) (plans_at flow plans upto n) new → Coded (upto + 1) (blocks ++ new ∷ []) branches
+  pub run_more : (upto n : ℕ) (blocks : List PackedBlock) (branches : List Branch) (new : PackedBlock) → Coded upto blocks branches → IsAssignBlock flow upto n → place_tests (slice_get flow upto) ≡ 0
+      → IsRunCode task isas (jobs_at flow models upto n) (plans_at flow plans upto n) new → Coded (upto + 1) (blocks ++ new ∷ []) branches
   run_more upto n blocks branches new h block t least = record {
     long = let e = ap (blocks_before flow) (add-one upto) in let l = length-append blocks (new ∷ []) in omega (arith, h.long, begins, e, l);
     many = let e = ap (tests_before flow) (add-one upto) in omega (arith, h.many, t, e);
     runs = λ at m lt other. elim (cases_lt at upto) [
-      | inl before ↦ subst (IsRunCode task isas (jobs_at flow works at m) (plans_at flow plans at m))
+      | inl before ↦ subst (IsRunCode task isas (jobs_at flow models at m) (plans_at flow plans at m))
           (sym (word_kept blocks new no_block (blocks_before flow at) (omega (arith, h.long, block_counted flow at upto before (block_begins flow at m other)))))
           (h.runs at m before other)
       | inr le ↦ here at m (omega arith) other
@@ -154,24 +155,24 @@ module _ (task : Task) (isas : Isas task.netlist) (flow : List Flow) (works : Li
       last = word_last blocks new no_block (blocks_before flow upto) (sym h.long)
 
       here : (at m : ℕ) → at ≡ upto → IsAssignBlock flow at m
-          → IsRunCode task isas (jobs_at flow works at m) (plans_at flow plans at m) (block_at (blocks ++ new ∷ []) (blocks_before flow at))
+          → IsRunCode task isas (jobs_at flow models at m) (plans_at flow plans at m) (block_at (blocks ++ new ∷ []) (blocks_before flow at))
       here at m e other =
           let other_there : IsAssignBlock flow upto m = subst (λ k. IsAssignBlock flow k m) e other in
           let same : n ≡ m = block_one flow upto n m block other_there in
-          let mine : IsRunCode task isas (jobs_at flow works upto m) (plans_at flow plans upto m) (block_at (blocks ++ new ∷ []) (blocks_before flow upto)) =
-          subst (λ k. IsRunCode task isas (jobs_at flow works upto k) (plans_at flow plans upto k) (block_at (blocks ++ new ∷ []) (blocks_before flow upto))) same
-          (subst (IsRunCode task isas (jobs_at flow works upto n) (plans_at flow plans upto n)) (sym last) least) in
-          subst (λ k. IsRunCode task isas (jobs_at flow works k m) (plans_at flow plans k m) (block_at (blocks ++ new ∷ []) (blocks_before flow k))) (sym e) mine
+          let mine : IsRunCode task isas (jobs_at flow models upto m) (plans_at flow plans upto m) (block_at (blocks ++ new ∷ []) (blocks_before flow upto)) =
+          subst (λ k. IsRunCode task isas (jobs_at flow models upto k) (plans_at flow plans upto k) (block_at (blocks ++ new ∷ []) (blocks_before flow upto))) same
+          (subst (IsRunCode task isas (jobs_at flow models upto n) (plans_at flow plans upto n)) (sym last) least) in
+          subst (λ k. IsRunCode task isas (jobs_at flow models k m) (plans_at flow plans k m) (block_at (blocks ++ new ∷ []) (blocks_before flow k))) (sym e) mine
 
   -- a test
-  pub test_more : (upto tree one none : ℕ) (blocks : List PackedBlock) (branches : List (ℕ × ℕ)) (new : PackedBlock) (branch : ℕ × ℕ) → Coded upto blocks branches → slice_get flow upto ≡ Some (Test tree one none)
-      → (job : JobModel) (planned : PlanModel) → slice_get works tree ≡ Some job → slice_get plans tree ≡ Some planned → IsTestCode task isas job planned new branch
+  pub test_more : (upto tree one none : ℕ) (blocks : List PackedBlock) (branches : List Branch) (new : PackedBlock) (branch : Branch) → Coded upto blocks branches → slice_get flow upto ≡ Some (Test tree one none)
+      → (job : JobModel) (planned : PlanModel) → slice_get models tree ≡ Some job → slice_get plans tree ≡ Some planned → IsTestCode task isas job planned new branch
       → Coded (upto + 1) (blocks ++ new ∷ []) (branches ++ branch ∷ [])
   test_more upto tree one none blocks branches new branch h there job planned w c code = record {
     long = let e = ap (blocks_before flow) (add-one upto) in let l = length-append blocks (new ∷ []) in omega (arith, h.long, begins, e, l);
     many = let e = ap (tests_before flow) (add-one upto) in let l = length-append branches (branch ∷ []) in omega (arith, h.many, tests_here, e, l);
     runs = λ at m lt other. elim (cases_lt at upto) [
-      | inl before ↦ subst (IsRunCode task isas (jobs_at flow works at m) (plans_at flow plans at m))
+      | inl before ↦ subst (IsRunCode task isas (jobs_at flow models at m) (plans_at flow plans at m))
           (sym (word_kept blocks new no_block (blocks_before flow at) (omega (arith, h.long, block_counted flow at upto before (block_begins flow at m other)))))
           (h.runs at m before other)
       | inr le ↦ absurd (no_run at m (omega arith) other)
@@ -210,14 +211,14 @@ module _ (task : Task) (isas : Isas task.netlist) (flow : List Flow) (works : Li
       test_tree (Jump t) = 0
       test_tree End = 0
 
-      here : (at other a b : ℕ) → at ≡ upto → slice_get flow at ≡ Some (Test other a b) → (k : JobModel) (d : PlanModel) → slice_get works other ≡ Some k → slice_get plans other ≡ Some d
+      here : (at other a b : ℕ) → at ≡ upto → slice_get flow at ≡ Some (Test other a b) → (k : JobModel) (d : PlanModel) → slice_get models other ≡ Some k → slice_get plans other ≡ Some d
           → IsTestCode task isas k d (block_at (blocks ++ new ∷ []) (blocks_before flow at)) (branch_or_zero (slice_get (branches ++ branch ∷ []) (tests_before flow at)))
       here at other a b e place k d kw dc =
           let place_there : slice_get flow upto ≡ Some (Test other a b) = ap (slice_get flow) (sym e) ∙ place in
           let some : Some (Test tree one none) ≡ Some (Test other a b) = sym there ∙ place_there in
           let flows : Test tree one none ≡ Test other a b = cc in
           let trees : tree ≡ other = ap test_tree flows in
-          let jobs : job ≡ k = (let p : Some job ≡ Some k = sym w ∙ ap (slice_get works) trees ∙ kw in cc) in
+          let jobs : job ≡ k = (let p : Some job ≡ Some k = sym w ∙ ap (slice_get models) trees ∙ kw in cc) in
           let covers : planned ≡ d = (let p : Some planned ≡ Some d = sym c ∙ ap (slice_get plans) trees ∙ dc in cc) in
           let mine : IsTestCode task isas job planned (block_at (blocks ++ new ∷ []) (blocks_before flow upto)) (branch_or_zero (slice_get (branches ++ branch ∷ []) (tests_before flow upto))) =
           subst (λ ws. IsTestCode task isas job planned ws (branch_or_zero (slice_get (branches ++ branch ∷ []) (tests_before flow upto)))) (sym last)

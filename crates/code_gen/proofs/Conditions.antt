@@ -51,8 +51,8 @@ past_netlist netlist few (select c a b) h i r le =
 
 module _ (task : Task) (checked : IsChecked task) (isas : Isas task.netlist) where
   -- the registers that are wanted after a test's steps
-  pub wanted_registers : (tree : ExprModel) (plan : CoverModel) → IsOrderly (mode_stock task isas 0) tested tree true plan
-      → (n : ℕ) → n < 2 ^ 16 → AreConditionReads (isas 0).patterns (cover_form (mode_stock task isas 0) plan).pattern n → wanted (mode_stock task isas 0) tested tree plan ≡ regs_of n
+  pub wanted_registers : (tree : ExprModel) (cover : CoverModel) → IsOrderly (mode_stock task isas 0) tested tree true cover
+      → (n : ℕ) → n < 2 ^ 16 → AreConditionReads (isas 0).patterns (cover_form (mode_stock task isas 0) cover).pattern n → wanted (mode_stock task isas 0) tested tree cover ≡ regs_of n
   wanted_registers tree (use_form k ps cs) orderly n small reads = λ x r. point r (nat_lt r 16) refl x
     where
       base : Netlist
@@ -61,30 +61,30 @@ module _ (task : Task) (checked : IsChecked task) (isas : Isas task.netlist) whe
       keeps : KeepsInOrder (base_at task.netlist 0)
       keeps = first_keeps task.netlist checked.netlist
 
-      rule : FormModel
-      rule = form_at (mode_stock task isas 0) k
+      branch : FormModel
+      branch = form_at (mode_stock task isas 0) k
 
       setting : ℕ
       setting = branch_setting (mode_stock task isas 0) tree (use_form k ps cs)
 
-      goal : (b : Bool) × (way : TargetModel) × (rule.goal ≡ branches b way)
+      goal : (b : Bool) × (way : TargetModel) × (branch.goal ≡ branches b way)
       goal = cover_goal (mode_stock task isas 0) tree (use_form k ps cs) orderly
 
       -- a form that keeps the mode is one of all forms
-      among : (j : ℕ) × (slice_get (isas 0).all j ≡ Some rule)
-      among = part_of base (isas 0).patterns task.netlist.special (isas 0).all (isas 0).rules (isas 0).kept k rule (opened_cover (mode_stock task isas 0) k ps cs tested tree true orderly).listed
+      among : (j : ℕ) × (slice_get (isas 0).all j ≡ Some branch)
+      among = part_of base (isas 0).patterns task.netlist.special (isas 0).all (isas 0).keeping (isas 0).kept k branch (opened_cover (mode_stock task isas 0) k ps cs tested tree true orderly).listed
 
-      form : IsBranchForm base (isas 0).patterns rule goal.0 goal.1
-      form = fork_form base keeps.order keeps.rules (has_bits base keeps.order keeps.rules) (isas 0).patterns (known_of base keeps.order keeps.rules (isas 0).patterns (isas 0).are) (isas 0).most (isas 0).all (isas 0).forms among.0 rule goal.0 goal.1 among.1 goal.2
+      form : IsBranchForm base (isas 0).patterns branch goal.0 goal.1
+      form = fork_form base keeps.order keeps.rules (has_bits base keeps.order keeps.rules) (isas 0).patterns (known_of base keeps.order keeps.rules (isas 0).patterns (isas 0).are) (isas 0).most (isas 0).all (isas 0).forms among.0 branch goal.0 goal.1 among.1 goal.2
 
-      terms : IsExprOf base form.condition
-      terms = (known_of base keeps.order keeps.rules (isas 0).patterns (isas 0).are rule.pattern _ form.is).terms.0
+      exprs : IsExprOf base form.condition
+      exprs = (known_of base keeps.order keeps.rules (isas 0).patterns (isas 0).are branch.pattern _ form.is).exprs.0
 
-      condition : pattern_condition (slice_get (isas 0).patterns rule.pattern) ≡ Some form.condition
+      condition : pattern_condition (slice_get (isas 0).patterns branch.pattern) ≡ Some form.condition
       condition = ap pattern_condition form.is
 
-      point : (r : ℕ) (b : Bool) → nat_lt r 16 ≡ b → expr_reads setting rule.value (register r) ≡ regs_of n r
+      point : (r : ℕ) (b : Bool) → nat_lt r 16 ≡ b → expr_reads setting branch.value (register r) ≡ regs_of n r
       point r true e = form.alike.reads setting r ∙ sym (reads form.condition condition setting r (ltb-true r 16 e))
       point r false e =
           let le = ltb-false r 16 e in
-          form.alike.reads setting r ∙ past_netlist base (few_storages base keeps.order keeps.rules) form.condition terms setting r le ∙ sym (regs_of_past n r small le)
+          form.alike.reads setting r ∙ past_netlist base (few_storages base keeps.order keeps.rules) form.condition exprs setting r le ∙ sym (regs_of_past n r small le)

@@ -52,13 +52,13 @@ mode_steps stock v (job ∷ jobs) (planned ∷ plans) all =
 
 -- ---- the places before one and those behind it
 
-pub jobs_apart : (flow : List Flow) (works : List JobModel) (at m n : ℕ) → jobs_at flow works at (m + n) ≡ jobs_at flow works at m ++ jobs_at flow works (at + m) n
-jobs_apart flow works at m zero = ap (jobs_at flow works at) (let z : m + 0 ≡ m = omega arith in z) ∙ sym (append-nil (jobs_at flow works at m))
-jobs_apart flow works at m (suc n) =
-    ap (jobs_at flow works at) (let z : m + suc n ≡ suc (m + n) = omega arith in z)
-    ∙ ap (λ (jobs : List JobModel). jobs ++ job_at works (slice_get flow (at + (m + n)))) (jobs_apart flow works at m n)
-    ∙ append_assoc (jobs_at flow works at m) (jobs_at flow works (at + m) n) (job_at works (slice_get flow (at + (m + n))))
-    ∙ ap (λ k. jobs_at flow works at m ++ (jobs_at flow works (at + m) n ++ job_at works (slice_get flow k))) (let z : at + (m + n) ≡ at + m + n = omega arith in z)
+pub jobs_apart : (flow : List Flow) (models : List JobModel) (at m n : ℕ) → jobs_at flow models at (m + n) ≡ jobs_at flow models at m ++ jobs_at flow models (at + m) n
+jobs_apart flow models at m zero = ap (jobs_at flow models at) (let z : m + 0 ≡ m = omega arith in z) ∙ sym (append-nil (jobs_at flow models at m))
+jobs_apart flow models at m (suc n) =
+    ap (jobs_at flow models at) (let z : m + suc n ≡ suc (m + n) = omega arith in z)
+    ∙ ap (λ (jobs : List JobModel). jobs ++ job_at models (slice_get flow (at + (m + n)))) (jobs_apart flow models at m n)
+    ∙ append_assoc (jobs_at flow models at m) (jobs_at flow models (at + m) n) (job_at models (slice_get flow (at + (m + n))))
+    ∙ ap (λ k. jobs_at flow models at m ++ (jobs_at flow models (at + m) n ++ job_at models (slice_get flow k))) (let z : at + (m + n) ≡ at + m + n = omega arith in z)
 
 pub plans_apart : (flow : List Flow) (plans : List PlanModel) (at m n : ℕ) → plans_at flow plans at (m + n) ≡ plans_at flow plans at m ++ plans_at flow plans (at + m) n
 plans_apart flow plans at m zero = ap (plans_at flow plans at) (let z : m + 0 ≡ m = omega arith in z) ∙ sym (append-nil (plans_at flow plans at m))
@@ -113,24 +113,24 @@ alone_first v jobs plans job planned later rest e f mode =
 -- ---- the place of a job of another mode
 
 -- it has a job and a plan
-pub record IsAway (works : List JobModel) (list : List PlanModel) (o : Option Flow) (v : ℕ) : Type 0 where
+pub record IsAway (models : List JobModel) (list : List PlanModel) (o : Option Flow) (v : ℕ) : Type 0 where
   pub job : JobModel
   pub planned : PlanModel
-  pub jobs : job_at works o ≡ job ∷ []
+  pub jobs : job_at models o ≡ job ∷ []
   pub plans : plan_at list o ≡ planned ∷ []
   pub mode : planned.mode ≡ v
   pub number : ℕ
-  pub has_job : slice_get works number ≡ Some job
+  pub has_job : slice_get models number ≡ Some job
   pub has_plan : slice_get list number ≡ Some planned
 
-away_job : (works : List JobModel) (plans : List PlanModel) (tree v : ℕ) → length plans ≡ length works → (o : Option PlanModel) → slice_get plans tree ≡ o → mode_of_plan o ≡ suc v
-    → (p : Option JobModel) → slice_get works tree ≡ p → length (plans_of (slice_get plans tree)) ≡ length (job_list (slice_get works tree)) → IsAway works plans (Some (Assign tree)) (suc v)
-away_job works plans tree v even None at e p has long = absurd (omega (arith, e))
-away_job works plans tree v even (Some planned) at e None has long = absurd (some_none (sym (ap (λ o. length (plans_of o)) at) ∙ long ∙ ap (λ o. length (job_list o)) has))
+away_job : (jobs : List JobModel) (plans : List PlanModel) (tree v : ℕ) → length plans ≡ length jobs → (o : Option PlanModel) → slice_get plans tree ≡ o → mode_of_plan o ≡ suc v
+    → (p : Option JobModel) → slice_get jobs tree ≡ p → length (plans_of (slice_get plans tree)) ≡ length (job_list (slice_get jobs tree)) → IsAway jobs plans (Some (Assign tree)) (suc v)
+away_job jobs plans tree v even None at e p has long = absurd (omega (arith, e))
+away_job jobs plans tree v even (Some planned) at e None has long = absurd (some_none (sym (ap (λ o. length (plans_of o)) at) ∙ long ∙ ap (λ o. length (job_list o)) has))
   where
     some_none : ◌≡◌ {A = ℕ} 1 0 → ⊥
     some_none e = cc
-away_job works plans tree v even (Some planned) at e (Some job) has long = record {
+away_job jobs plans tree v even (Some planned) at e (Some job) has long = record {
   job = job;
   planned = planned;
   jobs = ap job_list has;
@@ -141,28 +141,28 @@ away_job works plans tree v even (Some planned) at e (Some job) has long = recor
   has_plan = at;
 }
 
-pub away_place : (works : List JobModel) (plans : List PlanModel) (o : Option Flow) (v : ℕ) → length plans ≡ length works → mode_of_place plans o ≡ suc v → IsAway works plans o (suc v)
-away_place works plans None v even e = absurd (omega (arith, e))
-away_place works plans (Some (Assign tree)) v even e =
-    away_job works plans tree v even (slice_get plans tree) refl e (slice_get works tree) refl (even_place works plans even (Some (Assign tree)))
-away_place works plans (Some (Test tree one none)) v even e = absurd (omega (arith, e))
-away_place works plans (Some (Jump to)) v even e = absurd (omega (arith, e))
-away_place works plans (Some End) v even e = absurd (omega (arith, e))
+pub away_place : (jobs : List JobModel) (plans : List PlanModel) (o : Option Flow) (v : ℕ) → length plans ≡ length jobs → mode_of_place plans o ≡ suc v → IsAway jobs plans o (suc v)
+away_place jobs plans None v even e = absurd (omega (arith, e))
+away_place jobs plans (Some (Assign tree)) v even e =
+    away_job jobs plans tree v even (slice_get plans tree) refl e (slice_get jobs tree) refl (even_place jobs plans even (Some (Assign tree)))
+away_place jobs plans (Some (Test tree one none)) v even e = absurd (omega (arith, e))
+away_place jobs plans (Some (Jump to)) v even e = absurd (omega (arith, e))
+away_place jobs plans (Some End) v even e = absurd (omega (arith, e))
 
 -- cuts from such a place on begin with it
-pub starts_away : (works : List JobModel) (plans : List PlanModel) (flow : List Flow) (at n v : ℕ) → length plans ≡ length works → mode_of_place plans (slice_get flow at) ≡ suc v
-    → StartsAway (cuts_of (jobs_at flow works at n) (plans_at flow plans at n))
-starts_away works plans flow at zero v even e = tt
-starts_away works plans flow at (suc n) v even e =
-    let a : IsAway works plans (slice_get flow at) (suc v) = away_place works plans (slice_get flow at) v even e in
+pub starts_away : (models : List JobModel) (plans : List PlanModel) (flow : List Flow) (at n v : ℕ) → length plans ≡ length models → mode_of_place plans (slice_get flow at) ≡ suc v
+    → StartsAway (cuts_of (jobs_at flow models at n) (plans_at flow plans at n))
+starts_away models plans flow at zero v even e = tt
+starts_away models plans flow at (suc n) v even e =
+    let a : IsAway models plans (slice_get flow at) (suc v) = away_place models plans (slice_get flow at) v even e in
     let same : slice_get flow (at + 0) ≡ slice_get flow at = ap (slice_get flow) (let z : at + 0 ≡ at = omega arith in z) in
     let next : suc n ≡ 1 + n = omega arith in
-    let jobs : jobs_at flow works at (suc n) ≡ a.job ∷ jobs_at flow works (at + 1) n =
-    ap (jobs_at flow works at) next ∙ jobs_apart flow works at 1 n ∙ ap (λ (list : List JobModel). list ++ jobs_at flow works (at + 1) n) (ap (job_at works) same ∙ a.jobs) in
-    let plan : plans_at flow plans at (suc n) ≡ a.planned ∷ plans_at flow plans (at + 1) n =
+    let jobs : jobs_at flow models at (suc n) ≡ a.job ∷ jobs_at flow models (at + 1) n =
+    ap (jobs_at flow models at) next ∙ jobs_apart flow models at 1 n ∙ ap (λ (list : List JobModel). list ++ jobs_at flow models (at + 1) n) (ap (job_at models) same ∙ a.jobs) in
+    let cover : plans_at flow plans at (suc n) ≡ a.planned ∷ plans_at flow plans (at + 1) n =
     ap (plans_at flow plans at) next ∙ plans_apart flow plans at 1 n ∙ ap (λ (list : List PlanModel). list ++ plans_at flow plans (at + 1) n) (ap (plan_at plans) same ∙ a.plans) in
-    let path : cuts_of (jobs_at flow works at (suc n)) (plans_at flow plans at (suc n)) ≡ join_cut (suc v) a.job a.planned.choice (cuts_of (jobs_at flow works (at + 1) n) (plans_at flow plans (at + 1) n)) =
-    (λ i. cuts_of (jobs i) (plan i)) ∙ (λ i. join_cut (a.mode i) a.job a.planned.choice (cuts_of (jobs_at flow works (at + 1) n) (plans_at flow plans (at + 1) n))) in
+    let path : cuts_of (jobs_at flow models at (suc n)) (plans_at flow plans at (suc n)) ≡ join_cut (suc v) a.job a.planned.choice (cuts_of (jobs_at flow models (at + 1) n) (plans_at flow plans (at + 1) n)) =
+    (λ i. cuts_of (jobs i) (cover i)) ∙ (λ i. join_cut (a.mode i) a.job a.planned.choice (cuts_of (jobs_at flow models (at + 1) n) (plans_at flow plans (at + 1) n))) in
     subst StartsAway (sym path) (some v)
   where
     some : (v : ℕ) → suc v ≢ 0

@@ -157,9 +157,9 @@ program_labels : (l : ProgramModel) → labels (program_flow l) ≡ labels (flow
 program_labels l = labels_append (flow_in (stmts_of l.body) 0 0) (End ∷ [])
 
 -- the marks of a task's code fit an image
-pub marks_fit : (task : Task) → HasJobs task → (words : ℕ) (marks : List Mark) → statements_in (stmts_of task.listing.body) ≤ 65536 → words ≤ 2 ^ 32 → AreMarked task.flow words marks → AllByRecursion MarkFits marks × AreMarksAfter None marks
+pub marks_fit : (task : Task) → HasJobs task → (words : ℕ) (marks : List Mark) → statements_in (stmts_of task.program.body) ≤ 65536 → words ≤ 2 ^ 32 → AreMarked task.flow words marks → AllByRecursion MarkFits marks × AreMarksAfter None marks
 marks_fit task jobs words marks few short h =
-    let l = task.listing in
+    let l = task.program in
     let own : labels task.flow ≡ labels (program_flow l) = ap labels jobs.flow ∙ turned_labels jobs.turned (program_flow l) in
     marks_follow 65536 (omega arith) words short (labels (flow_in (stmts_of l.body) 0 0)) (stmts_below 65536 (stmts_of l.body) 0 0 (omega arith)) marks None 0 (h.each ∙ own ∙ program_labels l) h.apart tt
 
@@ -178,14 +178,14 @@ codes_small [] h = omega arith
 codes_small (code ∷ codes) h = h.0
 
 -- an image that is made for a task fits its netlist
-pub image_fitting : (task : Task) → IsChecked task → (image : Image) (made : IsMadeFor task image) → length (words_of image) ≤ code_size task.netlist.codes → length (words_of image) ≤ greatest_reach (made.isas 0).rules
+pub image_fitting : (task : Task) → IsChecked task → (image : Image) (made : IsMadeFor task image) → length (words_of image) ≤ code_size task.netlist.codes → length (words_of image) ≤ greatest_reach (made.isas 0).keeping
     → AllByRecursion PlaceFits image.places → AllByRecursion CostFits image.costs → IsFitting (limits_of task.netlist) image
 image_fitting task checked image made room reached places costs =
     let first : KeepsInOrder (base_at task.netlist 0) = first_keeps task.netlist checked.netlist in
     let codes : (base_at task.netlist 0).codes ≡ task.netlist.codes = (base_of task.netlist task.netlist.special 0).codes in
     let small : code_size task.netlist.codes ≤ 65536 = subst (λ (list : List Code). code_size list ≤ 65536) codes (codes_small (base_at task.netlist 0).codes first.rules.formed.limits.words) in
-    let statements : statements_in (stmts_of task.listing.body) ≤ 65536 = (rules_hold task.width task.listing checked.program).few_statements in
-    let temps = few_temps task.width task.listing checked.program in
+    let statements : statements_in (stmts_of task.program.body) ≤ 65536 = (rules_hold task.width task.program checked.program).few_statements in
+    let temps = few_temps task.width task.program checked.program in
     let as_told = made.layout.temps in
     let marks = marks_fit task checked.jobs (length (words_of image)) image.marks statements (omega (arith, room, small)) made.marked in
     let long : length (words_of image) ≡ length image.words = length-map image.words (λ (w : Word). w.word) in

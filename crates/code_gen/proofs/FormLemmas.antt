@@ -1,4 +1,4 @@
--- What is asked of each form of a list is asked of its rules, and each form of a netlist without a
+-- What is asked of each form of a list is asked of its models, and each form of a netlist without a
 -- mode keeps it.
 use Rattle.std.proofs.Common.{◌≡◌, ◌&&◌, ℕ, Bool, inl, List, [], ◌∷◌, Option, None, ap, refl, subst, sym}
 use Rattle.std.specs.List.{list_all}
@@ -14,7 +14,7 @@ use Rattle.mode_set.specs.Keeping.{AreKeeping, Isa}
 
 -- ---- lists
 
-asked_of_forms : (q : GoalModel → Bool) (fs : List Form) → list_all (λ (f : Form). q (model_of_goal f.goal)) fs ≡ all_form_models (λ rule. q rule.goal) (models_of_forms fs)
+asked_of_forms : (q : GoalModel → Bool) (fs : List Form) → list_all (λ (f : Form). q (model_of_goal f.goal)) fs ≡ all_form_models (λ form. q form.goal) (models_of_forms fs)
 asked_of_forms q [] = refl
 asked_of_forms q (f ∷ fs) = ap (λ (b : Bool). q (model_of_goal f.goal) && b) (asked_of_forms q fs)
 
@@ -26,18 +26,18 @@ jumps_of_list fs = asked_of_forms is_no_jump fs
 
 -- ---- a netlist without a mode
 
-pub all_kept : (netlist : Netlist) (patterns : List Pattern) (rules : List FormModel) → AreKeeping netlist patterns None rules rules
+pub all_kept : (netlist : Netlist) (patterns : List Pattern) (forms : List FormModel) → AreKeeping netlist patterns None forms forms
 all_kept netlist patterns [] = refl
-all_kept netlist patterns (rule ∷ rules) = (rules, all_kept netlist patterns rules, inl (tt, refl))
+all_kept netlist patterns (form ∷ forms) = (forms, all_kept netlist patterns forms, inl (tt, refl))
 
 -- what such a netlist is told in its only mode
-abbrev pub plain_isa : (netlist : Netlist) → netlist.special ≡ None → (patterns : List Pattern) → ArePatterns netlist patterns → (rules : List FormModel) (reach : ℕ) → AreForms netlist patterns rules reach → Isa netlist 0
-plain_isa netlist plain patterns are rules reach forms = record {
+abbrev pub plain_isa : (netlist : Netlist) → netlist.special ≡ None → (patterns : List Pattern) → ArePatterns netlist patterns → (all : List FormModel) (reach : ℕ) → AreForms netlist patterns all reach → Isa netlist 0
+plain_isa netlist plain patterns are all reach forms = record {
   patterns = patterns;
   are = subst (λ (n : Netlist). ArePatterns n patterns) (sym (alone_base netlist plain 0)) are;
-  all = rules;
+  all = all;
   most = reach;
-  forms = subst (λ (n : Netlist). AreForms n patterns rules reach) (sym (alone_base netlist plain 0)) forms;
-  rules = rules;
-  kept = subst (λ (o : Option ℕ). AreKeeping (base_at netlist 0) patterns o rules rules) (sym plain) (all_kept (base_at netlist 0) patterns rules);
+  forms = subst (λ (n : Netlist). AreForms n patterns all reach) (sym (alone_base netlist plain 0)) forms;
+  keeping = all;
+  kept = subst (λ (o : Option ℕ). AreKeeping (base_at netlist 0) patterns o all all) (sym plain) (all_kept (base_at netlist 0) patterns all);
 }

@@ -20,12 +20,12 @@ use Rattle.right_code.specs.Forks.{cover_form}
 use Rattle.right_code.specs.Jobs.{IsCovered, tree_or_none, tree_used}
 use Rattle.right_code.specs.Tasks.{Task, task_jobs}
 use Rattle.right_code.proofs.Right.{job_covered}
-use Rattle.right_code.specs.Works.{AreFlowJobs, IsTestJob}
+use Rattle.right_code.specs.FlowJobs.{AreFlowJobs, IsTestJob}
 use Rattle.right_code.proofs.Tasks.{tests_get}
-use Rattle.compaction.specs.declared.machine.Machine.{Machine}
+use Rattle.compaction.specs.declared.machine.KnownMachine.{KnownMachine}
 use Rattle.code_gen.specs.declared.views.Modes.{Modes}
 use Rattle.code_gen.specs.declared.views.PlannedProgram.{PlannedProgram}
-use Rattle.code_gen.specs.Machines.{machine_netlist, machine_patterns}
+use Rattle.code_gen.specs.Machines.{known_netlist, known_patterns}
 use Rattle.code_gen.specs.Inner.Planning.{IsPlanning, plans_in, jobs_in}
 use Rattle.code_gen.specs.Inner.Registers.{AreConditionReads}
 use Rattle.code_gen.proofs.Conditions.{wanted_registers}
@@ -36,13 +36,13 @@ use Rattle.code_gen.proofs.Stepping.{job_there, plan_there, planned_at}
 abbrev pub root_of : CoverModel → ℕ
 root_of (use_form k ps cs) = k
 
-pub listed_root : (stock : StockModel) (destination : DestinationModel) (tree : ExprModel) (plan : CoverModel) → IsOrderly stock destination tree true plan → slice_get stock.rules (root_of plan) ≡ Some (cover_form stock plan)
+pub listed_root : (stock : StockModel) (destination : DestinationModel) (tree : ExprModel) (cover : CoverModel) → IsOrderly stock destination tree true cover → slice_get stock.forms (root_of cover) ≡ Some (cover_form stock cover)
 listed_root stock destination tree (use_form k ps cs) o = (opened_cover stock k ps cs destination tree true o).listed
 
 module _ (modes : Modes) (program : PlannedProgram) (task : Task) (isas : Isas task.netlist) (p : IsPlanning modes program task isas) where
   -- ---- a mode
 
-  pub machine_there : (v : ℕ) → v < modes_in task.netlist → (machine : Machine) × (slice_get modes.machines.now v ≡ Some machine)
+  pub machine_there : (v : ℕ) → v < modes_in task.netlist → (machine : KnownMachine) × (slice_get modes.machines.now v ≡ Some machine)
   machine_there v lt = there modes.machines.now v (let many = p.modes.machines in omega (arith, lt, many))
 
   pub forms_there : (v : ℕ) → v < modes_in task.netlist → (forms : Forms) × (slice_get modes.forms.now v ≡ Some forms)
@@ -57,7 +57,7 @@ module _ (modes : Modes) (program : PlannedProgram) (task : Task) (isas : Isas t
   pub machine_within : (v : ℕ) → v < modes_in task.netlist → v < length modes.machines.now
   machine_within v lt = let many = p.modes.machines in omega (arith, lt, many)
 
-  pub net_is : (v : ℕ) (machine : Machine) → v < modes_in task.netlist → slice_get modes.machines.now v ≡ Some machine → machine_netlist machine ≡ base_at task.netlist (held task.netlist v)
+  pub net_is : (v : ℕ) (machine : KnownMachine) → v < modes_in task.netlist → slice_get modes.machines.now v ≡ Some machine → known_netlist machine ≡ base_at task.netlist (held task.netlist v)
   net_is v machine lt at = p.modes.nets v machine at ∙ ap (base_at task.netlist) (sym (held_is task.netlist v lt))
 
   pub stock_is : (v : ℕ) → v < modes_in task.netlist → stock_at modes.forms.now program.temps v ≡ mode_stock task isas v
@@ -66,7 +66,7 @@ module _ (modes : Modes) (program : PlannedProgram) (task : Task) (isas : Isas t
   -- ---- a job
 
   job_model_there : (k : ℕ) (job : JobModel) → slice_get (jobs_in program) k ≡ Some job → slice_get (task_jobs task) k ≡ Some job
-  job_model_there k job e = sym (ap (λ (ws : List JobModel). slice_get ws k) p.works) ∙ e
+  job_model_there k job e = sym (ap (λ (ws : List JobModel). slice_get ws k) p.jobs) ∙ e
 
   pub plan_of_job : (k : ℕ) (job : JobModel) → slice_get (jobs_in program) k ≡ Some job → (planned : PlanModel) × (slice_get (plans_in program) k ≡ Some planned)
   plan_of_job k job e = plan_there (mode_stock task isas) (IsUsable task.netlist isas) (task_jobs task) (plans_in program) k job p.plans (job_model_there k job e)
@@ -74,15 +74,18 @@ module _ (modes : Modes) (program : PlannedProgram) (task : Task) (isas : Isas t
   pub job_of_plan : (k : ℕ) (planned : PlanModel) → slice_get (plans_in program) k ≡ Some planned → (job : JobModel) × (slice_get (jobs_in program) k ≡ Some job)
   job_of_plan k planned e =
       let j = job_there (mode_stock task isas) (IsUsable task.netlist isas) (task_jobs task) (plans_in program) k planned p.plans e in
-      (j.0, ap (λ (ws : List JobModel). slice_get ws k) p.works ∙ j.1)
+      (j.0, ap (λ (ws : List JobModel). slice_get ws k) p.jobs ∙ j.1)
 
   pub mode_usable : (k : ℕ) (planned : PlanModel) → slice_get (plans_in program) k ≡ Some planned → IsUsable task.netlist isas planned.mode
   mode_usable k planned e =
       let j = job_of_plan k planned e in
       (planned_at (mode_stock task isas) (IsUsable task.netlist isas) (task_jobs task) (plans_in program) k j.0 planned p.plans (job_model_there k j.0 j.1) e).can
 
+  pub plan_mode : (k : ℕ) (planned : PlanModel) → slice_get (plans_in program) k ≡ Some planned → planned.mode < modes_in task.netlist
+  plan_mode k planned e = usable_within planned.mode (mode_usable k planned e)
+
   pub plan_forms : (k : ℕ) (planned : PlanModel) → slice_get (plans_in program) k ≡ Some planned → planned.mode < length modes.forms.now
-  plan_forms k planned e = forms_within planned.mode (usable_within planned.mode (mode_usable k planned e))
+  plan_forms k planned e = forms_within planned.mode (plan_mode k planned e)
 
   pub test_mode : (k : ℕ) (job : JobModel) (planned : PlanModel) → slice_get (jobs_in program) k ≡ Some job → slice_get (plans_in program) k ≡ Some planned → job.destination ≡ tested → planned.mode ≡ 0
   test_mode k job planned e f goes =
@@ -103,31 +106,31 @@ module _ (modes : Modes) (program : PlannedProgram) (task : Task) (isas : Isas t
 
   -- the form at the root of a cover is one of the list
   pub root_form : (k : ℕ) (job : JobModel) (planned : PlanModel) → slice_get (jobs_in program) k ≡ Some job → slice_get (plans_in program) k ≡ Some planned
-      → slice_get (isas planned.mode).rules (root_of planned.choice.plan) ≡ Some (cover_form (mode_stock task isas planned.mode) planned.choice.plan)
+      → slice_get (isas planned.mode).keeping (root_of planned.choice.cover) ≡ Some (cover_form (mode_stock task isas planned.mode) planned.choice.cover)
   root_form k job planned e f =
       let h : IsCovered (mode_stock task isas planned.mode) job planned.choice = covered k job planned e f in
-      listed_root (mode_stock task isas planned.mode) job.destination h.covers.tree planned.choice.plan h.covers.orderly
+      listed_root (mode_stock task isas planned.mode) job.destination h.covers.tree planned.choice.cover h.covers.orderly
 
   -- the registers that a branch's condition reads are those of the form at the root
   pub wanted_is : (k : ℕ) (job : JobModel) (planned : PlanModel) → slice_get (jobs_in program) k ≡ Some job → slice_get (plans_in program) k ≡ Some planned → job.destination ≡ tested → (forms : Forms) → slice_get modes.forms.now 0 ≡ Some forms
-      → (machine : Machine) → slice_get modes.machines.now 0 ≡ Some machine → (n : ℕ) → n < 2 ^ 16
-      → ((rule : FormModel) → slice_get (models_of_forms forms.list.items) (root_of planned.choice.plan) ≡ Some rule → AreConditionReads (machine_patterns machine) rule.pattern n) → wanted (mode_stock task isas 0) tested (tree_used job planned.choice) planned.choice.plan ≡ regs_of n
+      → (machine : KnownMachine) → slice_get modes.machines.now 0 ≡ Some machine → (n : ℕ) → n < 2 ^ 16
+      → ((model : FormModel) → slice_get (models_of_forms forms.list.items) (root_of planned.choice.cover) ≡ Some model → AreConditionReads (known_patterns machine) model.pattern n) → wanted (mode_stock task isas 0) tested (tree_used job planned.choice) planned.choice.cover ≡ regs_of n
   wanted_is k job planned e f goes forms at machine there n small is =
       let mode : planned.mode ≡ 0 = test_mode k job planned e f goes in
       let h : IsCovered (mode_stock task isas 0) job planned.choice = subst (λ v. IsCovered (mode_stock task isas v) job planned.choice) mode (covered k job planned e f) in
-      let form = subst (λ v. slice_get (isas v).rules (root_of planned.choice.plan) ≡ Some (cover_form (mode_stock task isas v) planned.choice.plan)) mode (root_form k job planned e f) in
+      let form = subst (λ v. slice_get (isas v).keeping (root_of planned.choice.cover) ≡ Some (cover_form (mode_stock task isas v) planned.choice.cover)) mode (root_form k job planned e f) in
       let tree : tree_used job planned.choice ≡ h.covers.tree = ap tree_or_none h.covers.used in
-      ap (λ t. wanted (mode_stock task isas 0) tested t planned.choice.plan) tree
-      ∙ wanted_registers task p.checked isas h.covers.tree planned.choice.plan (subst (λ (d : DestinationModel). IsOrderly (mode_stock task isas 0) d h.covers.tree true planned.choice.plan) goes h.covers.orderly)
+      ap (λ t. wanted (mode_stock task isas 0) tested t planned.choice.cover) tree
+      ∙ wanted_registers task p.checked isas h.covers.tree planned.choice.cover (subst (λ (d : DestinationModel). IsOrderly (mode_stock task isas 0) d h.covers.tree true planned.choice.cover) goes h.covers.orderly)
       n small
-      (subst (λ patterns. AreConditionReads patterns (cover_form (mode_stock task isas 0) planned.choice.plan).pattern n) (p.modes.patterns 0 machine there)
-      (is (cover_form (mode_stock task isas 0) planned.choice.plan) (ap (λ (rules : List FormModel). slice_get rules (root_of planned.choice.plan)) (p.modes.forms 0 forms at) ∙ form)))
+      (subst (λ patterns. AreConditionReads patterns (cover_form (mode_stock task isas 0) planned.choice.cover).pattern n) (p.modes.patterns 0 machine there)
+      (is (cover_form (mode_stock task isas 0) planned.choice.cover) (ap (λ (models : List FormModel). slice_get models (root_of planned.choice.cover)) (p.modes.forms 0 forms at) ∙ form)))
 
   -- ---- tests
 
   pub tests : AreFlowJobs (jobs_in program) program.flow.now
   tests =
-      subst (λ (ws : List JobModel). AreFlowJobs ws program.flow.now) (sym p.works)
+      subst (λ (ws : List JobModel). AreFlowJobs ws program.flow.now) (sym p.jobs)
       (subst (λ (flow : List Flow). AreFlowJobs (task_jobs task) flow) (sym p.flow) p.checked.jobs.tests)
 
   pub test_job : (at tree when_one when_zero : ℕ) → slice_get program.flow.now at ≡ Some (Test tree when_one when_zero) → IsTestJob (jobs_in program) tree

@@ -53,13 +53,13 @@ pub same_some : {A : Type 0} (x y : A) → Some x ≡ Some y → x ≡ y
 same_some x y e = cc
 
 -- the stock of a mode is that of its forms
-pub told_stock : (modes : Modes) (task : Task) (isas : Isas task.netlist) → AreTaskModes modes task isas → (temps : ℕ) → temps ≡ temp_count task.width task.listing → (v : ℕ) → v < modes_in task.netlist
+pub told_stock : (modes : Modes) (task : Task) (isas : Isas task.netlist) → AreTaskModes modes task isas → (temps : ℕ) → temps ≡ temp_count task.width task.program → (v : ℕ) → v < modes_in task.netlist
     → stock_at modes.forms.now temps v ≡ mode_stock task isas v
 told_stock modes task isas told temps cells v lt =
     let f = there modes.forms.now v (let many = told.lists in omega (arith, lt, many)) in
-    let rules = told.forms v f.0 f.1 in
+    let forms = told.forms v f.0 f.1 in
     let file = told.file v f.0 f.1 in
-    ap (forms_stock temps) f.1 ∙ (λ j. record { rules = rules j; temps = cells j; file = file j })
+    ap (forms_stock temps) f.1 ∙ (λ j. record { forms = forms j; temps = cells j; file = file j })
 
 -- jumps reach as far as the first forms say
 pub reach_read : (modes : Modes) (other : Forms) → 0 < length modes.forms.now → (get_or modes.forms.now 0 other).reach ≡ reach_at modes 0

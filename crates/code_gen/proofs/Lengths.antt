@@ -11,6 +11,7 @@ use Rattle.src_trees.specs.Blocks.{job_at, job_list, jobs_at}
 use Rattle.src_trees.specs.Lowered.{JobModel}
 use Rattle.emit_seq.specs.Leaves.{IsOfJob}
 use Rattle.emit_seq.proofs.Counted.{steps_cost}
+use Rattle.branch_fix.specs.declared.outline.Branch.{Branch}
 use Rattle.branch_fix.specs.Costs.{SizesWithin, block_costs}
 use Rattle.branch_fix.specs.Parts.{blocks_before}
 use Rattle.mode_set.specs.Costs.{PlanModel, mode_cost, mode_words}
@@ -19,7 +20,7 @@ use Rattle.right_code.specs.Covered.{mode_stock, plan_costs}
 use Rattle.right_code.specs.Cuts.{AreBlockCuts, AreCutWords, Cut, cuts_of, join_cut, join_first, join_zero, plan_at, plans_at, plans_of}
 use Rattle.right_code.specs.Jobs.{IsCovered, job_steps, jobs_steps, tree_or_none}
 use Rattle.right_code.specs.Tasks.{Task}
-use Rattle.right_code.specs.Works.{AreFlowJobs}
+use Rattle.right_code.specs.FlowJobs.{AreFlowJobs}
 use Rattle.right_code.proofs.Tasks.{tests_get}
 use Rattle.compaction.specs.declared.packer.PackedBlock.{PackedBlock}
 use Rattle.code_gen.specs.Inner.Coded.{IsBlockCode}
@@ -32,27 +33,27 @@ use Rattle.code_gen.proofs.Stepping.{even_place, even_places}
 
 module _ (stock : StockModel) where
   -- the steps of a job are as many as its cover costs
-  pub job_long : (job : JobModel) (choice : JobCoverModel) → IsOfJob job.destination → Covers stock job.destination job.trees choice → length (job_steps stock job choice) ≡ job_cost job.destination choice.plan
+  pub job_long : (job : JobModel) (choice : JobCoverModel) → IsOfJob job.destination → Covers stock job.destination job.trees choice → length (job_steps stock job choice) ≡ job_cost job.destination choice.cover
   job_long job choice goes covers =
-      ap (λ t. length (cover_steps stock job.destination t choice.plan)) (ap tree_or_none covers.used) ∙ steps_cost stock job.destination covers.tree choice.plan goes covers.orderly
+      ap (λ t. length (cover_steps stock job.destination t choice.cover)) (ap tree_or_none covers.used) ∙ steps_cost stock job.destination covers.tree choice.cover goes covers.orderly
 
 -- the cost of a job by its number
-cost_at : (works : List JobModel) (plans : List PlanModel) (k : ℕ) (job : JobModel) (planned : PlanModel) → slice_get works k ≡ Some job → slice_get plans k ≡ Some planned
-    → slice_index (plan_costs works plans) k ≡ mode_cost planned.mode job.destination planned.choice.plan
+cost_at : (jobs : List JobModel) (plans : List PlanModel) (k : ℕ) (job : JobModel) (planned : PlanModel) → slice_get jobs k ≡ Some job → slice_get plans k ≡ Some planned
+    → slice_index (plan_costs jobs plans) k ≡ mode_cost planned.mode job.destination planned.choice.cover
 cost_at [] plans k job planned e f = absurd cc
-cost_at (w ∷ works) [] k job planned e f = absurd cc
-cost_at (w ∷ works) (d ∷ plans) zero job planned e f =
+cost_at (w ∷ jobs) [] k job planned e f = absurd cc
+cost_at (w ∷ jobs) (d ∷ plans) zero job planned e f =
     let a : w ≡ job = cc in
     let b : d ≡ planned = cc in
-    (λ j. mode_cost (b j).mode (a j).destination (b j).choice.plan)
-cost_at (w ∷ works) (d ∷ plans) (suc k) job planned e f = cost_at works plans k job planned e f
+    (λ j. mode_cost (b j).mode (a j).destination (b j).choice.cover)
+cost_at (w ∷ jobs) (d ∷ plans) (suc k) job planned e f = cost_at jobs plans k job planned e f
 
 -- and 0 past the last
-cost_past : (works : List JobModel) (plans : List PlanModel) (k : ℕ) → slice_get works k ≡ None → slice_index (plan_costs works plans) k ≡ 0
+cost_past : (jobs : List JobModel) (plans : List PlanModel) (k : ℕ) → slice_get jobs k ≡ None → slice_index (plan_costs jobs plans) k ≡ 0
 cost_past [] plans k e = refl
-cost_past (w ∷ works) [] k e = refl
-cost_past (w ∷ works) (d ∷ plans) zero e = absurd cc
-cost_past (w ∷ works) (d ∷ plans) (suc k) e = cost_past works plans k e
+cost_past (w ∷ jobs) [] k e = refl
+cost_past (w ∷ jobs) (d ∷ plans) zero e = absurd cc
+cost_past (w ∷ jobs) (d ∷ plans) (suc k) e = cost_past jobs plans k e
 
 -- ---- the words of cuts
 
@@ -130,57 +131,57 @@ module _ (task : Task) (isas : Isas task.netlist) where
   cost_both (x ∷ xs) ys [] qs e = absurd (omega (arith, e))
   cost_both (x ∷ xs) ys (p ∷ ps) qs e = let later = cost_both xs ys ps qs (omega (arith, e)) in omega (arith, later)
 
-  module _ (works : List JobModel) (plans : List PlanModel) (even : length plans ≡ length works)
-      (covered : (k : ℕ) (job : JobModel) (planned : PlanModel) → slice_get works k ≡ Some job → slice_get plans k ≡ Some planned → IsCovered (mode_stock task isas planned.mode) job planned.choice)
-      (first : (k : ℕ) (job : JobModel) (planned : PlanModel) → slice_get works k ≡ Some job → slice_get plans k ≡ Some planned → job.destination ≡ tested → planned.mode ≡ 0) where
-    tree_cost : (k : ℕ) (o : Option JobModel) (p : Option PlanModel) → slice_get works k ≡ o → slice_get plans k ≡ p → length (plans_of p) ≡ length (job_list o) → plans_cost (job_list o) (plans_of p) ≡ slice_index (plan_costs works plans) k
-    tree_cost k None None e f same = sym (cost_past works plans k e)
+  module _ (jobs : List JobModel) (plans : List PlanModel) (even : length plans ≡ length jobs)
+      (covered : (k : ℕ) (job : JobModel) (planned : PlanModel) → slice_get jobs k ≡ Some job → slice_get plans k ≡ Some planned → IsCovered (mode_stock task isas planned.mode) job planned.choice)
+      (first : (k : ℕ) (job : JobModel) (planned : PlanModel) → slice_get jobs k ≡ Some job → slice_get plans k ≡ Some planned → job.destination ≡ tested → planned.mode ≡ 0) where
+    tree_cost : (k : ℕ) (o : Option JobModel) (p : Option PlanModel) → slice_get jobs k ≡ o → slice_get plans k ≡ p → length (plans_of p) ≡ length (job_list o) → plans_cost (job_list o) (plans_of p) ≡ slice_index (plan_costs jobs plans) k
+    tree_cost k None None e f same = sym (cost_past jobs plans k e)
     tree_cost k None (Some planned) e f same = absurd (omega (arith, same))
     tree_cost k (Some job) None e f same = absurd (omega (arith, same))
     tree_cost k (Some job) (Some planned) e f same =
         let c = covered k job planned e f in
         let own = job_long (mode_stock task isas planned.mode) job planned.choice c.goes c.covers in
-        let told = cost_at works plans k job planned e f in
+        let told = cost_at jobs plans k job planned e f in
         omega (arith, own, told)
 
-    place_is : (o : Option Flow) → plans_cost (job_at works o) (plan_at plans o) ≡ place_cost (plan_costs works plans) o
+    place_is : (o : Option Flow) → plans_cost (job_at jobs o) (plan_at plans o) ≡ place_cost (plan_costs jobs plans) o
     place_is None = refl
-    place_is (Some (Assign tree)) = tree_cost tree (slice_get works tree) (slice_get plans tree) refl refl (even_place works plans even (Some (Assign tree)))
+    place_is (Some (Assign tree)) = tree_cost tree (slice_get jobs tree) (slice_get plans tree) refl refl (even_place jobs plans even (Some (Assign tree)))
     place_is (Some (Test tree one none)) = refl
     place_is (Some (Jump to)) = refl
     place_is (Some End) = refl
 
     -- the jobs of a block cost what its trees do
-    block_cost : (flow : List Flow) (at n : ℕ) → plans_cost (jobs_at flow works at n) (plans_at flow plans at n) ≡ run_cost flow (plan_costs works plans) at n
+    block_cost : (flow : List Flow) (at n : ℕ) → plans_cost (jobs_at flow jobs at n) (plans_at flow plans at n) ≡ run_cost flow (plan_costs jobs plans) at n
     block_cost flow at zero = refl
     block_cost flow at (suc n) =
         let before = block_cost flow at n in
         let here = place_is (slice_get flow (at + n)) in
-        let both = cost_both (jobs_at flow works at n) (job_at works (slice_get flow (at + n))) (plans_at flow plans at n) (plan_at plans (slice_get flow (at + n))) (even_places works plans even flow at n) in
-        let more = run_more flow (plan_costs works plans) at n in
+        let both = cost_both (jobs_at flow jobs at n) (job_at jobs (slice_get flow (at + n))) (plans_at flow plans at n) (plan_at plans (slice_get flow (at + n))) (even_places jobs plans even flow at n) in
+        let more = run_more flow (plan_costs jobs plans) at n in
         omega (arith, before, here, both, more)
 
     -- no block has more words than it costs
-    pub code_within : (flow : List Flow) (blocks : List PackedBlock) (branches : List (ℕ × ℕ)) → AreFlowJobs works flow → ((k : ℕ) (job : JobModel) → slice_get works k ≡ Some job → (planned : PlanModel) × (slice_get plans k ≡ Some planned))
-        → IsBlockCode task isas flow works plans (length flow) blocks branches → SizesWithin (sizes blocks) (block_costs flow (plan_costs works plans) flow 0)
+    pub code_within : (flow : List Flow) (blocks : List PackedBlock) (branches : List Branch) → AreFlowJobs jobs flow → ((k : ℕ) (job : JobModel) → slice_get jobs k ≡ Some job → (planned : PlanModel) × (slice_get plans k ≡ Some planned))
+        → IsBlockCode task isas flow jobs plans (length flow) blocks branches → SizesWithin (sizes blocks) (block_costs flow (plan_costs jobs plans) flow 0)
     code_within flow blocks branches tests planned_at code =
-        sizes_within flow (plan_costs works plans) (sizes blocks) (length-map blocks (λ (block : PackedBlock). length block.words) ∙ code.long)
+        sizes_within flow (plan_costs jobs plans) (sizes blocks) (length-map blocks (λ (block : PackedBlock). length block.words) ∙ code.long)
         (λ at n lt block.
         (let r = code.runs at n lt block in
         let size = sizes_at blocks (blocks_before flow at) in
-        let few = cuts_few (cuts_of (jobs_at flow works at n) (plans_at flow plans at n)) _ _ r.cuts in
-        let are = cuts_are (jobs_at flow works at n) (plans_at flow plans at n) in
+        let few = cuts_few (cuts_of (jobs_at flow jobs at n) (plans_at flow plans at n)) _ _ r.cuts in
+        let are = cuts_are (jobs_at flow jobs at n) (plans_at flow plans at n) in
         let cost = block_cost flow at n in
         omega (arith, size, few, are, cost)))
         (λ at tree one none lt place.
-        (let t = tests_get works flow at tree one none tests place in
-        let d = planned_at tree t.work t.at in
-        let k = code.tests at tree one none lt place t.work d.0 t.at d.1 in
+        (let t = tests_get jobs flow at tree one none tests place in
+        let d = planned_at tree t.job t.at in
+        let k = code.tests at tree one none lt place t.job d.0 t.at d.1 in
         let size = sizes_at blocks (blocks_before flow at) in
         let long = k.packed.least.long in
         let few = groups_few k.packed.packing in
-        let mode : d.0.mode ≡ 0 = first tree t.work d.0 t.at d.1 t.destination in
-        let job : IsCovered (mode_stock task isas 0) t.work d.0.choice = subst (λ v. IsCovered (mode_stock task isas v) t.work d.0.choice) mode (covered tree t.work d.0 t.at d.1) in
-        let steps = job_long (mode_stock task isas 0) t.work d.0.choice job.goes job.covers in
-        let cost = cost_at works plans tree t.work d.0 t.at d.1 in
+        let mode : d.0.mode ≡ 0 = first tree t.job d.0 t.at d.1 t.destination in
+        let job : IsCovered (mode_stock task isas 0) t.job d.0.choice = subst (λ v. IsCovered (mode_stock task isas v) t.job d.0.choice) mode (covered tree t.job d.0 t.at d.1) in
+        let steps = job_long (mode_stock task isas 0) t.job d.0.choice job.goes job.covers in
+        let cost = cost_at jobs plans tree t.job d.0 t.at d.1 in
         omega (arith, size, long, few, steps, cost)))

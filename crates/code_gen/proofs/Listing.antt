@@ -49,70 +49,70 @@ get_taken (x ∷ xs) (suc n) (suc k) lt = get_taken xs n k (omega arith)
 -- ---- plans
 
 module _ (stock : ℕ → StockModel) (Usable : ℕ → Type 0) where
-  pub planned_more : (works : List JobModel) (plans : List PlanModel) (work : JobModel) (planned : PlanModel) → AllPlanned stock Usable works plans → IsPlanned stock Usable work.destination work.trees planned
-      → AllPlanned stock Usable (works ++ work ∷ []) (plans ++ planned ∷ [])
-  planned_more [] [] work planned h is = (is, tt)
-  planned_more [] (d ∷ plans) work planned h is = absurd h
-  planned_more (x ∷ works) [] work planned h is = absurd h
-  planned_more (x ∷ works) (d ∷ plans) work planned h is = (h.0, planned_more works plans work planned h.1 is)
+  pub planned_more : (jobs : List JobModel) (plans : List PlanModel) (job : JobModel) (planned : PlanModel) → AllPlanned stock Usable jobs plans → IsPlanned stock Usable job.destination job.trees planned
+      → AllPlanned stock Usable (jobs ++ job ∷ []) (plans ++ planned ∷ [])
+  planned_more [] [] job planned h is = (is, tt)
+  planned_more [] (d ∷ plans) job planned h is = absurd h
+  planned_more (x ∷ jobs) [] job planned h is = absurd h
+  planned_more (x ∷ jobs) (d ∷ plans) job planned h is = (h.0, planned_more jobs plans job planned h.1 is)
 
-  pub costs_more : (works : List JobModel) (plans : List PlanModel) (work : JobModel) (planned : PlanModel) → AllPlanned stock Usable works plans
-      → plan_costs (works ++ work ∷ []) (plans ++ planned ∷ []) ≡ plan_costs works plans ++ mode_cost planned.mode work.destination planned.choice.plan ∷ []
-  costs_more [] [] work planned h = refl
-  costs_more [] (d ∷ plans) work planned h = absurd h
-  costs_more (x ∷ works) [] work planned h = absurd h
-  costs_more (x ∷ works) (d ∷ plans) work planned h = ap (λ (costs : List ℕ). mode_cost d.mode x.destination d.choice.plan ∷ costs) (costs_more works plans work planned h.1)
+  pub costs_more : (jobs : List JobModel) (plans : List PlanModel) (job : JobModel) (planned : PlanModel) → AllPlanned stock Usable jobs plans
+      → plan_costs (jobs ++ job ∷ []) (plans ++ planned ∷ []) ≡ plan_costs jobs plans ++ mode_cost planned.mode job.destination planned.choice.cover ∷ []
+  costs_more [] [] job planned h = refl
+  costs_more [] (d ∷ plans) job planned h = absurd h
+  costs_more (x ∷ jobs) [] job planned h = absurd h
+  costs_more (x ∷ jobs) (d ∷ plans) job planned h = ap (λ (costs : List ℕ). mode_cost d.mode x.destination d.choice.cover ∷ costs) (costs_more jobs plans job planned h.1)
 
   -- the first jobs have as many plans
-  pub planned_count : (works : List JobModel) (plans : List PlanModel) (number : ℕ) → number ≤ length works → AllPlanned stock Usable (take number works) plans → length plans ≡ number
-  planned_count works plans number le h = plans_even stock Usable (take number works) plans h ∙ length-take-le number works le
+  pub planned_count : (jobs : List JobModel) (plans : List PlanModel) (number : ℕ) → number ≤ length jobs → AllPlanned stock Usable (take number jobs) plans → length plans ≡ number
+  planned_count jobs plans number le h = plans_even stock Usable (take number jobs) plans h ∙ length-take-le number jobs le
 
   -- one job more
-  module _ (works : List JobModel) (old new : List Plan) (number : ℕ) (work : JobModel) (plan : Plan) (at : slice_get works number ≡ Some work) (more : new ≡ old ++ plan ∷ [])
-      (all : AllPlanned stock Usable (take number works) (map model_of_plan old)) where
-    jobs_taken : take (number + 1) works ≡ take number works ++ work ∷ []
-    jobs_taken = take_get works number work at
+  module _ (jobs : List JobModel) (old new : List Plan) (number : ℕ) (job : JobModel) (plan : Plan) (at : slice_get jobs number ≡ Some job) (more : new ≡ old ++ plan ∷ [])
+      (all : AllPlanned stock Usable (take number jobs) (map model_of_plan old)) where
+    jobs_taken : take (number + 1) jobs ≡ take number jobs ++ job ∷ []
+    jobs_taken = take_get jobs number job at
 
     plans_made : map model_of_plan new ≡ map model_of_plan old ++ model_of_plan plan ∷ []
     plans_made = ap (map model_of_plan) more ∙ map-append model_of_plan old (plan ∷ [])
 
-    pub plans_more : IsPlanned stock Usable work.destination work.trees (model_of_plan plan) → AllPlanned stock Usable (take (number + 1) works) (map model_of_plan new)
+    pub plans_more : IsPlanned stock Usable job.destination job.trees (model_of_plan plan) → AllPlanned stock Usable (take (number + 1) jobs) (map model_of_plan new)
     plans_more is =
         subst (λ ws. AllPlanned stock Usable ws (map model_of_plan new)) (sym jobs_taken)
-        (subst (AllPlanned stock Usable (take number works ++ work ∷ [])) (sym plans_made) (planned_more (take number works) (map model_of_plan old) work (model_of_plan plan) all is))
+        (subst (AllPlanned stock Usable (take number jobs ++ job ∷ [])) (sym plans_made) (planned_more (take number jobs) (map model_of_plan old) job (model_of_plan plan) all is))
 
-    pub prices_more : plan.cover.cost ≡ job_cost work.destination (model_of_plan plan).choice.plan → told_costs old ≡ plan_costs (take number works) (map model_of_plan old)
-        → told_costs new ≡ plan_costs (take (number + 1) works) (map model_of_plan new)
+    pub prices_more : plan.cover.cost ≡ job_cost job.destination (model_of_plan plan).choice.cover → told_costs old ≡ plan_costs (take number jobs) (map model_of_plan old)
+        → told_costs new ≡ plan_costs (take (number + 1) jobs) (map model_of_plan new)
     prices_more price before =
         ap told_costs more
         ∙ map-append (λ (p : Plan). p.cover.cost + mode_words p.mode) old (plan ∷ [])
         ∙ (λ i. before i ++ (price i + mode_words plan.mode) ∷ [])
-        ∙ sym (costs_more (take number works) (map model_of_plan old) work (model_of_plan plan) all)
+        ∙ sym (costs_more (take number jobs) (map model_of_plan old) job (model_of_plan plan) all)
         ∙ (λ i. plan_costs (sym jobs_taken i) (sym plans_made i))
 
-  has_covers : (works : List JobModel) (plans : List PlanModel) → AllPlanned stock Usable works plans → (k : ℕ) (other : JobModel) → slice_get works k ≡ Some other → HasCover stock Usable other
+  has_covers : (jobs : List JobModel) (plans : List PlanModel) → AllPlanned stock Usable jobs plans → (k : ℕ) (other : JobModel) → slice_get jobs k ≡ Some other → HasCover stock Usable other
   has_covers [] plans h k other e = absurd (cc e)
-  has_covers (x ∷ works) [] h k other e = absurd h
-  has_covers (x ∷ works) (d ∷ plans) h zero other e =
+  has_covers (x ∷ jobs) [] h k other e = absurd h
+  has_covers (x ∷ jobs) (d ∷ plans) h zero other e =
       (let q : x ≡ other = cc in subst (HasCover stock Usable) q (record { mode = d.mode; choice = d.choice; covers = record { can = h.0.can; may = h.0.may; covers = h.0.chosen.covers } }))
-  has_covers (x ∷ works) (d ∷ plans) h (suc k) other e = has_covers works plans h.1 k other e
+  has_covers (x ∷ jobs) (d ∷ plans) h (suc k) other e = has_covers jobs plans h.1 k other e
 
   -- the first job that has no cover
-  pub uncovered : (works : List JobModel) (plans : List PlanModel) (number : ℕ) (work : JobModel) (fault : CodeFault) → AllPlanned stock Usable (take number works) plans → slice_get works number ≡ Some work
-      → IsOneBare stock Usable work number fault → IsUncovered stock Usable works fault
-  uncovered works plans number work (NoCover told) h at bare =
-      subst (IsFirstBare stock Usable works) (sym bare.0)
+  pub uncovered : (jobs : List JobModel) (plans : List PlanModel) (number : ℕ) (job : JobModel) (fault : CodeFault) → AllPlanned stock Usable (take number jobs) plans → slice_get jobs number ≡ Some job
+      → IsOneBare stock Usable job number fault → IsUncovered stock Usable jobs fault
+  uncovered jobs plans number job (NoCover told) h at bare =
+      subst (IsFirstBare stock Usable jobs) (sym bare.0)
       (record {
-        job = work;
+        job = job;
         at = at;
         none = bare.1;
-        earlier = λ k other lt e. has_covers (take number works) plans h k other (get_taken works number k lt ∙ e);
+        earlier = λ k other lt e. has_covers (take number jobs) plans h k other (get_taken jobs number k lt ∙ e);
       })
-  uncovered works plans number work NoStep h at bare = absurd bare
-  uncovered works plans number work NoJump h at bare = absurd bare
-  uncovered works plans number work (NoReach bound reach) h at bare = absurd bare
-  uncovered works plans number work (ImageFull len size bound) h at bare = absurd bare
-  uncovered works plans number work Memory h at bare = tt
+  uncovered jobs plans number job NoStep h at bare = absurd bare
+  uncovered jobs plans number job NoJump h at bare = absurd bare
+  uncovered jobs plans number job (NoReach bound reach) h at bare = absurd bare
+  uncovered jobs plans number job (ImageFull len size bound) h at bare = absurd bare
+  uncovered jobs plans number job Memory h at bare = tt
 
 -- ---- costs
 

@@ -11,6 +11,7 @@ use Rattle.form_model.specs.declared.flow.Flow.TheVariants.{Assign, Test as Test
 use Rattle.src_trees.specs.Blocks.{IsAssignBlock, continues, jobs_at}
 use Rattle.src_trees.specs.Lowered.{JobModel}
 use Rattle.block_words.specs.Laws.{operation_in}
+use Rattle.branch_fix.specs.declared.outline.Branch.{Branch}
 use Rattle.branch_fix.specs.declared.laid.Item.{Item}
 use Rattle.branch_fix.specs.declared.laid.Item.TheVariants.{Group, Jump as Turn}
 use Rattle.branch_fix.specs.declared.part.BranchedTest.{BranchedTest}
@@ -125,20 +126,20 @@ pub record IsBlockThere (flow : List Flow) (sizes : List ℕ) (at block size : �
   pub words : size ≡ slice_index sizes (blocks_before flow at)
   pub within : at < length flow
 
-pub record IsTestThere (flow : List Flow) (sizes : List ℕ) (forks : List (ℕ × ℕ)) (at : ℕ) (f : BranchedTest) : Type 0 where
+pub record IsTestThere (flow : List Flow) (sizes : List ℕ) (forks : List Branch) (at : ℕ) (f : BranchedTest) : Type 0 where
   pub when_one : ℕ
   pub when_zero : ℕ
   pub place : slice_get flow at ≡ Some (Tested f.tree when_one when_zero)
   pub number : f.block ≡ blocks_before flow at
   pub words : f.words ≡ slice_index sizes (blocks_before flow at)
-  pub form : f.form ≡ (branch_or_zero (slice_get forks (tests_before flow at))).0
-  pub setting : f.setting ≡ (branch_or_zero (slice_get forks (tests_before flow at))).1
+  pub form : f.form ≡ (branch_or_zero (slice_get forks (tests_before flow at))).form
+  pub setting : f.setting ≡ (branch_or_zero (slice_get forks (tests_before flow at))).setting
   pub within : at < length flow
 
-module _ (rules : List FormModel) (flow : List Flow) (sizes : List ℕ) (forks : List (ℕ × ℕ)) (parts : List LayoutPart) (settled : IsFixpoint rules (parts_of rules flow sizes forks) parts) where
+module _ (forms : List FormModel) (flow : List Flow) (sizes : List ℕ) (forks : List Branch) (parts : List LayoutPart) (settled : IsFixpoint forms (parts_of forms flow sizes forks) parts) where
   pub block_there : (at block size : ℕ) → slice_get parts at ≡ Some (Block block size) → IsBlockThere flow sizes at block size
   block_there at block size e =
-      let h = settled_part rules flow sizes forks parts settled at (Block block size) e in
+      let h = settled_part forms flow sizes forks parts settled at (Block block size) e in
       go h.1.f h.1.place (h.2 ∙ ap shortened h.1.is)
     where
       B : ℕ
@@ -156,15 +157,15 @@ module _ (rules : List FormModel) (flow : List Flow) (sizes : List ℕ) (forks :
       by true e lt = absurd (true_false (ap is_run e))
       by false e lt = record { number = ap (λ p. (block_part p).0) e; words = ap (λ p. (block_part p).1) e; within = lt }
 
-      go : (f : Flow) → slice_get flow at ≡ Some f → Block block size ≡ shortened (part_for rules flow sizes forks f at (blocks_before flow at) (tests_before flow at)) → IsBlockThere flow sizes at block size
+      go : (f : Flow) → slice_get flow at ≡ Some f → Block block size ≡ shortened (part_for forms flow sizes forks f at (blocks_before flow at) (tests_before flow at)) → IsBlockThere flow sizes at block size
       go (Assign tree) place e = by (continues flow at) e (slice_get_within flow at (Assign tree) place)
-      go (Tested tree one none) place e = absurd (no_fork (form_at_one (slice_get rules (branch_or_zero (slice_get forks (tests_before flow at))).0)) tree (branch_or_zero (slice_get forks (tests_before flow at))).0 (branch_or_zero (slice_get forks (tests_before flow at))).1 one none e)
+      go (Tested tree one none) place e = absurd (no_fork (form_at_one (slice_get forms (branch_or_zero (slice_get forks (tests_before flow at))).form)) tree (branch_or_zero (slice_get forks (tests_before flow at))).form (branch_or_zero (slice_get forks (tests_before flow at))).setting one none e)
       go (Jumped to) place e = absurd (true_false (ap is_run e))
       go Ended place e = absurd (true_false (ap is_run e))
 
   pub test_there : (at : ℕ) (f : BranchedTest) → slice_get parts at ≡ Some (Test f) → IsTestThere flow sizes forks at f
   test_there at f e =
-      let h = settled_part rules flow sizes forks parts settled at (Test f) e in
+      let h = settled_part forms flow sizes forks parts settled at (Test f) e in
       go h.1.f h.1.place (h.2 ∙ ap shortened h.1.is)
     where
       short : BranchedTest
@@ -176,8 +177,8 @@ module _ (rules : List FormModel) (flow : List Flow) (sizes : List ℕ) (forks :
 
       by : (b : Bool) (tree one zero : ℕ) → slice_get flow at ≡ Some (Tested tree one zero)
           → Test (record f { long = false }) ≡ shortened (if b
-          then fork_to tree (blocks_before flow at) (slice_index sizes (blocks_before flow at)) (branch_or_zero (slice_get forks (tests_before flow at))).0 (branch_or_zero (slice_get forks (tests_before flow at))).1 at one zero
-          else fork_to tree (blocks_before flow at) (slice_index sizes (blocks_before flow at)) (branch_or_zero (slice_get forks (tests_before flow at))).0 (branch_or_zero (slice_get forks (tests_before flow at))).1 at zero one)
+          then fork_to tree (blocks_before flow at) (slice_index sizes (blocks_before flow at)) (branch_or_zero (slice_get forks (tests_before flow at))).form (branch_or_zero (slice_get forks (tests_before flow at))).setting at one zero
+          else fork_to tree (blocks_before flow at) (slice_index sizes (blocks_before flow at)) (branch_or_zero (slice_get forks (tests_before flow at))).form (branch_or_zero (slice_get forks (tests_before flow at))).setting at zero one)
           → IsTestThere flow sizes forks at f
       by true tree one none place e = record {
         when_one = one;
@@ -200,39 +201,39 @@ module _ (rules : List FormModel) (flow : List Flow) (sizes : List ℕ) (forks :
         within = slice_get_within flow at (Tested tree one none) place;
       }
 
-      go : (g : Flow) → slice_get flow at ≡ Some g → Test (record f { long = false }) ≡ shortened (part_for rules flow sizes forks g at (blocks_before flow at) (tests_before flow at)) → IsTestThere flow sizes forks at f
+      go : (g : Flow) → slice_get flow at ≡ Some g → Test (record f { long = false }) ≡ shortened (part_for forms flow sizes forks g at (blocks_before flow at) (tests_before flow at)) → IsTestThere flow sizes forks at f
       go (Assign tree) place e = absurd (no_run (continues flow at) e)
-      go (Tested tree one none) place e = by (form_at_one (slice_get rules (branch_or_zero (slice_get forks (tests_before flow at))).0)) tree one none place e
+      go (Tested tree one none) place e = by (form_at_one (slice_get forms (branch_or_zero (slice_get forks (tests_before flow at))).form)) tree one none place e
       go (Jumped to) place e = absurd (true_false (ap is_fork e))
       go Ended place e = absurd (true_false (ap is_fork e))
 
 -- ---- the words of blocks and tests, as the image has them
 
-module _ (task : Task) (isas : Isas task.netlist) (flow : List Flow) (works : List JobModel) (plans : List PlanModel) (blocks : List PackedBlock) (branches : List (ℕ × ℕ))
-    (code : IsBlockCode task isas flow works plans (length flow) blocks branches) (parts : List LayoutPart)
-    (settled : IsFixpoint (isas 0).rules (parts_of (isas 0).rules flow (sizes blocks) branches) parts) where
+module _ (task : Task) (isas : Isas task.netlist) (flow : List Flow) (jobs : List JobModel) (plans : List PlanModel) (blocks : List PackedBlock) (branches : List Branch)
+    (code : IsBlockCode task isas flow jobs plans (length flow) blocks branches) (parts : List LayoutPart)
+    (settled : IsFixpoint (isas 0).keeping (parts_of (isas 0).keeping flow (sizes blocks) branches) parts) where
   pub blocks_made : (at n block size : ℕ) → IsAssignBlock flow at n → slice_get parts at ≡ Some (Block block size)
-      → AreBlockCuts task isas (cuts_of (jobs_at flow works at n) (plans_at flow plans at n)) (groups_at blocks block) (words_at blocks block)
+      → AreBlockCuts task isas (cuts_of (jobs_at flow jobs at n) (plans_at flow plans at n)) (groups_at blocks block) (words_at blocks block)
       × (size ≡ length (words_at blocks block))
   blocks_made at n block size run e =
-      let t = block_there (isas 0).rules flow (sizes blocks) branches parts settled at block size e in
-      subst (λ b. AreBlockCuts task isas (cuts_of (jobs_at flow works at n) (plans_at flow plans at n)) (groups_at blocks b) (words_at blocks b) × (size ≡ length (words_at blocks b))) (sym t.number)
+      let t = block_there (isas 0).keeping flow (sizes blocks) branches parts settled at block size e in
+      subst (λ b. AreBlockCuts task isas (cuts_of (jobs_at flow jobs at n) (plans_at flow plans at n)) (groups_at blocks b) (words_at blocks b) × (size ≡ length (words_at blocks b))) (sym t.number)
       ((code.runs at n t.within run).cuts, t.words ∙ sizes_at blocks (blocks_before flow at))
 
-  pub tests_made : (at : ℕ) (f : BranchedTest) → slice_get parts at ≡ Some (Test f) → (job : JobModel) → slice_get works f.tree ≡ Some job → (planned : PlanModel) → slice_get plans f.tree ≡ Some planned
+  pub tests_made : (at : ℕ) (f : BranchedTest) → slice_get parts at ≡ Some (Test f) → (job : JobModel) → slice_get jobs f.tree ≡ Some job → (planned : PlanModel) → slice_get plans f.tree ≡ Some planned
       → AreTestWords (base_at task.netlist 0) task.netlist.special (isas 0).patterns (mode_stock task isas 0) job planned.choice (groups_at blocks f.block) (words_at blocks f.block) f
   tests_made at f e job w planned c =
-      let t = test_there (isas 0).rules flow (sizes blocks) branches parts settled at f e in
+      let t = test_there (isas 0).keeping flow (sizes blocks) branches parts settled at f e in
       let k = code.tests at f.tree t.when_one t.when_zero t.within t.place job planned w c in
       subst (λ b. AreTestWords (base_at task.netlist 0) task.netlist.special (isas 0).patterns (mode_stock task isas 0) job planned.choice (groups_at blocks b) (words_at blocks b) f) (sym t.number)
       (record {
         packing = k.packed.packing;
         least = k.packed.least;
         long = t.words ∙ sizes_at blocks (blocks_before flow at);
-        branch = record { form = ap (slice_get (isas 0).rules) t.form ∙ k.form; setting = t.setting ∙ k.setting };
+        branch = record { form = ap (slice_get (isas 0).keeping) t.form ∙ k.form; setting = t.setting ∙ k.setting };
       })
 
   -- the branches of the layout are those of the covers
-  pub branches_made : (at : ℕ) (f : BranchedTest) → slice_get parts at ≡ Some (Test f) → (job : JobModel) → slice_get works f.tree ≡ Some job → (planned : PlanModel) → slice_get plans f.tree ≡ Some planned
+  pub branches_made : (at : ℕ) (f : BranchedTest) → slice_get parts at ≡ Some (Test f) → (job : JobModel) → slice_get jobs f.tree ≡ Some job → (planned : PlanModel) → slice_get plans f.tree ≡ Some planned
       → IsBranchOf (mode_stock task isas 0) job planned.choice f
   branches_made at f e job w planned c = (tests_made at f e job w planned c).branch

@@ -1,12 +1,15 @@
 -- The set of the register that holds the mode, and words that keep it.
-use Rattle.std.proofs.Common.{◌≡◌, ◌==◌, ◌||◌, ◌^◌, ◌<◌, ◌≤◌, ℕ, Bool, true, false, bit_or, max, length, List, Option, Some, None, refl, sym, ◌∙◌, ap, subst, slice_get, arith}
+use Rattle.std.proofs.Common.{◌≡◌, ◌==◌, ◌||◌, ◌*◌, ◌^◌, ◌<◌, ◌≤◌, ℕ, Fits, w64, Bool, true, false, bit_or, max, length, List, Option, Some, None, refl, sym, ◌∙◌, ap, subst, slice_get, arith}
 use Rattle.std.specs.Int.{bit_at}
 use Rattle.std.specs.Int.Bits.{or_zero_r}
+use Rattle.std.proofs.lemmas.Grind.{common_steps}
 use Rattle.std.proofs.lemmas.Nat.Bits.{bit_at-lt, bit_at_or}
+use Rattle.std.proofs.Math.Pow.{pow_mono}
 use Rattle.net_model.specs.declared.hardware.Netlist.{Netlist}
 use Rattle.net_model.specs.declared.hardware.Storage.{Storage}
 use Rattle.net_model.specs.CheckedRules.{IsMode}
-use Rattle.net_model.specs.ModeRules.{base_at, KeepsModes}
+use Rattle.net_model.specs.Fixed.{mode_count}
+use Rattle.net_model.specs.ModeRules.{base_at, modes_in, KeepsModes}
 use Rattle.net_model.specs.Nets.{IsRegister}
 use Rattle.net_model.proofs.Bases.{base_of}
 use Rattle.net_model.proofs.KeptRules.{few_storages}
@@ -78,6 +81,23 @@ mode_bit netlist keeps = by netlist.special (mode_register netlist netlist.speci
     by : (o : Option ℕ) → IsModeRegister o netlist → HasModeBit o
     by None h = tt
     by (Some mode) h = let lt = register_within netlist.storages mode h in omega (arith, lt, few)
+
+-- it has few of them, so the place of one in a list stands for an offset
+pub few_modes : (netlist : Netlist) → KeepsModes netlist → modes_in netlist ≤ 4
+few_modes netlist keeps = by netlist.special keeps.special
+  where
+    by : (o : Option ℕ) → IsMode netlist o → mode_count o netlist ≤ 4
+    by None h = omega arith
+    by (Some mode) h = let at_most : mode_count (Some mode) netlist ≤ 2 ^ 2 = pow_mono h.1 in at_most
+
+pub mode_offset : (netlist : Netlist) → KeepsModes netlist → (v : ℕ) → v < modes_in netlist → Fits w64 (v * 40)
+mode_offset netlist keeps v lt =
+    let few : modes_in netlist ≤ 4 = few_modes netlist keeps in
+    let below : v < 4 = omega (arith, lt, few) in
+    small v below
+  where
+    small : (n : ℕ) → n < 4 → Fits w64 (n * 40)
+    small n below = grind (arith, common_steps)
 
 pub base_register : (netlist : Netlist) (v : ℕ) → (o : Option ℕ) → IsModeRegister o netlist → IsModeRegister o (base_at netlist v)
 base_register netlist v None h = tt

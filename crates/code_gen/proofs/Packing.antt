@@ -6,9 +6,8 @@ use Rattle.std.proofs.lemmas.List.Sorted.{length_permutation}
 use Rattle.std.specs.List.{AllByRecursion}
 use Rattle.net_model.specs.declared.hardware.Netlist.{Netlist}
 use Rattle.net_model.specs.Patterns.{Pattern}
-use Rattle.sym_expr.specs.declared.pool.Node.{Node}
-use Rattle.transfer_set.specs.Rows.{row_patterns}
-use Rattle.transfer_set.specs.Tables.{PatternTable}
+use Rattle.transfer_set.specs.declared.machine.Machine.{Machine}
+use Rattle.transfer_set.specs.Machines.{machine_netlist, machine_patterns}
 use Rattle.word_fit.specs.Fits.{fits_over}
 use Rattle.word_fit.specs.Groups.{AllHaveWords}
 use Rattle.block_words.specs.Laws.{operation_in}
@@ -64,9 +63,9 @@ lists_ascend groups [] (w ∷ words) h = absurd h
 lists_ascend groups (i ∷ items) [] h = absurd h
 lists_ascend groups (i ∷ items) (w ∷ words) h = (h.0.ascends, lists_ascend groups items words h.1)
 
--- groups that have words by the netlist have them by a table that tells its register file
-pub told_words : (netlist : Netlist) (pool : List Node) (table : PatternTable) (groups : List (List Step)) (after : Regs) → table.file ≡ file_place netlist.storages →
-    AllHaveWords (operation_in netlist (row_patterns pool table.rows)) (fits_over netlist (operation_in netlist (row_patterns pool table.rows))) groups after →
-    HaveWords netlist pool table groups after
-told_words netlist pool table groups after told have =
-    subst (λ (f : Option ℕ). AllHaveWords (operation_of f (row_patterns pool table.rows)) (fits_over netlist (operation_of f (row_patterns pool table.rows))) groups after) (sym told) have
+-- groups that have words by the netlist have them by a machine that tells its register file
+pub told_words : (machine : Machine) (groups : List (List Step)) (after : Regs) → machine.patterns.now.file ≡ file_place (machine_netlist machine).storages →
+    AllHaveWords (operation_in (machine_netlist machine) (machine_patterns machine)) (fits_over (machine_netlist machine) (operation_in (machine_netlist machine) (machine_patterns machine))) groups after →
+    HaveWords machine groups after
+told_words machine groups after told have =
+    subst (λ (f : Option ℕ). AllHaveWords (operation_of f (machine_patterns machine)) (fits_over (machine_netlist machine) (operation_of f (machine_patterns machine))) groups after) (sym told) have

@@ -2,20 +2,21 @@
 use Rattle.std.proofs.Common.{◌≡◌, ℕ, zero, suc, ◌+◌, false, List, [], ◌∷◌, map, Some, slice_get, refl, sym, ap, subst, ◌∙◌, arith}
 use Rattle.form_model.specs.declared.flow.Flow.{Flow}
 use Rattle.form_model.specs.Forms.{FormModel}
+use Rattle.branch_fix.specs.declared.outline.Branch.{Branch}
 use Rattle.branch_fix.specs.declared.part.LayoutPart.{LayoutPart}
 use Rattle.branch_fix.specs.declared.part.LayoutPart.TheVariants.{Block, Inner, Test, Jump, End}
 use Rattle.branch_fix.specs.Parts.{part_for, parts_from, parts_of, room, starts, blocks_before, tests_before}
 use Rattle.branch_fix.specs.Rounds.{IsFixpoint, round, rounds, widened_from}
 
-module _ (rules : List FormModel) (flow : List Flow) (sizes : List ℕ) (forks : List (ℕ × ℕ)) where
+module _ (forms : List FormModel) (flow : List Flow) (sizes : List ℕ) (forks : List Branch) where
   -- a part is what its place makes of the blocks and tests before it
   pub record IsPartOf (at : ℕ) (p : LayoutPart) : Type 0 where
     pub f : Flow
     pub place : slice_get flow at ≡ Some f
-    pub is : p ≡ part_for rules flow sizes forks f at (blocks_before flow at) (tests_before flow at)
+    pub is : p ≡ part_for forms flow sizes forks f at (blocks_before flow at) (tests_before flow at)
 
   part_there : (rest : List Flow) (at : ℕ) → ((j : ℕ) → slice_get rest j ≡ slice_get flow (at + j)) → (k N : ℕ) → N ≡ at + k → (p : LayoutPart)
-      → slice_get (parts_from rules flow sizes forks rest at) k ≡ Some p → IsPartOf N p
+      → slice_get (parts_from forms flow sizes forks rest at) k ≡ Some p → IsPartOf N p
   part_there [] at stand k N e p there = absurd cc
   part_there (f ∷ rest) at stand zero N e p there =
       let here : slice_get flow at ≡ Some f = ap (slice_get flow) (let z : at ≡ at + 0 = omega arith in z) ∙ sym (stand 0) in
@@ -33,17 +34,17 @@ shortened (Test f) = Test (record f { long = false })
 shortened (Jump to) = Jump to
 shortened End = End
 
-widened_short : (rules : List FormModel) (addresses : List ℕ) (at : ℕ) (parts : List LayoutPart) → map shortened (widened_from rules addresses at parts) ≡ map shortened parts
-widened_short rules addresses at [] = refl
-widened_short rules addresses at (Block block words ∷ parts) = ap (λ (ps : List LayoutPart). Block block words ∷ ps) (widened_short rules addresses (at + room (Block block words)) parts)
-widened_short rules addresses at (Inner ∷ parts) = ap (λ (ps : List LayoutPart). Inner ∷ ps) (widened_short rules addresses (at + room Inner) parts)
-widened_short rules addresses at (Test f ∷ parts) = ap (λ (ps : List LayoutPart). shortened (Test f) ∷ ps) (widened_short rules addresses (at + room (Test f)) parts)
-widened_short rules addresses at (Jump to ∷ parts) = ap (λ (ps : List LayoutPart). Jump to ∷ ps) (widened_short rules addresses (at + room (Jump to)) parts)
-widened_short rules addresses at (End ∷ parts) = ap (λ (ps : List LayoutPart). End ∷ ps) (widened_short rules addresses (at + room End) parts)
+widened_short : (forms : List FormModel) (addresses : List ℕ) (at : ℕ) (parts : List LayoutPart) → map shortened (widened_from forms addresses at parts) ≡ map shortened parts
+widened_short forms addresses at [] = refl
+widened_short forms addresses at (Block block words ∷ parts) = ap (λ (ps : List LayoutPart). Block block words ∷ ps) (widened_short forms addresses (at + room (Block block words)) parts)
+widened_short forms addresses at (Inner ∷ parts) = ap (λ (ps : List LayoutPart). Inner ∷ ps) (widened_short forms addresses (at + room Inner) parts)
+widened_short forms addresses at (Test f ∷ parts) = ap (λ (ps : List LayoutPart). shortened (Test f) ∷ ps) (widened_short forms addresses (at + room (Test f)) parts)
+widened_short forms addresses at (Jump to ∷ parts) = ap (λ (ps : List LayoutPart). Jump to ∷ ps) (widened_short forms addresses (at + room (Jump to)) parts)
+widened_short forms addresses at (End ∷ parts) = ap (λ (ps : List LayoutPart). End ∷ ps) (widened_short forms addresses (at + room End) parts)
 
-rounds_short : (rules : List FormModel) (n : ℕ) (parts : List LayoutPart) → map shortened (rounds rules n parts) ≡ map shortened parts
-rounds_short rules zero parts = refl
-rounds_short rules (suc n) parts = rounds_short rules n (round rules parts) ∙ widened_short rules (starts parts) 0 parts
+rounds_short : (forms : List FormModel) (n : ℕ) (parts : List LayoutPart) → map shortened (rounds forms n parts) ≡ map shortened parts
+rounds_short forms zero parts = refl
+rounds_short forms (suc n) parts = rounds_short forms n (round forms parts) ∙ widened_short forms (starts parts) 0 parts
 
 -- what stands at a place of a list of parts of which rounds made another
 before_rounds : (first last : List LayoutPart) → map shortened last ≡ map shortened first → (at : ℕ) (p : LayoutPart) → slice_get last at ≡ Some p → (q : LayoutPart) × (slice_get first at ≡ Some q) × (shortened p ≡ shortened q)
@@ -53,10 +54,10 @@ before_rounds (y ∷ first) [] e at p there = absurd cc
 before_rounds (y ∷ first) (x ∷ last) e zero p there = let same : x ≡ p = cc in let one : shortened x ≡ shortened y = cc in (y, refl, ap shortened (sym same) ∙ one)
 before_rounds (y ∷ first) (x ∷ last) e (suc at) p there = let rest : map shortened last ≡ map shortened first = cc in before_rounds first last rest at p there
 
-module _ (rules : List FormModel) (flow : List Flow) (sizes : List ℕ) (forks : List (ℕ × ℕ)) (parts : List LayoutPart) (settled : IsFixpoint rules (parts_of rules flow sizes forks) parts) where
+module _ (forms : List FormModel) (flow : List Flow) (sizes : List ℕ) (forks : List Branch) (parts : List LayoutPart) (settled : IsFixpoint forms (parts_of forms flow sizes forks) parts) where
   -- what stands at a place of the settled parts, but for the length of its branch
-  pub settled_part : (at : ℕ) (p : LayoutPart) → slice_get parts at ≡ Some p → (q : LayoutPart) × IsPartOf rules flow sizes forks at q × (shortened p ≡ shortened q)
+  pub settled_part : (at : ℕ) (p : LayoutPart) → slice_get parts at ≡ Some p → (q : LayoutPart) × IsPartOf forms flow sizes forks at q × (shortened p ≡ shortened q)
   settled_part at p there =
-      let e : map shortened parts ≡ map shortened (parts_of rules flow sizes forks) = ap (map shortened) settled.made ∙ rounds_short rules settled.count (parts_of rules flow sizes forks) in
-      let h = before_rounds (parts_of rules flow sizes forks) parts e at p there in
-      (h.0, part_there rules flow sizes forks flow 0 (λ j. ap (slice_get flow) (let z : j ≡ 0 + j = omega arith in z)) at at (omega arith) h.0 h.1, h.2)
+      let e : map shortened parts ≡ map shortened (parts_of forms flow sizes forks) = ap (map shortened) settled.made ∙ rounds_short forms settled.count (parts_of forms flow sizes forks) in
+      let h = before_rounds (parts_of forms flow sizes forks) parts e at p there in
+      (h.0, part_there forms flow sizes forks flow 0 (λ j. ap (slice_get flow) (let z : j ≡ 0 + j = omega arith in z)) at at (omega arith) h.0 h.1, h.2)

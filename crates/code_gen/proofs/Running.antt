@@ -22,7 +22,7 @@ use Rattle.compaction.specs.Tables.{KnowsReads}
 use Rattle.emit_seq.specs.Emits.{IsEmitted, branch_of}
 use Rattle.emit_seq.specs.Spares.{wanted}
 use Rattle.emit_seq.specs.declared.emits.Emitted.{Emitted}
-use Rattle.live_sets.specs.Listed.{IsListed}
+use Rattle.live_sets.specs.Listed.{AreListed}
 use Rattle.live_sets.proofs.Kept.{listed_of}
 use Rattle.mode_set.specs.Costs.{PlanModel}
 use Rattle.mode_set.specs.Keeping.{Isas, IsUsable}
@@ -30,7 +30,7 @@ use Rattle.mode_set.specs.ModeWords.{IsModeWord}
 use Rattle.mode_set.specs.Plans.{forms_stock, stock_at}
 use Rattle.src_trees.specs.Blocks.{job_at, jobs_at}
 use Rattle.src_trees.specs.Lowered.{JobModel}
-use Rattle.transfer_set.specs.Ready.{IsReady}
+use Rattle.transfer_set.specs.Machines.{IsReadyFor}
 use Rattle.word_fit.specs.Fits.{fits_over}
 use Rattle.word_fit.specs.Groups.{AllHaveWords}
 use Rattle.right_code.specs.Covered.{mode_stock}
@@ -41,12 +41,12 @@ use Rattle.right_code.specs.Tasks.{Task, task_jobs}
 use Rattle.right_code.proofs.Chosen.{AllMode, own_net}
 use Rattle.right_code.proofs.Right.{run_words_of, test_words_of}
 use Rattle.compaction.specs.declared.packer.PackedBlock.{PackedBlock}
-use Rattle.compaction.specs.declared.machine.Machine.{Machine}
+use Rattle.compaction.specs.declared.machine.KnownMachine.{KnownMachine}
 use Rattle.code_gen.specs.declared.views.Modes.{Modes}
 use Rattle.code_gen.specs.declared.views.Passage.{Passage}
 use Rattle.code_gen.specs.declared.views.PlannedProgram.{PlannedProgram}
 use Rattle.code_gen.specs.Blocks.{IsOnce, IsPackedBlock}
-use Rattle.code_gen.specs.Machines.{machine_netlist, machine_patterns}
+use Rattle.code_gen.specs.Machines.{known_netlist, known_patterns}
 use Rattle.code_gen.specs.Inner.Coded.{AddsCuts, AddsGroups, AddsPacked, AddsRun, AreCutsCoded, HaveWordsIn, IsTestCode, cuts_from, mode_group, no_block}
 use Rattle.code_gen.specs.Inner.Planning.{AreReady, AreReadyAll, IsPassage, IsPlanning, planned_steps, plans_in, jobs_in}
 use Rattle.code_gen.specs.Inner.Registers.{AreConditionReads}
@@ -75,7 +75,7 @@ block_moved n m p q xs ys a b block e f g h packed =
 
 module _ (modes : Modes) (program : PlannedProgram) (task : Task) (isas : Isas task.netlist) (p : IsPlanning modes program task isas) where
   pub even : length (plans_in program) ≡ length (jobs_in program)
-  even = plans_even (mode_stock task isas) (IsUsable task.netlist isas) (task_jobs task) (plans_in program) p.plans ∙ ap (λ (works : List JobModel). length works) (sym p.works)
+  even = plans_even (mode_stock task isas) (IsUsable task.netlist isas) (task_jobs task) (plans_in program) p.plans ∙ ap (λ (jobs : List JobModel). length jobs) (sym p.jobs)
 
   -- the mode alone is live behind a cut
   pub live_is : regs_of (mode_bits modes.special) ≡ with_mode task.netlist.special no_regs
@@ -97,10 +97,10 @@ module _ (modes : Modes) (program : PlannedProgram) (task : Task) (isas : Isas t
 
     pub run_words : HaveWordsIn modes v (planned_steps modes program.temps run_jobs run_plans)
     run_words machine there =
-        words_moved (own_net task isas v) (machine_netlist machine) (isas v).patterns (machine_patterns machine)
+        words_moved (own_net task isas v) (known_netlist machine) (isas v).patterns (known_patterns machine)
         (jobs_steps (mode_stock task isas v) own_jobs (plan_choices own_plans)) (planned_steps modes program.temps run_jobs run_plans) (with_mode task.netlist.special no_regs) (regs_of (mode_bits modes.special))
         (sym (net_is modes program task isas p v machine lt there)) (sym (p.modes.patterns v machine there))
-        ((λ i. jobs_steps (mode_stock task isas v) (jobs_at (sym p.flow i) (sym p.works i) at n) (plan_choices (plans_at (sym p.flow i) (plans_in program) at n))) ∙ sym run_steps) (sym live_is)
+        ((λ i. jobs_steps (mode_stock task isas v) (jobs_at (sym p.flow i) (sym p.jobs i) at n) (plan_choices (plans_at (sym p.flow i) (plans_in program) at n))) ∙ sym run_steps) (sym live_is)
         (run_words_of task p.checked isas (plans_in program) p.plans v at n own_all (with_mode task.netlist.special no_regs) (λ r live. live))
       where
         own_jobs : List JobModel
@@ -113,12 +113,12 @@ module _ (modes : Modes) (program : PlannedProgram) (task : Task) (isas : Isas t
         own_all = subst (λ (flow : List Flow). AllMode v (plans_at flow (plans_in program) at n)) p.flow all
 
     -- what they are packed into is their code
-    pub run_packed : (own : PackedBlock) → ((machine : Machine) → slice_get modes.machines.now v ≡ Some machine → IsPackedBlock (machine_netlist machine) (machine_patterns machine) (planned_steps modes program.temps run_jobs run_plans) (regs_of (mode_bits modes.special)) own)
+    pub run_packed : (own : PackedBlock) → ((machine : KnownMachine) → slice_get modes.machines.now v ≡ Some machine → IsPackedBlock (known_netlist machine) (known_patterns machine) (planned_steps modes program.temps run_jobs run_plans) (regs_of (mode_bits modes.special)) own)
         → AreJobWords (own_net task isas v) task.netlist.special (isas v).patterns (mode_stock task isas v) run_jobs (plan_choices run_plans) own.groups own.words
     run_packed own each =
         let there = machine_there modes program task isas p v lt in
         let block : IsPackedBlock (own_net task isas v) (isas v).patterns (jobs_steps (mode_stock task isas v) run_jobs (plan_choices run_plans)) (with_mode task.netlist.special no_regs) own =
-        block_moved (machine_netlist there.0) (own_net task isas v) (machine_patterns there.0) (isas v).patterns (planned_steps modes program.temps run_jobs run_plans) (jobs_steps (mode_stock task isas v) run_jobs (plan_choices run_plans))
+        block_moved (known_netlist there.0) (own_net task isas v) (known_patterns there.0) (isas v).patterns (planned_steps modes program.temps run_jobs run_plans) (jobs_steps (mode_stock task isas v) run_jobs (plan_choices run_plans))
         (regs_of (mode_bits modes.special)) (with_mode task.netlist.special no_regs) own (net_is modes program task isas p v there.0 lt there.1) (p.modes.patterns v there.0 there.1) run_steps live_is (each there.0 there.1) in
         record { packing = block.packing; least = block.least }
 
@@ -168,42 +168,42 @@ module _ (modes : Modes) (program : PlannedProgram) (task : Task) (isas : Isas t
 
   module _ (number : ℕ) (job : JobModel) (planned : PlanModel) (has_job : slice_get (jobs_in program) number ≡ Some job) (has_plan : slice_get (plans_in program) number ≡ Some planned) (goes : job.destination ≡ tested) where
     own_job : slice_get (task_jobs task) number ≡ Some job
-    own_job = ap (λ (works : List JobModel). slice_get works number) (sym p.works) ∙ has_job
+    own_job = ap (λ (jobs : List JobModel). slice_get jobs number) (sym p.jobs) ∙ has_job
 
     -- its steps are those of a cover by the forms of mode 0
     pub test_steps : job_steps (stock_at modes.forms.now program.temps 0) job planned.choice ≡ job_steps (mode_stock task isas 0) job planned.choice
     test_steps = ap (λ (stock : StockModel). job_steps stock job planned.choice) (stock_is modes program task isas p 0 (some_modes task.netlist))
 
     -- what the branch reads and the mode are live behind them
-    pub test_live : (read : ℕ) → wanted (mode_stock task isas 0) tested (tree_used job planned.choice) planned.choice.plan ≡ regs_of read
-        → regs_of (bit_or read (mode_bits modes.special)) ≡ with_mode task.netlist.special (wanted (mode_stock task isas 0) tested (tree_used job planned.choice) planned.choice.plan)
+    pub test_live : (read : ℕ) → wanted (mode_stock task isas 0) tested (tree_used job planned.choice) planned.choice.cover ≡ regs_of read
+        → regs_of (bit_or read (mode_bits modes.special)) ≡ with_mode task.netlist.special (wanted (mode_stock task isas 0) tested (tree_used job planned.choice) planned.choice.cover)
     test_live read same = mode_with modes.special read ∙ (λ i. with_mode (p.modes.special i) (regs_of read)) ∙ ap (with_mode task.netlist.special) (sym same)
 
-    pub test_words : (live : Regs) → live ≡ with_mode task.netlist.special (wanted (mode_stock task isas 0) tested (tree_used job planned.choice) planned.choice.plan) → (machine : Machine) → slice_get modes.machines.now 0 ≡ Some machine
-        → AllHaveWords (operation_in (machine_netlist machine) (machine_patterns machine)) (fits_over (machine_netlist machine) (operation_in (machine_netlist machine) (machine_patterns machine)))
+    pub test_words : (live : Regs) → live ≡ with_mode task.netlist.special (wanted (mode_stock task isas 0) tested (tree_used job planned.choice) planned.choice.cover) → (machine : KnownMachine) → slice_get modes.machines.now 0 ≡ Some machine
+        → AllHaveWords (operation_in (known_netlist machine) (known_patterns machine)) (fits_over (known_netlist machine) (operation_in (known_netlist machine) (known_patterns machine)))
         (singles (job_steps (stock_at modes.forms.now program.temps 0) job planned.choice)) live
     test_words live same machine there =
-        words_moved (own_net task isas 0) (machine_netlist machine) (isas 0).patterns (machine_patterns machine)
+        words_moved (own_net task isas 0) (known_netlist machine) (isas 0).patterns (known_patterns machine)
         (job_steps (mode_stock task isas 0) job planned.choice) (job_steps (stock_at modes.forms.now program.temps 0) job planned.choice) wants live
         (sym (p.modes.nets 0 machine there)) (sym (p.modes.patterns 0 machine there)) (sym test_steps) (sym same)
         (test_words_of task p.checked isas (plans_in program) p.plans number job planned own_job has_plan goes wants (λ r live. live))
       where
         wants : Regs
-        wants = with_mode task.netlist.special (wanted (mode_stock task isas 0) tested (tree_used job planned.choice) planned.choice.plan)
+        wants = with_mode task.netlist.special (wanted (mode_stock task isas 0) tested (tree_used job planned.choice) planned.choice.cover)
 
-    pub test_packed : (live : Regs) → live ≡ with_mode task.netlist.special (wanted (mode_stock task isas 0) tested (tree_used job planned.choice) planned.choice.plan) → (machine : Machine) → slice_get modes.machines.now 0 ≡ Some machine
-        → (own : PackedBlock) → IsPackedBlock (machine_netlist machine) (machine_patterns machine) (job_steps (stock_at modes.forms.now program.temps 0) job planned.choice) live own
+    pub test_packed : (live : Regs) → live ≡ with_mode task.netlist.special (wanted (mode_stock task isas 0) tested (tree_used job planned.choice) planned.choice.cover) → (machine : KnownMachine) → slice_get modes.machines.now 0 ≡ Some machine
+        → (own : PackedBlock) → IsPackedBlock (known_netlist machine) (known_patterns machine) (job_steps (stock_at modes.forms.now program.temps 0) job planned.choice) live own
         → IsPackedBlock (base_at task.netlist 0) (isas 0).patterns (job_steps (mode_stock task isas 0) job planned.choice)
-        (with_mode task.netlist.special (wanted (mode_stock task isas 0) tested (tree_used job planned.choice) planned.choice.plan)) own
+        (with_mode task.netlist.special (wanted (mode_stock task isas 0) tested (tree_used job planned.choice) planned.choice.cover)) own
     test_packed live same machine there own packed =
-        block_moved (machine_netlist machine) (base_at task.netlist 0) (machine_patterns machine) (isas 0).patterns
+        block_moved (known_netlist machine) (base_at task.netlist 0) (known_patterns machine) (isas 0).patterns
         (job_steps (stock_at modes.forms.now program.temps 0) job planned.choice) (job_steps (mode_stock task isas 0) job planned.choice) live
-        (with_mode task.netlist.special (wanted (mode_stock task isas 0) tested (tree_used job planned.choice) planned.choice.plan)) own
+        (with_mode task.netlist.special (wanted (mode_stock task isas 0) tested (tree_used job planned.choice) planned.choice.cover)) own
         (p.modes.nets 0 machine there) (p.modes.patterns 0 machine there) test_steps same packed
 
     -- what is told of the forms and of the patterns of mode 0, and a set of the registers that the condition of the branch reads
-    module _ (forms : Forms) (machine : Machine) (here : slice_get modes.forms.now 0 ≡ Some forms) (there : slice_get modes.machines.now 0 ≡ Some machine)
-        (n : ℕ) (small : n < 2 ^ 16) (reads : (rule : FormModel) → slice_get (models_of_forms forms.list.items) (root_of planned.choice.plan) ≡ Some rule → AreConditionReads (machine_patterns machine) rule.pattern n)
+    module _ (forms : Forms) (machine : KnownMachine) (here : slice_get modes.forms.now 0 ≡ Some forms) (there : slice_get modes.machines.now 0 ≡ Some machine)
+        (n : ℕ) (small : n < 2 ^ 16) (reads : (form : FormModel) → slice_get (models_of_forms forms.list.items) (root_of planned.choice.cover) ≡ Some form → AreConditionReads (known_patterns machine) form.pattern n)
         (bits : ℕ) (same : bits ≡ mode_bits modes.special) where
       abbrev after : ℕ
       after = bit_or n bits
@@ -211,7 +211,7 @@ module _ (modes : Modes) (program : PlannedProgram) (task : Task) (isas : Isas t
       told : stock_with forms.list.items program.temps forms.file ≡ stock_at modes.forms.now program.temps 0
       told = ap (forms_stock program.temps) (sym here)
 
-      live : regs_of after ≡ with_mode task.netlist.special (wanted (mode_stock task isas 0) tested (tree_used job planned.choice) planned.choice.plan)
+      live : regs_of after ≡ with_mode task.netlist.special (wanted (mode_stock task isas 0) tested (tree_used job planned.choice) planned.choice.cover)
       live = ap (λ k. regs_of (bit_or n k)) same ∙ test_live n (wanted_is modes program task isas p number job planned has_job has_plan goes forms here machine there n small reads)
 
       module _ (e : Emitted) (is : IsEmitted (stock_with forms.list.items program.temps forms.file) job.destination job.trees planned.choice e)
@@ -223,25 +223,25 @@ module _ (modes : Modes) (program : PlannedProgram) (task : Task) (isas : Isas t
         steps =
             listed
             ∙ is.steps
-            ∙ ap (λ t. cover_steps (stock_with forms.list.items program.temps forms.file) job.destination t planned.choice.plan) tree
+            ∙ ap (λ t. cover_steps (stock_with forms.list.items program.temps forms.file) job.destination t planned.choice.cover) tree
             ∙ ap (λ (stock : StockModel). job_steps stock job planned.choice) told
 
-        pub emitted_words : AllHaveWords (operation_in (machine_netlist machine) (machine_patterns machine)) (fits_over (machine_netlist machine) (operation_in (machine_netlist machine) (machine_patterns machine))) (singles list) (regs_of after)
+        pub emitted_words : AllHaveWords (operation_in (known_netlist machine) (known_patterns machine)) (fits_over (known_netlist machine) (operation_in (known_netlist machine) (known_patterns machine))) (singles list) (regs_of after)
         emitted_words =
-            subst (λ (xs : List Step). AllHaveWords (operation_in (machine_netlist machine) (machine_patterns machine)) (fits_over (machine_netlist machine) (operation_in (machine_netlist machine) (machine_patterns machine))) (singles xs) (regs_of after))
+            subst (λ (xs : List Step). AllHaveWords (operation_in (known_netlist machine) (known_patterns machine)) (fits_over (known_netlist machine) (operation_in (known_netlist machine) (known_patterns machine))) (singles xs) (regs_of after))
             (sym steps) (test_words (regs_of after) live machine there)
 
-        pub emitted_code : (block : PackedBlock) → IsPackedBlock (machine_netlist machine) (machine_patterns machine) list (regs_of after) block
-            → IsTestCode task isas job planned block (root_of planned.choice.plan, unwrap_or e.branch 0)
+        pub emitted_code : (block : PackedBlock) → IsPackedBlock (known_netlist machine) (known_patterns machine) list (regs_of after) block
+            → IsTestCode task isas job planned block (record { form = root_of planned.choice.cover; setting = unwrap_or e.branch 0 })
         emitted_code block packed = record {
-          packed = test_packed (regs_of after) live machine there block (subst (λ (xs : List Step). IsPackedBlock (machine_netlist machine) (machine_patterns machine) xs (regs_of after) block) steps packed);
+          packed = test_packed (regs_of after) live machine there block (subst (λ (xs : List Step). IsPackedBlock (known_netlist machine) (known_patterns machine) xs (regs_of after) block) steps packed);
           form =
-              subst (λ v. slice_get (isas v).rules (root_of planned.choice.plan) ≡ Some (cover_form (mode_stock task isas v) planned.choice.plan))
+              subst (λ v. slice_get (isas v).keeping (root_of planned.choice.cover) ≡ Some (cover_form (mode_stock task isas v) planned.choice.cover))
               (test_mode modes program task isas p number job planned has_job has_plan goes) (root_form modes program task isas p number job planned has_job has_plan);
           setting =
-              ap (λ b. unwrap_or b 0) (is.branch ∙ ap (λ d. branch_of (stock_with forms.list.items program.temps forms.file) d is.tree planned.choice.plan) goes)
-              ∙ ap (λ t. branch_setting (stock_with forms.list.items program.temps forms.file) t planned.choice.plan) tree
-              ∙ ap (λ (stock : StockModel). branch_setting stock (tree_used job planned.choice) planned.choice.plan) (told ∙ stock_is modes program task isas p 0 (some_modes task.netlist));
+              ap (λ b. unwrap_or b 0) (is.branch ∙ ap (λ d. branch_of (stock_with forms.list.items program.temps forms.file) d is.tree planned.choice.cover) goes)
+              ∙ ap (λ t. branch_setting (stock_with forms.list.items program.temps forms.file) t planned.choice.cover) tree
+              ∙ ap (λ (stock : StockModel). branch_setting stock (tree_used job planned.choice) planned.choice.cover) (told ∙ stock_is modes program task isas p 0 (some_modes task.netlist));
         }
 
 -- ---- groups and words behind a block
@@ -257,48 +257,48 @@ abbrev pub place_steps : Modes → PlannedProgram → ℕ → ℕ → List Step
 place_steps modes program at count = planned_steps modes program.temps (jobs_at program.flow.now (jobs_in program) at count) (plans_at program.flow.now (plans_in program) at count)
 
 -- each mode has a book
-pub book_within : (machines : List Machine) (books : List Diagrams) (v : ℕ) → AreReadyAll machines books → v < length machines → v < length books
+pub book_within : (machines : List KnownMachine) (books : List Diagrams) (v : ℕ) → AreReadyAll machines books → v < length machines → v < length books
 book_within machines books v ready lt = let many = books_long machines books ready in omega (arith, lt, many)
 
 -- what is known of the machine of a mode in any book
-pub record IsKnown (machine : Machine) : Type 0 where
+pub record IsKnown (machine : KnownMachine) : Type 0 where
   pub reads : KnowsReads machine
-  pub listed : IsListed (machine_netlist machine) machine.pool.now machine.patterns.now
-  pub file : machine.patterns.now.file ≡ file_place (machine_netlist machine).storages
+  pub listed : AreListed machine.machine
+  pub file : machine.machine.patterns.now.file ≡ file_place (known_netlist machine).storages
 
-pub known_at : (modes : Modes) (books : List Diagrams) (v : ℕ) (machine : Machine) → AreReady modes books → v < length modes.machines.now → slice_get modes.machines.now v ≡ Some machine → IsKnown machine
+pub known_at : (modes : Modes) (books : List Diagrams) (v : ℕ) (machine : KnownMachine) → AreReady modes books → v < length modes.machines.now → slice_get modes.machines.now v ≡ Some machine → IsKnown machine
 known_at modes books v machine ready lt at =
     let book = get_there books v (book_within modes.machines.now books v ready lt) in
     let own = ready_at modes.machines.now books v machine book.0 ready at book.1 in
     record {
       reads = own.reads;
-      listed = listed_of (machine_netlist machine) book.0 machine.pool.now machine.patterns.now own.ready;
+      listed = listed_of (known_netlist machine) book.0 machine.machine.pool.now machine.machine.patterns.now own.ready;
       file = own.ready.patterns.file;
     }
 
 -- groups that have words by its patterns have them by its table
-pub known_words : (machine : Machine) → IsKnown machine → (groups : List (List Step)) (live : Regs)
-    → AllHaveWords (operation_in (machine_netlist machine) (machine_patterns machine)) (fits_over (machine_netlist machine) (operation_in (machine_netlist machine) (machine_patterns machine))) groups live
-    → HaveWords (machine_netlist machine) machine.pool.now machine.patterns.now groups live
-known_words machine known groups live have = told_words (machine_netlist machine) machine.pool.now machine.patterns.now groups live known.file have
+pub known_words : (machine : KnownMachine) → IsKnown machine → (groups : List (List Step)) (live : Regs)
+    → AllHaveWords (operation_in (known_netlist machine) (known_patterns machine)) (fits_over (known_netlist machine) (operation_in (known_netlist machine) (known_patterns machine))) groups live
+    → HaveWords machine.machine groups live
+known_words machine known groups live have = told_words machine.machine groups live known.file have
 
 -- steps have words by the patterns of a mode
-pub steps_known : (modes : Modes) (mode : ℕ) (steps : List Step) (machine : Machine) (book : Diagrams) (live : ℕ) → slice_get modes.machines.now mode ≡ Some machine
-    → IsReady (machine_netlist machine) book machine.pool.now machine.patterns.now → live ≡ mode_bits modes.special → HaveWordsIn modes mode steps
-    → HaveWords (machine_netlist machine) machine.pool.now machine.patterns.now (singles steps) (regs_of live)
+pub steps_known : (modes : Modes) (mode : ℕ) (steps : List Step) (machine : KnownMachine) (book : Diagrams) (live : ℕ) → slice_get modes.machines.now mode ≡ Some machine
+    → IsReadyFor machine.machine book → live ≡ mode_bits modes.special → HaveWordsIn modes mode steps
+    → HaveWords machine.machine (singles steps) (regs_of live)
 steps_known modes mode steps machine book live there ready same have =
-    told_words (machine_netlist machine) machine.pool.now machine.patterns.now (singles steps) (regs_of live) ready.patterns.file
-    (subst (λ n. HasWords (machine_netlist machine) (machine_patterns machine) steps (regs_of n)) (sym same) (have machine there))
+    told_words machine.machine (singles steps) (regs_of live) ready.patterns.file
+    (subst (λ n. HasWords (known_netlist machine) (known_patterns machine) steps (regs_of n)) (sym same) (have machine there))
 
 -- steps that were packed by the instruction set of a mode, with the mode live behind them
-pub packed_in : (modes : Modes) (mode : ℕ) (steps : List Step) (old new own : PackedBlock) (machine : Machine) (live : ℕ) → slice_get modes.machines.now mode ≡ Some machine → live ≡ mode_bits modes.special
-    → AddsGroups old new own.groups own.words → IsOnce own → IsPackedBlock (machine_netlist machine) (machine_patterns machine) steps (regs_of live) own → AddsPacked modes mode steps old new
+pub packed_in : (modes : Modes) (mode : ℕ) (steps : List Step) (old new own : PackedBlock) (machine : KnownMachine) (live : ℕ) → slice_get modes.machines.now mode ≡ Some machine → live ≡ mode_bits modes.special
+    → AddsGroups old new own.groups own.words → IsOnce own → IsPackedBlock (known_netlist machine) (known_patterns machine) steps (regs_of live) own → AddsPacked modes mode steps old new
 packed_in modes mode steps old new own machine bits there same adds once packed = record {
   own = own;
   adds = adds;
   once = once;
-  packed = λ other at. subst (λ (m : Machine). IsPackedBlock (machine_netlist m) (machine_patterns m) steps (regs_of (mode_bits modes.special)) own) (same_some machine other (sym there ∙ at))
-      (subst (λ n. IsPackedBlock (machine_netlist machine) (machine_patterns machine) steps (regs_of n) own) same packed);
+  packed = λ other at. subst (λ (m : KnownMachine). IsPackedBlock (known_netlist m) (known_patterns m) steps (regs_of (mode_bits modes.special)) own) (same_some machine other (sym there ∙ at))
+      (subst (λ n. IsPackedBlock (known_netlist machine) (known_patterns machine) steps (regs_of n) own) same packed);
 }
 
 -- a step alone has its pattern once
@@ -339,6 +339,10 @@ module _ (modes : Modes) (program : PlannedProgram) where
 
   -- its mode has a machine, its steps have words of it, and it has a passage
   module _ (task : Task) (isas : Isas task.netlist) (p : IsPlanning modes program task isas) where
+    pub alone_mode : (mode at : ℕ) → 0 < mode → place_mode program at ≡ mode → mode < modes_in task.netlist
+    alone_mode zero at some mode = absurd (omega (arith, some))
+    alone_mode (suc v) at some mode = away_within modes program task isas p at v mode
+
     pub alone_within : (mode at : ℕ) → 0 < mode → place_mode program at ≡ mode → mode < length modes.machines.now
     alone_within zero at some mode = absurd (omega (arith, some))
     alone_within (suc v) at some mode = machine_within modes program task isas p (suc v) (away_within modes program task isas p at v mode)
@@ -429,10 +433,10 @@ module _ (modes : Modes) (program : PlannedProgram) where
         let plans : List PlanModel = plans_at program.flow.now (plans_in program) at 1 in
         let here : slice_get program.flow.now (at + 0) ≡ slice_get program.flow.now at = ap (slice_get program.flow.now) (let z : at + 0 ≡ at = omega arith in z) in
         let one : jobs ≡ own.job ∷ [] = ap (job_at (jobs_in program)) here ∙ own.jobs in
-        let plan : plans ≡ own.planned ∷ [] = ap (plan_at (plans_in program)) here ∙ own.plans in
+        let cover : plans ≡ own.planned ∷ [] = ap (plan_at (plans_in program)) here ∙ own.plans in
         let split =
         cuts_apart at 1 end le
-        ∙ alone_first v jobs plans own.job own.planned (jobs_at program.flow.now (jobs_in program) (at + 1) (end - (at + 1))) (plans_at program.flow.now (plans_in program) (at + 1) (end - (at + 1))) one plan own.mode in
+        ∙ alone_first v jobs plans own.job own.planned (jobs_at program.flow.now (jobs_in program) (at + 1) (end - (at + 1))) (plans_at program.flow.now (plans_in program) (at + 1) (end - (at + 1))) one cover own.mode in
         subst (λ (cuts : List Cut). AreBlockCuts task isas cuts (a.groups ++ later) (a.words ++ rest)) (sym split)
         (alone_words task isas (suc v) jobs (plan_choices plans) own.job (cuts_from program (at + 1) end) a.groups later a.words rest one (a.cut task isas p) more));
   }

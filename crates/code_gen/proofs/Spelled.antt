@@ -16,12 +16,12 @@ use Rattle.respell.proofs.RespelledPrograms.{program_told}
 use Rattle.right_code.specs.Covered.{mode_stock}
 use Rattle.right_code.specs.Jobs.{HasOne}
 use Rattle.right_code.specs.Tasks.{HasJobs, IsChecked, Task, task_memory, task_temps}
-use Rattle.right_code.specs.Works.{AllOne, AreFlowJobs, IsStoringJob, IsTestJob, node_limit}
+use Rattle.right_code.specs.FlowJobs.{AllOne, AreFlowJobs, IsStoringJob, IsTestJob, node_limit}
 use Rattle.right_code.proofs.Inside.{get_there}
 use Rattle.code_model.specs.declared.image.Image.{Image}
 use Rattle.code_model.specs.declared.image.Places.{Places}
 use Rattle.code_model.specs.Right.{TracesRight}
-use Rattle.compaction.specs.declared.machine.Machine.{Machine}
+use Rattle.compaction.specs.declared.machine.KnownMachine.{KnownMachine}
 use Rattle.form_model.specs.declared.flow.Blocks.{Blocks}
 use Rattle.mode_set.specs.Plans.{UsableAt, stock_at}
 use Rattle.net_model.specs.declared.hardware.Netlist.{Netlist}
@@ -36,7 +36,7 @@ use Rattle.code_gen.specs.Inner.Spelling.{AreBlocksIn, IsSpelledAs, IsSpelledFau
 use Rattle.code_gen.specs.Refusals.{HasSteps, IsCodeFault, IsFormless, IsJumpless, IsStepless}
 use Rattle.code_gen.specs.declared.fault.CodeFault.{CodeFault}
 use Rattle.code_gen.specs.declared.fault.CodeFault.TheVariants.{NoStep, NoJump, NoCover, NoReach, ImageFull, Memory}
-use Rattle.code_gen.specs.Machines.{machine_netlist}
+use Rattle.code_gen.specs.Machines.{known_netlist}
 use Rattle.code_gen.specs.Spelled.{IsPlain, IsRightByEqualTrees, IsSpelledTask, IsTunedFault, with_jobs}
 use Rattle.code_gen.specs.declared.spelling.Spelling.{Spelling}
 use Rattle.code_gen.specs.declared.spelling.Spelling.TheVariants.{Own, Equal}
@@ -59,15 +59,15 @@ module _ (task : Task) (checked : IsChecked task) (plain : IsPlain task) (spelle
   stands t a b (inl kept) = inl kept
   stands t a b (inr gain) = inr gain.respelled
 
-  are_respelled : AreRespelled width s.turned task.works s.works
+  are_respelled : AreRespelled width s.turned task.jobs s.jobs
   are_respelled = record { count = s.are.count; each = λ k a b ea eb. stands (s.turned k) a b (s.are.each k a b ea eb) }
 
   -- the job of a number, and what stands for it
-  other_at : (k : ℕ) (a : JobModel) → slice_get task.works k ≡ Some a → (b : JobModel) × (slice_get s.works k ≡ Some b)
-  other_at k a e = let within = slice_get_within task.works k a e in let same = s.are.count in get_there s.works k (omega (arith, within, same))
+  other_at : (k : ℕ) (a : JobModel) → slice_get task.jobs k ≡ Some a → (b : JobModel) × (slice_get s.jobs k ≡ Some b)
+  other_at k a e = let within = slice_get_within task.jobs k a e in let same = s.are.count in get_there s.jobs k (omega (arith, within, same))
 
-  own_at : (k : ℕ) (b : JobModel) → slice_get s.works k ≡ Some b → (a : JobModel) × (slice_get task.works k ≡ Some a)
-  own_at k b e = let within = slice_get_within s.works k b e in let same = s.are.count in get_there task.works k (omega (arith, within, same))
+  own_at : (k : ℕ) (b : JobModel) → slice_get s.jobs k ≡ Some b → (a : JobModel) × (slice_get task.jobs k ≡ Some a)
+  own_at k b e = let within = slice_get_within s.jobs k b e in let same = s.are.count in get_there task.jobs k (omega (arith, within, same))
 
   -- ---- destinations
 
@@ -142,27 +142,27 @@ module _ (task : Task) (checked : IsChecked task) (plain : IsPlain task) (spelle
   all_small k [] (b ∷ new) h o = absurd (let e = h.0 in omega (arith, e))
   all_small k (a ∷ old) (b ∷ new) h o = (small_kept k a b (first k a b old new h) o.0, all_small (suc k) old new (later k a b old new h) o.1)
 
-  whole : Standing 0 task.works s.works
+  whole : Standing 0 task.jobs s.jobs
   whole = (s.are.count, λ j a b ea eb. subst (λ n. Stays n a b) (omega arith) (s.are.each j a b ea eb))
 
   -- ---- the flow
 
-  storing : (tree : ℕ) → IsStoringJob task.works tree → IsStoringJob s.works tree
+  storing : (tree : ℕ) → IsStoringJob task.jobs tree → IsStoringJob s.jobs tree
   storing tree j =
-      let o = other_at tree j.work j.at in
-      record { work = o.0; at = o.1; destination = storing_kept tree j.work o.0 (s.are.each tree j.work o.0 j.at o.1) j.destination }
+      let o = other_at tree j.job j.at in
+      record { job = o.0; at = o.1; destination = storing_kept tree j.job o.0 (s.are.each tree j.job o.0 j.at o.1) j.destination }
 
-  testing : (tree : ℕ) → IsTestJob task.works tree → IsTestJob s.works tree
+  testing : (tree : ℕ) → IsTestJob task.jobs tree → IsTestJob s.jobs tree
   testing tree j =
-      let o = other_at tree j.work j.at in
-      record { work = o.0; at = o.1; destination = tested_kept tree j.work o.0 (s.are.each tree j.work o.0 j.at o.1) j.destination }
+      let o = other_at tree j.job j.at in
+      record { job = o.0; at = o.1; destination = tested_kept tree j.job o.0 (s.are.each tree j.job o.0 j.at o.1) j.destination }
 
-  turned_test : (b : Bool) (tree one none : ℕ) (rest : List Flow) → IsTestJob s.works tree → AreFlowJobs s.works rest
-      → AreFlowJobs s.works ((if b then Tested tree none one else Tested tree one none) ∷ rest)
+  turned_test : (b : Bool) (tree one none : ℕ) (rest : List Flow) → IsTestJob s.jobs tree → AreFlowJobs s.jobs rest
+      → AreFlowJobs s.jobs ((if b then Tested tree none one else Tested tree one none) ∷ rest)
   turned_test true tree one none rest j h = (j, h)
   turned_test false tree one none rest j h = (j, h)
 
-  flow_jobs : (flow : List Flow) → AreFlowJobs task.works flow → AreFlowJobs s.works (turned_flow s.turned flow)
+  flow_jobs : (flow : List Flow) → AreFlowJobs task.jobs flow → AreFlowJobs s.jobs (turned_flow s.turned flow)
   flow_jobs [] h = tt
   flow_jobs (Assign tree ∷ rest) h = (storing tree h.0, flow_jobs rest h.1)
   flow_jobs (Tested tree one none ∷ rest) h = turned_test (s.turned tree) tree one none (turned_flow s.turned rest) (testing tree h.0) (flow_jobs rest h.1)
@@ -175,9 +175,9 @@ module _ (task : Task) (checked : IsChecked task) (plain : IsPlain task) (spelle
   not_turned k a b true (inr gain) not = absurd (not gain.respelled.spelled.0)
   not_turned k a b false (inr gain) not = refl
 
-  assign_job : (flow : List Flow) (at tree : ℕ) → AreFlowJobs task.works flow → slice_get flow at ≡ Some (Assign tree) → IsStoringJob task.works tree
+  assign_job : (flow : List Flow) (at tree : ℕ) → AreFlowJobs task.jobs flow → slice_get flow at ≡ Some (Assign tree) → IsStoringJob task.jobs tree
   assign_job [] at tree h e = absurd (cc e)
-  assign_job (Assign t ∷ rest) zero tree h e = subst (IsStoringJob task.works) (same t tree e) h.0
+  assign_job (Assign t ∷ rest) zero tree h e = subst (IsStoringJob task.jobs) (same t tree e) h.0
     where
       same : (x y : ℕ) → Some (Assign x) ≡ Some (Assign y) → x ≡ y
       same x y e = cc
@@ -192,23 +192,23 @@ module _ (task : Task) (checked : IsChecked task) (plain : IsPlain task) (spelle
   only : TurnsTests s.turned task.flow
   only at tree e =
       let j = assign_job task.flow at tree checked.jobs.tests e in
-      let o = other_at tree j.work j.at in
-      not_turned tree j.work o.0 (s.turned tree) (s.are.each tree j.work o.0 j.at o.1) j.destination
+      let o = other_at tree j.job j.at in
+      not_turned tree j.job o.0 (s.turned tree) (s.are.each tree j.job o.0 j.at o.1) j.destination
 
   -- ---- the task
 
-  spelled_jobs : HasJobs (with_jobs task (turned_flow s.turned task.flow) s.works)
+  spelled_jobs : HasJobs (with_jobs task (turned_flow s.turned task.flow) s.jobs)
   spelled_jobs = record {
     held = checked.jobs.held;
     room = checked.jobs.room;
     turned = s.turned;
     only = subst (TurnsTests s.turned) plain.flow only;
     flow = ap (turned_flow s.turned) plain.flow;
-    meant = program_told (task_memory task) temps task.listing s.turned task.works s.works are_respelled plain.meant;
+    meant = program_told (task_memory task) temps task.program s.turned task.jobs s.jobs are_respelled plain.meant;
     count = s.are.count ∙ checked.jobs.count;
-    one = all_one 0 task.works s.works whole checked.jobs.one;
+    one = all_one 0 task.jobs s.jobs whole checked.jobs.one;
     tests = flow_jobs task.flow checked.jobs.tests;
-    small = all_small 0 task.works s.works whole checked.jobs.small;
+    small = all_small 0 task.jobs s.jobs whole checked.jobs.small;
   }
 
   pub spelled_checked : IsChecked spelled
@@ -219,8 +219,8 @@ module _ (task : Task) (checked : IsChecked task) (plain : IsPlain task) (spelle
 -- ---- coded
 
 -- what the code is told of a netlist doesn't speak of the jobs
-told_with : (modes : Modes) (marks : List Bool) (task : Task) (flow : List Flow) (works : List JobModel) → HasModes modes marks task → HasModes modes marks (with_jobs task flow works)
-told_with modes marks task flow works h = record {
+told_with : (modes : Modes) (marks : List Bool) (task : Task) (flow : List Flow) (jobs : List JobModel) → HasModes modes marks task → HasModes modes marks (with_jobs task flow jobs)
+told_with modes marks task flow jobs h = record {
   isas = h.isas;
   are = record {
     special = h.are.special;
@@ -239,7 +239,7 @@ told_with modes marks task flow works h = record {
 
 module _ (modes : Modes) (usable : List Bool) (places : Places) (blocks other : Blocks) (task : Task) (coded : IsCodedIn modes usable places blocks task) where
   -- the cells have a word's width
-  cell_is : (machine : Machine) → slice_get modes.machines.now 0 ≡ Some machine → memory_width (machine_netlist machine).storages ≡ task.width
+  cell_is : (machine : KnownMachine) → slice_get modes.machines.now 0 ≡ Some machine → memory_width (known_netlist machine).storages ≡ task.width
   cell_is machine at =
       ap (λ (n : Netlist). memory_width n.storages) (coded.told.are.nets 0 machine at)
       ∙ ap memory_width (base_of task.netlist task.netlist.special 0).storages ∙ coded.checked.words
@@ -247,31 +247,31 @@ module _ (modes : Modes) (usable : List Bool) (places : Places) (blocks other : 
   equal_spelled : IsPlain task → AreBlocksIn Equal modes usable places.temps blocks other → (spelled : Task) × IsSpelledTask task spelled × IsCodedIn modes usable places other spelled
   equal_spelled plain (turned, machine, at, are, flow) =
       let isas = coded.told.isas in
-      let works = models_of_jobs other.jobs.items in
-      let by_places = subst (λ n. AreSpelled (stock_at modes.forms.now places.temps) (UsableAt usable) n places.temps node_limit turned (models_of_jobs blocks.jobs.items) works) (cell_is machine at) are in
+      let jobs = models_of_jobs other.jobs.items in
+      let by_places = subst (λ n. AreSpelled (stock_at modes.forms.now places.temps) (UsableAt usable) n places.temps node_limit turned (models_of_jobs blocks.jobs.items) jobs) (cell_is machine at) are in
       let by_forms =
       spelled_along (stock_at modes.forms.now places.temps) (mode_stock task isas) (UsableAt usable) (IsUsable task.netlist isas) (λ v. (coded.told.usable v).0) (λ v. (coded.told.usable v).1)
       (λ v can. told_stock modes task isas coded.told.are places.temps coded.placed.temps v (can_within task.netlist (λ u. (isas u).all) v ((coded.told.usable v).0 can)))
-      task.width places.temps node_limit turned (models_of_jobs blocks.jobs.items) works by_places in
+      task.width places.temps node_limit turned (models_of_jobs blocks.jobs.items) jobs by_places in
       let by_task =
-      subst (λ n. AreSpelled (mode_stock task isas) (IsUsable task.netlist isas) task.width n node_limit turned (models_of_jobs blocks.jobs.items) works) coded.placed.temps by_forms in
-      let is : IsSpelledTask task (with_jobs task (turned_flow turned task.flow) works) = record {
+      subst (λ n. AreSpelled (mode_stock task isas) (IsUsable task.netlist isas) task.width n node_limit turned (models_of_jobs blocks.jobs.items) jobs) coded.placed.temps by_forms in
+      let is : IsSpelledTask task (with_jobs task (turned_flow turned task.flow) jobs) = record {
         isas = isas;
         turned = turned;
-        works = works;
-        are = subst (λ (ws : List JobModel). AreSpelled (mode_stock task isas) (IsUsable task.netlist isas) task.width (task_temps task) node_limit turned ws works) coded.works by_task;
+        jobs = jobs;
+        are = subst (λ (ws : List JobModel). AreSpelled (mode_stock task isas) (IsUsable task.netlist isas) task.width (task_temps task) node_limit turned ws jobs) coded.jobs by_task;
         is = refl;
       } in (
-        with_jobs task (turned_flow turned task.flow) works,
+        with_jobs task (turned_flow turned task.flow) jobs,
         is,
         record {
-          told = told_with modes usable task (turned_flow turned task.flow) works coded.told;
+          told = told_with modes usable task (turned_flow turned task.flow) jobs coded.told;
           steps = coded.steps;
           jumps = coded.jumps;
-          checked = spelled_checked task coded.checked plain (with_jobs task (turned_flow turned task.flow) works) is;
+          checked = spelled_checked task coded.checked plain (with_jobs task (turned_flow turned task.flow) jobs) is;
           placed = record { temps = coded.placed.temps; list = coded.placed.list };
           flow = flow ∙ ap (turned_flow turned) coded.flow;
-          works = refl;
+          jobs = refl;
         },
       )
 
@@ -291,7 +291,7 @@ right_by_equal task spelled image is right = record {
   spelled = spelled;
   is = is;
   made = right.made;
-  traces = subst (λ (t : Task). TracesRight t.netlist image (strace t.width t.listing)) is.is right.traces;
+  traces = subst (λ (t : Task). TracesRight t.netlist image (strace t.width t.program)) is.is right.traces;
 }
 
 -- ---- refusals

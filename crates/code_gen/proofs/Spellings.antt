@@ -58,11 +58,11 @@ module _ (stock : ℕ → StockModel) (Usable : ℕ → Type 0) (width temps nod
 -- ---- by forms that are the same
 
 module _ (a b : ℕ → StockModel) (A B : ℕ → Type 0) (to : (v : ℕ) → A v → B v) (back : (v : ℕ) → B v → A v) (same : (v : ℕ) → A v → a v ≡ b v) where
-  cost_along : (work : JobModel) (cost : ℕ) → HasCost a A work cost → HasCost b B work cost
-  cost_along work cost h = record { planned = h.planned; is = planned_along a b A B to back same work.destination work.trees h.planned h.is; costs = h.costs }
+  cost_along : (job : JobModel) (cost : ℕ) → HasCost a A job cost → HasCost b B job cost
+  cost_along job cost h = record { planned = h.planned; is = planned_along a b A B to back same job.destination job.trees h.planned h.is; costs = h.costs }
 
-  cost_back : (work : JobModel) (cost : ℕ) → HasCost b B work cost → HasCost a A work cost
-  cost_back work cost h = record { planned = h.planned; is = planned_along b a B A back to (λ v u. sym (same v (back v u))) work.destination work.trees h.planned h.is; costs = h.costs }
+  cost_back : (job : JobModel) (cost : ℕ) → HasCost b B job cost → HasCost a A job cost
+  cost_back job cost h = record { planned = h.planned; is = planned_along b a B A back to (λ v u. sym (same v (back v u))) job.destination job.trees h.planned h.is; costs = h.costs }
 
   gain_along : (width temps nodes : ℕ) (turned : Bool) (old new : JobModel) → IsGain a A width temps nodes turned old new → IsGain b B width temps nodes turned old new
   gain_along width temps nodes turned old new g = record {

@@ -19,35 +19,35 @@ use Rattle.code_gen.specs.Inner.Planning.{steps_in}
 
 module _ (stock : ℕ → StockModel) (Usable : ℕ → Type 0) where
   -- the plan of a job
-  pub planned_at : (works : List JobModel) (plans : List PlanModel) (k : ℕ) (job : JobModel) (planned : PlanModel) → AllPlanned stock Usable works plans → slice_get works k ≡ Some job → slice_get plans k ≡ Some planned
+  pub planned_at : (jobs : List JobModel) (plans : List PlanModel) (k : ℕ) (job : JobModel) (planned : PlanModel) → AllPlanned stock Usable jobs plans → slice_get jobs k ≡ Some job → slice_get plans k ≡ Some planned
       → IsPlanned stock Usable job.destination job.trees planned
   planned_at [] plans k job planned all e f = absurd (cc)
-  planned_at (w ∷ works) [] k job planned all e f = absurd all
-  planned_at (w ∷ works) (x ∷ plans) zero job planned all e f =
+  planned_at (w ∷ jobs) [] k job planned all e f = absurd all
+  planned_at (w ∷ jobs) (x ∷ plans) zero job planned all e f =
       let same : w ≡ job = cc in
       let also : x ≡ planned = cc in
       subst (λ (j : JobModel). IsPlanned stock Usable j.destination j.trees planned) same (subst (λ y. IsPlanned stock Usable w.destination w.trees y) also all.0)
-  planned_at (w ∷ works) (x ∷ plans) (suc k) job planned all e f = planned_at works plans k job planned all.1 e f
+  planned_at (w ∷ jobs) (x ∷ plans) (suc k) job planned all e f = planned_at jobs plans k job planned all.1 e f
 
   -- each job has one, and there are no others
-  pub plans_even : (works : List JobModel) (plans : List PlanModel) → AllPlanned stock Usable works plans → length plans ≡ length works
+  pub plans_even : (jobs : List JobModel) (plans : List PlanModel) → AllPlanned stock Usable jobs plans → length plans ≡ length jobs
   plans_even [] [] all = refl
   plans_even [] (x ∷ plans) all = absurd all
-  plans_even (w ∷ works) [] all = absurd all
-  plans_even (w ∷ works) (x ∷ plans) all = ap suc (plans_even works plans all.1)
+  plans_even (w ∷ jobs) [] all = absurd all
+  plans_even (w ∷ jobs) (x ∷ plans) all = ap suc (plans_even jobs plans all.1)
 
-  pub plan_there : (works : List JobModel) (plans : List PlanModel) (k : ℕ) (job : JobModel) → AllPlanned stock Usable works plans → slice_get works k ≡ Some job → (planned : PlanModel) × (slice_get plans k ≡ Some planned)
+  pub plan_there : (jobs : List JobModel) (plans : List PlanModel) (k : ℕ) (job : JobModel) → AllPlanned stock Usable jobs plans → slice_get jobs k ≡ Some job → (planned : PlanModel) × (slice_get plans k ≡ Some planned)
   plan_there [] plans k job all e = absurd (cc)
-  plan_there (w ∷ works) [] k job all e = absurd all
-  plan_there (w ∷ works) (x ∷ plans) zero job all e = (x, refl)
-  plan_there (w ∷ works) (x ∷ plans) (suc k) job all e = plan_there works plans k job all.1 e
+  plan_there (w ∷ jobs) [] k job all e = absurd all
+  plan_there (w ∷ jobs) (x ∷ plans) zero job all e = (x, refl)
+  plan_there (w ∷ jobs) (x ∷ plans) (suc k) job all e = plan_there jobs plans k job all.1 e
 
-  pub job_there : (works : List JobModel) (plans : List PlanModel) (k : ℕ) (planned : PlanModel) → AllPlanned stock Usable works plans → slice_get plans k ≡ Some planned → (job : JobModel) × (slice_get works k ≡ Some job)
+  pub job_there : (jobs : List JobModel) (plans : List PlanModel) (k : ℕ) (planned : PlanModel) → AllPlanned stock Usable jobs plans → slice_get plans k ≡ Some planned → (job : JobModel) × (slice_get jobs k ≡ Some job)
   job_there [] [] k planned all e = absurd (cc)
   job_there [] (x ∷ plans) k planned all e = absurd all
-  job_there (w ∷ works) [] k planned all e = absurd all
-  job_there (w ∷ works) (x ∷ plans) zero planned all e = (w, refl)
-  job_there (w ∷ works) (x ∷ plans) (suc k) planned all e = job_there works plans k planned all.1 e
+  job_there (w ∷ jobs) [] k planned all e = absurd all
+  job_there (w ∷ jobs) (x ∷ plans) zero planned all e = (w, refl)
+  job_there (w ∷ jobs) (x ∷ plans) (suc k) planned all e = job_there jobs plans k planned all.1 e
 
 -- ---- one job
 
@@ -57,39 +57,39 @@ module _ (stock : ℕ → StockModel) where
   no_plans (job ∷ jobs) = refl
 
   -- no job of this number, or no plan
-  pub jobless : (works : List JobModel) (plans : List PlanModel) (tree : ℕ) (steps : List Step) → length works ≤ tree
-      → steps ≡ steps ++ steps_in stock (job_list (slice_get works tree)) (plans_of (slice_get plans tree))
-  jobless works plans tree steps le =
-      sym (append-nil steps) ∙ ap (λ (o : Option JobModel). steps ++ steps_in stock (job_list o) (plans_of (slice_get plans tree))) (sym (slice_get_past works tree le))
+  pub jobless : (jobs : List JobModel) (plans : List PlanModel) (tree : ℕ) (steps : List Step) → length jobs ≤ tree
+      → steps ≡ steps ++ steps_in stock (job_list (slice_get jobs tree)) (plans_of (slice_get plans tree))
+  jobless jobs plans tree steps le =
+      sym (append-nil steps) ∙ ap (λ (o : Option JobModel). steps ++ steps_in stock (job_list o) (plans_of (slice_get plans tree))) (sym (slice_get_past jobs tree le))
 
-  pub planless : (works : List JobModel) (plans : List PlanModel) (tree : ℕ) (steps : List Step) → length plans ≤ tree
-      → steps ≡ steps ++ steps_in stock (job_list (slice_get works tree)) (plans_of (slice_get plans tree))
-  planless works plans tree steps le =
+  pub planless : (jobs : List JobModel) (plans : List PlanModel) (tree : ℕ) (steps : List Step) → length plans ≤ tree
+      → steps ≡ steps ++ steps_in stock (job_list (slice_get jobs tree)) (plans_of (slice_get plans tree))
+  planless jobs plans tree steps le =
       sym (append-nil steps)
-      ∙ ap (λ (more : List Step). steps ++ more) (sym (no_plans (job_list (slice_get works tree))))
-      ∙ ap (λ (o : Option PlanModel). steps ++ steps_in stock (job_list (slice_get works tree)) (plans_of o)) (sym (slice_get_past plans tree le))
+      ∙ ap (λ (more : List Step). steps ++ more) (sym (no_plans (job_list (slice_get jobs tree))))
+      ∙ ap (λ (o : Option PlanModel). steps ++ steps_in stock (job_list (slice_get jobs tree)) (plans_of o)) (sym (slice_get_past plans tree le))
 
   -- the steps of the cover of a job
-  pub covered_steps : (works : List JobModel) (plans : List PlanModel) (k : ℕ) (job : JobModel) (planned : PlanModel) (tree : ExprModel) (steps : List Step) → slice_get works k ≡ Some job → slice_get plans k ≡ Some planned
-      → slice_get job.trees planned.choice.which ≡ Some tree → steps ≡ cover_steps (stock planned.mode) job.destination tree planned.choice.plan
-      → steps ≡ steps_in stock (job_list (slice_get works k)) (plans_of (slice_get plans k))
-  covered_steps works plans k job planned tree steps has covers used are =
-      are ∙ ap (λ (o : Option ExprModel). cover_steps (stock planned.mode) job.destination (tree_or_none o) planned.choice.plan) (sym used)
+  pub covered_steps : (jobs : List JobModel) (plans : List PlanModel) (k : ℕ) (job : JobModel) (planned : PlanModel) (tree : ExprModel) (steps : List Step) → slice_get jobs k ≡ Some job → slice_get plans k ≡ Some planned
+      → slice_get job.trees planned.choice.which ≡ Some tree → steps ≡ cover_steps (stock planned.mode) job.destination tree planned.choice.cover
+      → steps ≡ steps_in stock (job_list (slice_get jobs k)) (plans_of (slice_get plans k))
+  covered_steps jobs plans k job planned tree steps has covers used are =
+      are ∙ ap (λ (o : Option ExprModel). cover_steps (stock planned.mode) job.destination (tree_or_none o) planned.choice.cover) (sym used)
       ∙ sym (append-nil (job_steps (stock planned.mode) job planned.choice))
       ∙ ap (λ (o : Option JobModel). steps_in stock (job_list o) (planned ∷ [])) (sym has)
-      ∙ ap (λ (o : Option PlanModel). steps_in stock (job_list (slice_get works k)) (plans_of o)) (sym covers)
+      ∙ ap (λ (o : Option PlanModel). steps_in stock (job_list (slice_get jobs k)) (plans_of o)) (sym covers)
 
   -- where no assignment stands there are no steps
-  pub placeless : (works : List JobModel) (plans : List PlanModel) (flow : List Flow) (at : ℕ) (steps : List Step) → length flow ≤ at
-      → steps ≡ steps ++ steps_in stock (job_at works (slice_get flow at)) (plan_at plans (slice_get flow at))
-  placeless works plans flow at steps le =
-      sym (append-nil steps) ∙ ap (λ (o : Option Flow). steps ++ steps_in stock (job_at works o) (plan_at plans o)) (sym (slice_get_past flow at le))
+  pub placeless : (jobs : List JobModel) (plans : List PlanModel) (flow : List Flow) (at : ℕ) (steps : List Step) → length flow ≤ at
+      → steps ≡ steps ++ steps_in stock (job_at jobs (slice_get flow at)) (plan_at plans (slice_get flow at))
+  placeless jobs plans flow at steps le =
+      sym (append-nil steps) ∙ ap (λ (o : Option Flow). steps ++ steps_in stock (job_at jobs o) (plan_at plans o)) (sym (slice_get_past flow at le))
 
-  pub unassigned : (works : List JobModel) (plans : List PlanModel) (o : Option Flow) (f : Flow) (steps : List Step) → o ≡ Some f → ((tree : ℕ) → f ≡ Assign tree → ⊥)
-      → steps ≡ steps ++ steps_in stock (job_at works o) (plan_at plans o)
-  unassigned works plans o f steps at none = by f none ∙ ap (λ (p : Option Flow). steps ++ steps_in stock (job_at works p) (plan_at plans p)) (sym at)
+  pub unassigned : (jobs : List JobModel) (plans : List PlanModel) (o : Option Flow) (f : Flow) (steps : List Step) → o ≡ Some f → ((tree : ℕ) → f ≡ Assign tree → ⊥)
+      → steps ≡ steps ++ steps_in stock (job_at jobs o) (plan_at plans o)
+  unassigned jobs plans o f steps at none = by f none ∙ ap (λ (p : Option Flow). steps ++ steps_in stock (job_at jobs p) (plan_at plans p)) (sym at)
     where
-      by : (g : Flow) → ((tree : ℕ) → g ≡ Assign tree → ⊥) → steps ≡ steps ++ steps_in stock (job_at works (Some g)) (plan_at plans (Some g))
+      by : (g : Flow) → ((tree : ℕ) → g ≡ Assign tree → ⊥) → steps ≡ steps ++ steps_in stock (job_at jobs (Some g)) (plan_at plans (Some g))
       by (Assign tree) no_tree = absurd (no_tree tree refl)
       by (Test tree one none) no_tree = sym (append-nil steps)
       by (Jump to) no_tree = sym (append-nil steps)
@@ -105,38 +105,38 @@ module _ (stock : ℕ → StockModel) where
       ap (λ (more : List Step). job_steps (stock p.mode) x p.choice ++ more) (steps_on xs ys ps qs (omega arith))
       ∙ sym (append_assoc (job_steps (stock p.mode) x p.choice) (steps_in stock xs ps) (steps_in stock ys qs))
 
-even_at : (works : List JobModel) (plans : List PlanModel) (k : ℕ) → length plans ≡ length works → length (plans_of (slice_get plans k)) ≡ length (job_list (slice_get works k))
+even_at : (jobs : List JobModel) (plans : List PlanModel) (k : ℕ) → length plans ≡ length jobs → length (plans_of (slice_get plans k)) ≡ length (job_list (slice_get jobs k))
 even_at [] [] k e = refl
 even_at [] (p ∷ plans) k e = absurd (omega arith)
-even_at (x ∷ works) [] k e = absurd (omega arith)
-even_at (x ∷ works) (p ∷ plans) zero e = refl
-even_at (x ∷ works) (p ∷ plans) (suc k) e = even_at works plans k (omega arith)
+even_at (x ∷ jobs) [] k e = absurd (omega arith)
+even_at (x ∷ jobs) (p ∷ plans) zero e = refl
+even_at (x ∷ jobs) (p ∷ plans) (suc k) e = even_at jobs plans k (omega arith)
 
-module _ (works : List JobModel) (plans : List PlanModel) (even : length plans ≡ length works) where
-  pub even_place : (o : Option Flow) → length (plan_at plans o) ≡ length (job_at works o)
+module _ (jobs : List JobModel) (plans : List PlanModel) (even : length plans ≡ length jobs) where
+  pub even_place : (o : Option Flow) → length (plan_at plans o) ≡ length (job_at jobs o)
   even_place None = refl
-  even_place (Some (Assign tree)) = even_at works plans tree even
+  even_place (Some (Assign tree)) = even_at jobs plans tree even
   even_place (Some (Test tree one none)) = refl
   even_place (Some (Jump to)) = refl
   even_place (Some End) = refl
 
-  pub even_places : (flow : List Flow) (at n : ℕ) → length (plans_at flow plans at n) ≡ length (jobs_at flow works at n)
+  pub even_places : (flow : List Flow) (at n : ℕ) → length (plans_at flow plans at n) ≡ length (jobs_at flow jobs at n)
   even_places flow at zero = refl
   even_places flow at (suc n) =
       let here = even_place (slice_get flow (at + n)) in
       let before = even_places flow at n in
       length-append (plans_at flow plans at n) (plan_at plans (slice_get flow (at + n)))
       ∙ (λ i. before i + here i)
-      ∙ sym (length-append (jobs_at flow works at n) (job_at works (slice_get flow (at + n))))
+      ∙ sym (length-append (jobs_at flow jobs at n) (job_at jobs (slice_get flow (at + n))))
 
-  pub place_more : (stock : ℕ → StockModel) (flow : List Flow) (at n : ℕ) (old new : List Step) → old ≡ steps_in stock (jobs_at flow works at n) (plans_at flow plans at n)
-      → new ≡ old ++ steps_in stock (job_at works (slice_get flow (at + n))) (plan_at plans (slice_get flow (at + n)))
-      → new ≡ steps_in stock (jobs_at flow works at (n + 1)) (plans_at flow plans at (n + 1))
+  pub place_more : (stock : ℕ → StockModel) (flow : List Flow) (at n : ℕ) (old new : List Step) → old ≡ steps_in stock (jobs_at flow jobs at n) (plans_at flow plans at n)
+      → new ≡ old ++ steps_in stock (job_at jobs (slice_get flow (at + n))) (plan_at plans (slice_get flow (at + n)))
+      → new ≡ steps_in stock (jobs_at flow jobs at (n + 1)) (plans_at flow plans at (n + 1))
   place_more stock flow at n old new before more =
       more
-      ∙ ap (λ (steps : List Step). steps ++ steps_in stock (job_at works (slice_get flow (at + n))) (plan_at plans (slice_get flow (at + n)))) before
-      ∙ sym (steps_on stock (jobs_at flow works at n) (job_at works (slice_get flow (at + n))) (plans_at flow plans at n) (plan_at plans (slice_get flow (at + n))) (even_places flow at n))
-      ∙ ap (λ (k : ℕ). steps_in stock (jobs_at flow works at k) (plans_at flow plans at k)) (sym (add-one n))
+      ∙ ap (λ (steps : List Step). steps ++ steps_in stock (job_at jobs (slice_get flow (at + n))) (plan_at plans (slice_get flow (at + n)))) before
+      ∙ sym (steps_on stock (jobs_at flow jobs at n) (job_at jobs (slice_get flow (at + n))) (plans_at flow plans at n) (plan_at plans (slice_get flow (at + n))) (even_places flow at n))
+      ∙ ap (λ (k : ℕ). steps_in stock (jobs_at flow jobs at k) (plans_at flow plans at k)) (sym (add-one n))
 
 -- ---- blocks
 

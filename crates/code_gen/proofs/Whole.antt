@@ -11,9 +11,10 @@ use Rattle.form_model.specs.Forms.{FormModel}
 use Rattle.form_set.specs.Listing.{greatest_reach}
 use Rattle.mode_set.specs.Costs.{PlanModel}
 use Rattle.mode_set.specs.Keeping.{IsModeRegister, Isas}
+use Rattle.branch_fix.specs.declared.outline.Branch.{Branch}
 use Rattle.branch_fix.specs.declared.laid.Laid.{Laid}
 use Rattle.branch_fix.specs.Bounds.{program_bound}
-use Rattle.branch_fix.specs.Laid.{IsLaid, Outline}
+use Rattle.branch_fix.specs.Laid.{IsLaid, OutlineModel}
 use Rattle.branch_fix.specs.Marked.{AreMarked}
 use Rattle.right_code.specs.Covered.{ArePlans, numbered, plan_costs}
 use Rattle.right_code.specs.Images.{IsLaidAt, IsMadeFor}
@@ -25,26 +26,26 @@ use Rattle.code_gen.specs.Inner.Views.{mode_bits}
 use Rattle.code_gen.proofs.Making.{blocks_made, tests_made, words_long, words_list, sizes, words_stand}
 
 -- what is laid out for a task with these blocks
-abbrev pub task_outline : Task → List FormModel → List ℕ → List (ℕ × ℕ) → ℕ → ℕ → Outline
-task_outline task rules sizes branches words bound =
-    record { flow = task.flow; sizes = sizes; branches = branches; rules = rules; reach = greatest_reach rules; words = words; bound = bound }
+abbrev pub task_outline : Task → List FormModel → List ℕ → List Branch → ℕ → ℕ → OutlineModel
+task_outline task forms sizes branches words bound =
+    record { flow = task.flow; sizes = sizes; branches = branches; forms = forms; reach = greatest_reach forms; words = words; bound = bound }
 
 module _ (task : Task) (isas : Isas task.netlist) (register : IsModeRegister task.netlist.special (base_at task.netlist 0)) (plans : List PlanModel) (planned : ArePlans task isas plans) where
-  module _ (blocks : List PackedBlock) (branches : List (ℕ × ℕ))
+  module _ (blocks : List PackedBlock) (branches : List Branch)
       (code : IsBlockCode task isas task.flow (task_jobs task) plans (length task.flow) blocks branches)
-      (laid : Laid) (most bound : ℕ) (is : IsLaid (task_outline task (isas 0).rules (sizes blocks) branches most bound) laid)
-      (bound_is : bound ≡ program_bound task.listing (plan_costs (task_jobs task) plans))
+      (laid : Laid) (most bound : ℕ) (is : IsLaid (task_outline task (isas 0).keeping (sizes blocks) branches most bound) laid)
+      (bound_is : bound ≡ program_bound task.program (plan_costs (task_jobs task) plans))
       (image : Image) (items : AreItemWords (base_at task.netlist 0) (isas 0).patterns (regs_of (mode_bits task.netlist.special)) blocks laid.items image.words) where
     long : length (words_of image) ≡ length laid.items
     long = length-map image.words (λ (w : Word). w.word) ∙ words_long (base_at task.netlist 0) (isas 0).patterns (regs_of (mode_bits task.netlist.special)) blocks laid.items image.words items
 
     pub image_made : image.marks ≡ laid.marks → image.costs ≡ numbered 0 (plan_costs (task_jobs task) plans) → image.bits ≡ word_width task.netlist
-        → IsLaidAt task image → (made : IsMadeFor task image) × (length (words_of image) ≤ greatest_reach (made.isas 0).rules)
+        → IsLaidAt task image → (made : IsMadeFor task image) × (length (words_of image) ≤ greatest_reach (made.isas 0).keeping)
     image_made marks costs bits laid_at =
         let whole = is.long in
         let most_words = is.most in
         let reaches = is.reached in
-        let le : length (words_of image) ≤ greatest_reach (isas 0).rules = omega (arith, long, whole, most_words, reaches) in (
+        let le : length (words_of image) ≤ greatest_reach (isas 0).keeping = omega (arith, long, whole, most_words, reaches) in (
           record {
             isas = isas;
             bits = bits;
@@ -53,7 +54,7 @@ module _ (task : Task) (isas : Isas task.netlist) (register : IsModeRegister tas
             planned = planned;
             costs = costs;
             sizes = sizes blocks;
-            settings = branches;
+            branches = branches;
             parts = is.parts;
             settled = is.settled;
             groups = groups_at blocks;

@@ -24,12 +24,12 @@ use Rattle.code_gen.specs.declared.fault.CodeFault.TheVariants.{NoStep, NoJump, 
 -- each form of mode 0 that keeps the mode is a jump or a branch
 pub record IsStepless (netlist : Netlist) : Type 0 where
   pub isa : Isa netlist 0
-  pub control : only_control isa.rules ≡ true
+  pub control : only_control isa.keeping ≡ true
 
 -- none of them is a jump
 pub record IsJumpless (netlist : Netlist) : Type 0 where
   pub isa : Isa netlist 0
-  pub jumpless : no_jumps isa.rules ≡ true
+  pub jumpless : no_jumps isa.keeping ≡ true
 
 -- the code may be longer than the jumps reach, and these are the numbers
 pub record IsBeyondReach (bound reach : ℕ) (task : Task) : Type 0 where

@@ -13,25 +13,25 @@ use Rattle.respell.specs.Kept.{AreSpelled}
 use Rattle.right_code.specs.Covered.{mode_stock}
 use Rattle.right_code.specs.Images.{IsMadeFor}
 use Rattle.right_code.specs.Tasks.{Task, task_memory, task_temps}
-use Rattle.right_code.specs.Works.{node_limit}
+use Rattle.right_code.specs.FlowJobs.{node_limit}
 use Rattle.code_gen.specs.Refusals.{IsCodeFault}
 use Rattle.code_gen.specs.declared.fault.CodeFault.{CodeFault}
 use Rattle.code_gen.specs.declared.fault.CodeFault.TheVariants.{NoStep, NoJump, Memory}
 
 -- the task's flow is the program's, and its jobs do what the program's statements say
 pub record IsPlain (task : Task) : Type 0 where
-  pub flow : task.flow ≡ program_flow task.listing
-  pub meant : DoProgram (task_memory task) (task_temps task) task.listing task.works
+  pub flow : task.flow ≡ program_flow task.program
+  pub meant : DoProgram (task_memory task) (task_temps task) task.program task.jobs
 
 -- a task with another flow and other jobs
 abbrev pub with_jobs : Task → List Flow → List JobModel → Task
-with_jobs task flow works = record {
+with_jobs task flow jobs = record {
   netlist = task.netlist;
   width = task.width;
-  listing = task.listing;
+  program = task.program;
   places = task.places;
   flow = flow;
-  works = works;
+  jobs = jobs;
 }
 
 -- a task in another spelling: each job stays, or one of equal trees stands for it that costs less, or
@@ -39,10 +39,10 @@ with_jobs task flow works = record {
 pub record IsSpelledTask (task spelled : Task) : Type 0 where
   pub isas : Isas task.netlist
   pub turned : Turns
-  pub works : List JobModel
+  pub jobs : List JobModel
   pub are : AreSpelled (mode_stock task isas) (IsUsable task.netlist isas) task.width (task_temps task) node_limit turned
-      task.works works
-  pub is : spelled ≡ with_jobs task (turned_flow turned task.flow) works
+      task.jobs jobs
+  pub is : spelled ≡ with_jobs task (turned_flow turned task.flow) jobs
 
 -- there is such a task of which this holds
 pub record HasSpelling (Said : Task → Type 0) (task : Task) : Type 0 where
@@ -63,4 +63,4 @@ pub record IsRightByEqualTrees (task : Task) (image : Image) : Type 0 where
   pub spelled : Task
   pub is : IsSpelledTask task spelled
   pub made : IsMadeFor spelled image
-  pub traces : TracesRight task.netlist image (strace task.width task.listing)
+  pub traces : TracesRight task.netlist image (strace task.width task.program)

@@ -12,8 +12,8 @@ abbrev pub coded_task : Netlist → Typed → List VariablePlace → Blocks → 
 coded_task netlist typed places blocks = record {
   netlist = netlist;
   width = typed.width;
-  listing = model_of_program typed.program;
+  program = model_of_program typed.program;
   places = places;
   flow = blocks.flow;
-  works = models_of_jobs blocks.jobs.items;
+  jobs = models_of_jobs blocks.jobs.items;
 }

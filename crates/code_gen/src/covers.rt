@@ -31,7 +31,7 @@ pub fn chosen_cover(
     ensures tried { IfOk result (λ chosen.
         IsTried (stock_with forms.now.list.items temps forms.now.file) (model_of_job job.now) (option_map model_of_job_cover chosen)) }
     ensures cost { IfOk result (λ chosen. IfSome chosen (λ c.
-        c.cost ≡ job_cost (model_of_job job.now).destination (model_of_job_cover c).plan)) }
+        c.cost ≡ job_cost (model_of_job job.now).destination (model_of_job_cover c).cover)) }
 {
     match cover(alloc, forms, job, temps) {
         Ok(chosen) => Ok(Some(chosen)),
@@ -52,7 +52,7 @@ fn plan_one(
     requires { length usable.now ≡ length forms.now }
     ensures planned { IfOk result (λ plan. IsPlanned (stock_at forms.now temps) (UsableAt usable.now)
         (model_of_job job.now).destination (model_of_job job.now).trees (model_of_plan plan)) }
-    ensures cost { IfOk result (λ plan. plan.cover.cost ≡ job_cost (model_of_job job.now).destination (model_of_plan plan).choice.plan) }
+    ensures cost { IfOk result (λ plan. plan.cover.cost ≡ job_cost (model_of_job job.now).destination (model_of_plan plan).choice.cover) }
     ensures refused { IfErr result (IsOneBare (stock_at forms.now temps) (UsableAt usable.now) (model_of_job job.now) number) }
 {
     match plan_job(alloc, forms, usable, job, temps) {

@@ -106,46 +106,45 @@ fn run_of_zero(program: &PlannedProgram<'_>, at: usize, end: usize) -> usize
 // Adds the jobs of so many places from one on, all of mode 0.
 fn push_zeros(
     alloc: Global,
-    modes: &Modes<'_>,
-    books: &mut [Book],
     program: &PlannedProgram<'_>,
+    books: &mut [Book],
     at: usize,
     count: usize,
     block: &mut PackedBlock,
 ) -> Result<(), NoMemory>
-    requires ready { AreReady modes.now books.old }
-    requires planned { ArePlannedIn modes.now program.now }
+    requires ready { AreReady program.now.modes books.old }
+    requires planned { ArePlannedIn program.now.modes program.now }
     requires within { at + count ≤ length program.now.flow.now }
     requires zero { (k : ℕ) → k < count → place_mode program.now (at + k) ≡ 0 }
-    ensures ready { AreReady modes.now books.new }
-    ensures run { OnOk result (AddsRun modes.now program.now 0 at count block.old block.new) }
+    ensures ready { AreReady program.now.modes books.new }
+    ensures run { OnOk result (AddsRun program.now.modes program.now 0 at count block.old block.new) }
 {
-    let steps = block_steps(alloc, modes, program, at, count)?;
-    push_packed(alloc, modes, books, 0, steps.as_slice(), block)
+    let steps = block_steps(alloc, program, at, count)?;
+    push_packed(alloc, &program.modes, books, 0, steps.as_slice(), block)
 }
 
 // Adds the job at a place, which has a mode other than 0, between its mode words.
 fn push_alone(
     alloc: Global,
-    modes: &Modes<'_>,
-    books: &mut [Book],
     program: &PlannedProgram<'_>,
+    books: &mut [Book],
     at: usize,
     mode: usize,
     block: &mut PackedBlock,
 ) -> Result<(), NoMemory>
-    requires ready { AreReady modes.now books.old }
-    requires planned { ArePlannedIn modes.now program.now }
+    requires ready { AreReady program.now.modes books.old }
+    requires planned { ArePlannedIn program.now.modes program.now }
     requires within { at < length program.now.flow.now }
     requires mode { mode ≡ place_mode program.now at }
     requires some { 0 < mode }
-    ensures ready { AreReady modes.now books.new }
-    ensures run { OnOk result (AddsRun modes.now program.now mode at 1 block.old block.new) }
+    ensures ready { AreReady program.now.modes books.new }
+    ensures run { OnOk result (AddsRun program.now.modes program.now mode at 1 block.old block.new) }
 {
+    let modes = &program.modes;
     let Some(passage) = modes.passages[mode] else {
         unreachable!()
     };
-    let steps = block_steps(alloc, modes, program, at, 1)?;
+    let steps = block_steps(alloc, program, at, 1)?;
     push_mode_word(alloc, block, passage.enter)?;
     push_packed(alloc, modes, books, mode, steps.as_slice(), block)?;
     push_mode_word(alloc, block, passage.leave)
@@ -154,53 +153,52 @@ fn push_alone(
 // Adds the cut that begins at a place below an end, and tells how many places it has.
 fn push_cut(
     alloc: Global,
-    modes: &Modes<'_>,
-    books: &mut [Book],
     program: &PlannedProgram<'_>,
+    books: &mut [Book],
     at: usize,
     end: usize,
     block: &mut PackedBlock,
 ) -> Result<usize, NoMemory>
-    requires ready { AreReady modes.now books.old }
-    requires planned { ArePlannedIn modes.now program.now }
+    requires ready { AreReady program.now.modes books.old }
+    requires planned { ArePlannedIn program.now.modes program.now }
     requires below { at < end }
     requires within { end ≤ length program.now.flow.now }
-    ensures ready { AreReady modes.now books.new }
+    ensures ready { AreReady program.now.modes books.new }
     ensures some { IfOk result (λ count. 0 < count) }
     ensures below { IfOk result (λ count. at + count ≤ end) }
-    ensures cut { IfOk result (λ count. AddsCuts modes.now program.now at (at + count) end block.old block.new) }
+    ensures cut { IfOk result (λ count.
+        AddsCuts program.now.modes program.now at (at + count) end block.old block.new) }
 {
     let mode = mode_at(program, at);
     if mode != 0 {
-        push_alone(alloc, modes, books, program, at, mode, block)?;
+        push_alone(alloc, program, books, at, mode, block)?;
         return Ok(1);
     }
     let count = run_of_zero(program, at, end);
-    push_zeros(alloc, modes, books, program, at, count, block)?;
+    push_zeros(alloc, program, books, at, count, block)?;
     Ok(count)
 }
 
 /// The block of so many places from one on: its cuts one after the other.
 pub(crate) fn cut_block(
     alloc: Global,
-    modes: &Modes<'_>,
-    books: &mut [Book],
     program: &PlannedProgram<'_>,
+    books: &mut [Book],
     at: usize,
     count: usize,
 ) -> Result<PackedBlock, NoMemory>
-    requires ready { AreReady modes.now books.old }
-    requires planned { ArePlannedIn modes.now program.now }
+    requires ready { AreReady program.now.modes books.old }
+    requires planned { ArePlannedIn program.now.modes program.now }
     requires within { at + count ≤ length program.now.flow.now }
-    ensures ready { AreReady modes.now books.new }
-    ensures code { IfOk result (AreCutsCoded modes.now program.now at count) }
+    ensures ready { AreReady program.now.modes books.new }
+    ensures code { IfOk result (AreCutsCoded program.now.modes program.now at count) }
     ensures once { IfOk result IsOnce }
 {
     let mut block = empty_block(alloc);
     let end = at + count;
     let mut place = at;
     while place < end {
-        place += push_cut(alloc, modes, books, program, place, end, &mut block)?;
+        place += push_cut(alloc, program, books, place, end, &mut block)?;
     }
     Ok(block)
 }

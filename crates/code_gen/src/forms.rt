@@ -10,18 +10,15 @@ ghost use Rattle.form_set.specs.Listing.{AreForms};
 ghost use Rattle.net_model.specs.declared.hardware.Space.TheVariants.{File as InFile};
 ghost use Rattle.net_model.specs.Nets.{size_in};
 ghost use Rattle.form_set.specs.Promises.{is_control_goal, is_no_jump};
-ghost use Rattle.transfer_set.specs.Ready.{IsReady};
-ghost use Rattle.transfer_set.specs.Rows.{row_patterns};
+ghost use Rattle.transfer_set.specs.Machines.{IsReadyFor, machine_netlist, machine_patterns};
 ghost use Rattle.code_gen.specs.Refusals.{IsFormless, IsJumpless, IsKindsFault, IsStepless};
 
 use crate::fault::CodeFault;
 use bit_bdd::Book;
 use form_model::{Form, Forms, Goal};
 use form_set::forms;
-use net_model::Checked;
 use std::alloc::Global;
-use sym_expr::Pool;
-use transfer_set::Patterns;
+use transfer_set::Machine;
 
 fn is_control(form: &Form) -> bool
     ensures { result ≡ is_control_goal (model_of_goal form.now.goal) }
@@ -68,24 +65,22 @@ pub(crate) fn check_kinds(list: &[Form]) -> Result<(), CodeFault>
 /// register file; `NoStep` or `NoJump` comes exactly where none does, and `Memory` is want of memory.
 pub fn usable_forms(
     alloc: Global,
-    checked: &Checked,
+    machine: &Machine<'_>,
     book: &mut Book,
-    pool: &Pool,
-    patterns: &Patterns,
 ) -> Result<Forms, CodeFault>
-    requires plain { checked.now.netlist.special ≡ None }
-    requires ready { IsReady checked.now.netlist book.old pool.now patterns.now }
-    requires patterns { ArePatterns checked.now.netlist (row_patterns pool.now patterns.now.rows) }
+    requires plain { (machine_netlist machine.now).special ≡ None }
+    requires ready { IsReadyFor machine.now book.old }
+    requires patterns { ArePatterns (machine_netlist machine.now) (machine_patterns machine.now) }
     ensures grows { Extends book.old book.new }
-    ensures ready { IsReady checked.now.netlist book.new pool.now patterns.now }
-    ensures forms { IfOk result (λ forms. AreForms checked.now.netlist
-        (row_patterns pool.now patterns.now.rows) (models_of_forms forms.list.items) forms.reach) }
-    ensures file { IfOk result (λ forms. forms.file ≡ size_in InFile checked.now.netlist.storages) }
-    ensures steps { IfOk result (λ _. ¬ IsStepless checked.now.netlist) }
-    ensures jumps { IfOk result (λ _. ¬ IsJumpless checked.now.netlist) }
-    ensures refused { IfErr result (IsFormless checked.now.netlist) }
+    ensures ready { IsReadyFor machine.now book.new }
+    ensures forms { IfOk result (λ forms. AreForms (machine_netlist machine.now)
+        (machine_patterns machine.now) (models_of_forms forms.list.items) forms.reach) }
+    ensures file { IfOk result (λ forms. forms.file ≡ size_in InFile (machine_netlist machine.now).storages) }
+    ensures steps { IfOk result (λ _. ¬ IsStepless (machine_netlist machine.now)) }
+    ensures jumps { IfOk result (λ _. ¬ IsJumpless (machine_netlist machine.now)) }
+    ensures refused { IfErr result (IsFormless (machine_netlist machine.now)) }
 {
-    let forms = forms(alloc, checked, patterns, book, pool)?;
+    let forms = forms(alloc, machine, book)?;
     check_kinds(&forms.list)?;
     Ok(forms)
 }

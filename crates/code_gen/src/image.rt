@@ -11,7 +11,7 @@ ghost use Rattle.right_code.specs.Tasks.{IsChecked, Task};
 ghost use Rattle.isa_extract.specs.Extraction.{AreIsas};
 ghost use Rattle.isa_extract.specs.declared.netlists.Isa.{Isa as TheIsa};
 ghost use Rattle.code_gen.specs.Inner.Planning.{AddsOperations, AreMachinesOf, AreOperations, AreReady, AreReadyAll, AreViews, IsView, costs_in, reach_at};
-ghost use Rattle.code_gen.specs.Inner.Imaged.{AreCodedIn, HasTask, IsImageMade, IsLengthFault, IsTaskImage, OfCoded, OfTask};
+ghost use Rattle.code_gen.specs.Inner.Imaged.{AreCodedIn, HasTask, IsImageMade, IsLengthFault, IsTaskImage, OfCoded, OfTask, placed_task};
 ghost use Rattle.code_gen.specs.Inner.Spelling.{AreBlocksIn, IsSpelledFault, MayBeSpelled, MaySpell, OfSpelled, SpelledSo};
 ghost use Rattle.code_gen.specs.Refusals.{IsCodeFault, IsReached};
 ghost use Rattle.code_gen.specs.Spelled.{HasSpelling, IsPlain, IsRightByEqualTrees, IsTunedFault};
@@ -23,18 +23,19 @@ use crate::cuts::mode_set;
 use crate::fault::CodeFault;
 use crate::modes::{forms_by_mode, passages, usable_modes};
 use crate::spelling::{Spelling, respelled};
-use crate::views::{Modes, Operations, PlannedProgram};
+use crate::views::{Modes, Operations, PlacedProgram, PlannedProgram};
 use crate::words::words_of_items;
 use bit_bdd::Book;
-use branch_fix::{Laid, LayFault, bound, lay_out};
+use branch_fix::{Branch, Laid, LayFault, Outline, bound, lay_out};
 use code_model::{Image, Place, Places};
-use compaction::{Machine, PackedBlock, tables_of};
+use compaction::{KnownMachine, PackedBlock, tables_of};
 use form_model::{Blocks, Forms};
 use isa_extract::Isa as Extracted;
 use net_model::{Checked, Modes as NetModes};
 use rec_bits::{Items, NoMemory};
 use src_model::Typed;
 use std::alloc::Global;
+use transfer_set::Machine;
 
 // How many words each block has.
 fn sizes_of(alloc: Global, blocks: &[PackedBlock]) -> Result<Items<u32>, NoMemory>
@@ -57,7 +58,7 @@ fn laid(
     forms: &Forms,
     program: &PlannedProgram<'_>,
     sizes: &[u32],
-    branches: &[(u64, u64)],
+    branches: &[Branch],
     bound: u64,
 ) -> Result<Laid, NoMemory>
     requires within { sum_of sizes.now + control_words program.now.flow.now ≤ bound }
@@ -65,8 +66,16 @@ fn laid(
     ensures { IfOk result (IsLaid (outline program.now.flow.now sizes.now branches.now
         forms.now 18446744073709551615 bound)) }
 {
-    // How long the code may be is asked of the image, so there is room here for every length.
-    match lay_out(alloc, program.flow, sizes, branches, forms, u64::MAX, bound) {
+    let outline = Outline {
+        flow: program.flow,
+        sizes,
+        branches,
+        forms,
+        // How long the code may be is asked of the image, so there is room here for every length.
+        words: u64::MAX,
+        bound,
+    };
+    match lay_out(alloc, &outline) {
         Ok(laid) => Ok(laid),
         Err(LayFault::Memory) => Err(NoMemory),
         Err(_) => unreachable!(),
@@ -76,23 +85,23 @@ fn laid(
 // The image of a program whose jumps reach as far as its bound.
 fn laid_image(
     alloc: Global,
-    modes: &Modes<'_>,
-    books: &mut [Book],
     program: &PlannedProgram<'_>,
+    books: &mut [Book],
     places: Places,
     costs: &[u32],
     bound: u64,
 ) -> Result<Image, NoMemory>
-    requires ready { AreReady modes.now books.old }
-    requires task { HasTask modes.now program.now places }
+    requires ready { AreReady program.now.modes books.old }
+    requires task { HasTask program.now.modes program.now places }
     requires costs { costs.now ≡ costs_in program.now }
     requires few { length costs.now < 2 ^ 32 }
     requires bound { bound ≡ bound_of program.now.flow.now costs.now }
-    requires reach { bound ≤ reach_at modes.now 0 }
-    ensures made { IfOk result (λ image. OfTask modes.now program.now places (IsImageMade image)) }
+    requires reach { bound ≤ reach_at program.now.modes 0 }
+    ensures made { IfOk result (λ image. OfTask program.now.modes program.now places (IsImageMade image)) }
     ensures costs { IfOk result (λ image. AllByRecursion CostFits image.costs) }
 {
-    let code = block_code(alloc, modes, books, program)?;
+    let modes = &program.modes;
+    let code = block_code(alloc, program, books)?;
     let sizes = sizes_of(alloc, &code.blocks)?;
     let laid = laid(
         alloc,
@@ -102,10 +111,10 @@ fn laid_image(
         &code.branches,
         bound,
     )?;
-    let machine = &modes.machines[0];
+    let known = &modes.machines[0];
     let words = words_of_items(
         alloc,
-        machine,
+        known,
         &mut books[0],
         &code.blocks,
         mode_set(modes),
@@ -113,7 +122,7 @@ fn laid_image(
     )?;
     let costs = cost_lines(alloc, costs)?;
     Ok(Image {
-        bits: machine.checked.netlist().word_width(),
+        bits: known.machine.checked.netlist().word_width(),
         temps: places.temps,
         places: places.list,
         costs,
@@ -126,38 +135,31 @@ fn laid_image(
 // for it.
 fn covered_image(
     alloc: Global,
-    modes: &Modes<'_>,
-    books: &mut [Book],
     program: &PlannedProgram<'_>,
+    books: &mut [Book],
     places: Places,
 ) -> Result<Image, CodeFault>
-    requires ready { AreReady modes.now books.old }
-    requires task { HasTask modes.now program.now places }
+    requires ready { AreReady program.now.modes books.old }
+    requires task { HasTask program.now.modes program.now places }
     requires few { length program.now.plans.now < 2 ^ 31 }
     requires places { length program.now.flow.now ≤ 2 ^ 32 }
     requires named { AllByRecursion PlaceFits places.list }
-    ensures right { IfOk result (λ image. OfTask modes.now program.now places (IsTaskImage image)) }
-    ensures fits { IfOk result (λ image. OfTask modes.now program.now places
+    ensures right { IfOk result (λ image. OfTask program.now.modes program.now places (IsTaskImage image)) }
+    ensures fits { IfOk result (λ image. OfTask program.now.modes program.now places
         (λ (task : Task). IsFitting (limits_of task.netlist) image)) }
-    ensures refused { IfErr result (λ fault. OfTask modes.now program.now places (IsLengthFault fault)) }
+    ensures refused { IfErr result (λ fault. OfTask program.now.modes program.now places (IsLengthFault fault)) }
 {
+    let modes = &program.modes;
     let costs = costs_of(alloc, program.plans)?;
     let bound = bound(program.flow, costs.as_slice());
     let reach = modes.forms[0].reach;
     if bound > reach {
         return Err(CodeFault::NoReach { bound, reach });
     }
-    let image = laid_image(
-        alloc,
-        modes,
-        books,
-        program,
-        places,
-        costs.as_slice(),
-        bound,
-    )?;
+    let image = laid_image(alloc, program, books, places, costs.as_slice(), bound)?;
     let len = image.words.len() as u64;
-    let size = u64::from(modes.machines[0].checked.netlist().code_size());
+    let known = &modes.machines[0];
+    let size = u64::from(known.machine.checked.netlist().code_size());
     if len > size {
         // as one step, where its parts would be let go one by one
         drop(image);
@@ -204,13 +206,15 @@ fn apart(
 }
 
 // What a netlist is in a mode, as code is made for it.
-fn machine_of<'a>(checked: &'a Checked, operations: &'a Operations) -> Machine<'a>
+fn machine_of<'a>(checked: &'a Checked, operations: &'a Operations) -> KnownMachine<'a>
     ensures { IsView checked.now operations.now result }
 {
-    Machine {
-        checked,
-        pool: &operations.pool,
-        patterns: &operations.patterns,
+    KnownMachine {
+        machine: Machine {
+            checked,
+            pool: &operations.pool,
+            patterns: &operations.patterns,
+        },
         registers: operations.tables.registers.as_slice(),
         memory: operations.tables.memory.as_slice(),
     }
@@ -221,7 +225,7 @@ fn machines_of<'a>(
     alloc: Global,
     bases: &'a [Checked],
     rest: &'a [Operations],
-) -> Result<Vec<Machine<'a>>, NoMemory>
+) -> Result<Vec<KnownMachine<'a>>, NoMemory>
     requires { length bases.now ≡ length rest.now }
     ensures { IfOk result (λ machines. AreViews bases.now rest.now machines.items) }
 {
@@ -236,50 +240,50 @@ fn machines_of<'a>(
 fn planned_image(
     alloc: Global,
     modes: &Modes<'_>,
-    usable: &[bool],
     books: &mut [Book],
     places: Places,
     blocks: &Blocks,
 ) -> Result<Image, CodeFault>
     requires ready { AreReady modes.now books.old }
-    requires coded { AreCodedIn modes.now usable.now places blocks.now }
+    requires coded { AreCodedIn modes.now modes.now.usable.now places blocks.now }
     requires named { AllByRecursion PlaceFits places.list }
-    ensures right { IfOk result (λ image. OfCoded modes.now usable.now places blocks.now
+    ensures right { IfOk result (λ image. OfCoded modes.now modes.now.usable.now places blocks.now
         (λ (task : Task). IsRightImage task image)) }
-    ensures fits { IfOk result (λ image. OfCoded modes.now usable.now places blocks.now
+    ensures fits { IfOk result (λ image. OfCoded modes.now modes.now.usable.now places blocks.now
         (λ (task : Task). IsFitting (limits_of task.netlist) image)) }
-    ensures reached { IfOk result (λ _. OfCoded modes.now usable.now places blocks.now IsReached) }
-    ensures refused { IfErr result (λ fault. OfCoded modes.now usable.now places blocks.now
+    ensures reached { IfOk result (λ _. OfCoded modes.now modes.now.usable.now places blocks.now IsReached) }
+    ensures refused { IfErr result (λ fault. OfCoded modes.now modes.now.usable.now places blocks.now
         (λ (task : Task). IsCodeFault task fault)) }
 {
-    let plans = plans_of(alloc, modes.forms, usable, &blocks.jobs, places.temps)?;
+    let plans = plans_of(alloc, modes.forms, modes.usable, &blocks.jobs, places.temps)?;
     let program = PlannedProgram {
+        modes: *modes,
         temps: places.temps,
         flow: blocks.flow.as_slice(),
         jobs: &blocks.jobs,
         plans: &plans,
     };
-    covered_image(alloc, modes, books, &program, places)
+    covered_image(alloc, &program, books, places)
 }
 
 // The flow and the jobs of a program in this spelling.
 fn spelled(
     alloc: Global,
     modes: &Modes<'_>,
-    usable: &[bool],
     temps: u32,
     blocks: Blocks,
     spelling: Spelling,
 ) -> Result<Blocks, NoMemory>
-    requires modes { length usable.now ≡ length modes.now.forms.now }
+    requires modes { length modes.now.usable.now ≡ length modes.now.forms.now }
     requires machines { 0 < length modes.now.machines.now }
-    ensures { IfOk result (AreBlocksIn spelling modes.now usable.now temps blocks) }
+    ensures { IfOk result (AreBlocksIn spelling modes.now modes.now.usable.now temps blocks) }
 {
     match spelling {
         Spelling::Own => Ok(blocks),
         Spelling::Equal => {
-            let cell = modes.machines[0].checked.memory_width();
-            respelled(alloc, modes.forms, usable, temps, cell, blocks)
+            let known = &modes.machines[0];
+            let cell = known.machine.checked.memory_width();
+            respelled(alloc, modes.forms, modes.usable, temps, cell, blocks)
         }
     }
 }
@@ -288,50 +292,47 @@ fn spelled(
 fn spelled_image(
     alloc: Global,
     modes: &Modes<'_>,
-    usable: &[bool],
     books: &mut [Book],
     places: Places,
     blocks: Blocks,
     spelling: Spelling,
 ) -> Result<Image, CodeFault>
     requires ready { AreReady modes.now books.old }
-    requires coded { MayBeSpelled spelling modes.now usable.now places blocks }
+    requires coded { MayBeSpelled spelling modes.now modes.now.usable.now places blocks }
     requires named { AllByRecursion PlaceFits places.list }
-    ensures right { IfOk result (λ image. OfSpelled spelling modes.now usable.now places blocks
+    ensures right { IfOk result (λ image. OfSpelled spelling modes.now modes.now.usable.now places blocks
         (SpelledSo spelling (λ (task : Task). IsRightImage task image))) }
-    ensures fits { IfOk result (λ image. OfSpelled spelling modes.now usable.now places blocks
+    ensures fits { IfOk result (λ image. OfSpelled spelling modes.now modes.now.usable.now places blocks
         (λ (task : Task). IsFitting (limits_of task.netlist) image)) }
-    ensures reached { IfOk result (λ _. OfSpelled spelling modes.now usable.now places blocks
+    ensures reached { IfOk result (λ _. OfSpelled spelling modes.now modes.now.usable.now places blocks
         (SpelledSo spelling IsReached)) }
-    ensures refused { IfErr result (λ fault. OfSpelled spelling modes.now usable.now places blocks
+    ensures refused { IfErr result (λ fault. OfSpelled spelling modes.now modes.now.usable.now places blocks
         (IsSpelledFault spelling fault)) }
 {
-    let blocks = spelled(alloc, modes, usable, places.temps, blocks, spelling)?;
-    planned_image(alloc, modes, usable, books, places, &blocks)
+    let blocks = spelled(alloc, modes, places.temps, blocks, spelling)?;
+    planned_image(alloc, modes, books, places, &blocks)
 }
 
 // The image of a program for what a netlist is in its modes.
 fn image_for(
     alloc: Global,
     modes: &NetModes,
-    machines: &[Machine<'_>],
+    machines: &[KnownMachine<'_>],
     books: &mut [Book],
-    typed: &Typed,
-    places: Items<Place>,
-    blocks: Blocks,
+    program: PlacedProgram<'_>,
     spelling: Spelling,
 ) -> Result<Image, CodeFault>
     requires machines { AreMachinesOf machines.now modes.now.netlist }
     requires ready { AreReadyAll machines.now books.old }
-    requires checked { IsChecked (coded_task modes.now.netlist typed.now places blocks) }
-    requires plain { MaySpell spelling (coded_task modes.now.netlist typed.now places blocks) }
-    requires named { AllByRecursion PlaceFits places }
+    requires checked { IsChecked (placed_task modes.now.netlist program) }
+    requires plain { MaySpell spelling (placed_task modes.now.netlist program) }
+    requires named { AllByRecursion PlaceFits program.places }
     ensures right { IfOk result (λ image. SpelledSo spelling (λ (task : Task). IsRightImage task image)
-        (coded_task modes.now.netlist typed.now places blocks)) }
+        (placed_task modes.now.netlist program.entry)) }
     ensures fits { IfOk result (IsFitting (limits_of modes.now.netlist)) }
-    ensures reached { IfOk result (λ _. SpelledSo spelling IsReached (coded_task modes.now.netlist typed.now places blocks)) }
+    ensures reached { IfOk result (λ _. SpelledSo spelling IsReached (placed_task modes.now.netlist program.entry)) }
     ensures refused { IfErr result (λ fault. IsSpelledFault spelling fault
-        (coded_task modes.now.netlist typed.now places blocks)) }
+        (placed_task modes.now.netlist program.entry)) }
 {
     let netlist = modes.netlist();
     let forms = forms_by_mode(alloc, machines, books, netlist)?;
@@ -341,13 +342,19 @@ fn image_for(
         machines,
         forms: &forms.kept,
         special: netlist.special,
+        usable: &usable,
         passages: &passages,
     };
+    let PlacedProgram {
+        typed,
+        places,
+        blocks,
+    } = program;
     let places = Places {
         temps: typed.temps(),
         list: places,
     };
-    spelled_image(alloc, &view, &usable, books, places, blocks, spelling)
+    spelled_image(alloc, &view, books, places, blocks, spelling)
 }
 
 // The image of a program in this spelling, whose variables stand at these places.
@@ -355,27 +362,23 @@ fn coded_image(
     alloc: Global,
     modes: &NetModes,
     extracted: Items<Extracted>,
-    typed: &Typed,
-    places: Items<Place>,
-    blocks: Blocks,
+    program: PlacedProgram<'_>,
     spelling: Spelling,
 ) -> Result<Image, CodeFault>
     requires isas { AreIsas modes.now.bases extracted }
-    requires checked { IsChecked (coded_task modes.now.netlist typed.now places blocks) }
-    requires plain { MaySpell spelling (coded_task modes.now.netlist typed.now places blocks) }
-    requires named { AllByRecursion PlaceFits places }
+    requires checked { IsChecked (placed_task modes.now.netlist program) }
+    requires plain { MaySpell spelling (placed_task modes.now.netlist program) }
+    requires named { AllByRecursion PlaceFits program.places }
     ensures right { IfOk result (λ image. SpelledSo spelling (λ (task : Task). IsRightImage task image)
-        (coded_task modes.now.netlist typed.now places blocks)) }
+        (placed_task modes.now.netlist program.entry)) }
     ensures fits { IfOk result (IsFitting (limits_of modes.now.netlist)) }
-    ensures reached { IfOk result (λ _. SpelledSo spelling IsReached (coded_task modes.now.netlist typed.now places blocks)) }
+    ensures reached { IfOk result (λ _. SpelledSo spelling IsReached (placed_task modes.now.netlist program.entry)) }
     ensures refused { IfErr result (λ fault. IsSpelledFault spelling fault
-        (coded_task modes.now.netlist typed.now places blocks)) }
+        (placed_task modes.now.netlist program.entry)) }
 {
     let (mut books, rest) = apart(alloc, extracted)?;
     let machines = machines_of(alloc, modes.bases(), &rest)?;
-    image_for(
-        alloc, modes, &machines, &mut books, typed, places, blocks, spelling,
-    )
+    image_for(alloc, modes, &machines, &mut books, program, spelling)
 }
 
 /// The image of a program that was checked for the words of the netlist's data memory, whose
@@ -397,15 +400,12 @@ pub fn image_of(
     ensures reached { IfOk result (λ _. IsReached (coded_task modes.now.netlist typed.now places blocks)) }
     ensures refused { IfErr result (IsCodeFault (coded_task modes.now.netlist typed.now places blocks)) }
 {
-    coded_image(
-        alloc,
-        modes,
-        extracted,
+    let program = PlacedProgram {
         typed,
         places,
         blocks,
-        Spelling::Own,
-    )
+    };
+    coded_image(alloc, modes, extracted, program, Spelling::Own)
 }
 
 /// The image of such a program, whose flow and jobs are its own, by equal trees where these cost less
@@ -427,13 +427,10 @@ pub fn tuned_image_of(
     ensures reached { IfOk result (λ _. HasSpelling IsReached (coded_task modes.now.netlist typed.now places blocks)) }
     ensures refused { IfErr result (IsTunedFault (coded_task modes.now.netlist typed.now places blocks)) }
 {
-    coded_image(
-        alloc,
-        modes,
-        extracted,
+    let program = PlacedProgram {
         typed,
         places,
         blocks,
-        Spelling::Equal,
-    )
+    };
+    coded_image(alloc, modes, extracted, program, Spelling::Equal)
 }

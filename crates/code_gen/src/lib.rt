@@ -17,7 +17,7 @@
 //! What serves without a program, too: `only_control`, whether all forms of a list are jumps or
 //! branches; `chosen_cover`, the cover of one job, or None exactly where it has none (`tried`:
 //! `IsTried`); `pack_block`, steps packed into groups, each with its word (`packed`:
-//! `IsPackedBlock`), by a `Machine` that knows what the expressions of the patterns read.
+//! `IsPackedBlock`), by a `KnownMachine`, which knows what the expressions of the patterns read.
 //!
 //! Invariant: a `PlannedProgram` has the modes and the covers of all jobs in the order of their
 //! numbers, and `Modes` has a machine, its forms and its passage for each mode. Blocks and tests

@@ -8,17 +8,17 @@ ghost use Rattle.mode_set.specs.ModeWords.{IsLeastModeWord};
 ghost use Rattle.mode_set.specs.Plans.{UsableAt};
 ghost use Rattle.net_model.specs.ModeRules.{KeepsModes, modes_in};
 ghost use Rattle.net_model.specs.Nets.{IsRegister};
-ghost use Rattle.transfer_set.specs.Ready.{IsReady};
-ghost use Rattle.code_gen.specs.Machines.{machine_netlist, machine_patterns};
+ghost use Rattle.transfer_set.specs.Machines.{IsReadyFor};
+ghost use Rattle.code_gen.specs.Machines.{known_netlist, known_patterns};
 ghost use Rattle.code_gen.specs.Refusals.{IsFormless, IsJumpless, IsStepless};
-ghost use Rattle.compaction.specs.declared.machine.Machine.{Machine as TheMachine};
+ghost use Rattle.compaction.specs.declared.machine.KnownMachine.{KnownMachine as TheMachine};
 ghost use Rattle.code_gen.specs.Inner.Planning.{AreFormsBelow, AreMachinesOf, ArePassages, AreReadyAll, IsPassageOrNone, all_form_models, listed_form_models};
 
 use crate::fault::CodeFault;
 use crate::forms::check_kinds;
 use crate::views::Passage;
 use bit_bdd::Book;
-use compaction::Machine;
+use compaction::KnownMachine;
 use form_model::Forms;
 use form_set::forms;
 use mode_set::{ModeWord, can_put, keeping, mode_word};
@@ -37,7 +37,7 @@ pub(crate) struct FormsByMode {
 // Adds the forms of the next mode.
 fn push_forms(
     alloc: Global,
-    machines: &[Machine<'_>],
+    machines: &[KnownMachine<'_>],
     books: &mut [Book],
     netlist: &Netlist,
     mode: usize,
@@ -51,22 +51,14 @@ fn push_forms(
     ensures ready { AreReadyAll machines.now books.new }
     ensures forms { OnOk result (AreFormsBelow netlist.now machines.now (mode + 1) list.new) }
 {
-    let machine = &machines[mode];
+    let known = &machines[mode];
     let book = &mut books[mode];
-    let all = forms(alloc, machine.checked, machine.patterns, book, machine.pool)?;
+    let all = forms(alloc, &known.machine, book)?;
     let Some(register) = netlist.special else {
         list.kept.push(all)?;
         return Ok(());
     };
-    let kept = keeping(
-        alloc,
-        machine.checked,
-        book,
-        machine.pool,
-        machine.patterns,
-        &all,
-        register,
-    )?;
+    let kept = keeping(alloc, &known.machine, book, &all, register)?;
     list.all.push(all)?;
     list.kept.push(kept)?;
     Ok(())
@@ -77,7 +69,7 @@ fn push_forms(
 /// memory.
 pub(crate) fn forms_by_mode(
     alloc: Global,
-    machines: &[Machine<'_>],
+    machines: &[KnownMachine<'_>],
     books: &mut [Book],
     netlist: &Netlist,
 ) -> Result<FormsByMode, CodeFault>
@@ -139,49 +131,44 @@ pub(crate) fn usable_modes(
 // The word of one mode that puts a number into the mode, where there is one.
 fn word_in(
     alloc: Global,
-    machine: &Machine<'_>,
+    known: &KnownMachine<'_>,
     book: &mut Book,
     all: &Forms,
     special: u32,
     value: u64,
 ) -> Result<Option<ModeWord>, NoMemory>
-    requires ready { IsReady (machine_netlist machine.now) book.old machine.now.pool.now machine.now.patterns.now }
-    requires mode { IsRegister (slice_get (machine_netlist machine.now).storages special) }
-    requires edition { (machine_netlist machine.now).edition ≡ 1 }
-    requires forms { AreForms (machine_netlist machine.now) (machine_patterns machine.now)
+    requires ready { IsReadyFor known.now.machine book.old }
+    requires mode { IsRegister (slice_get (known_netlist known.now).storages special) }
+    requires edition { (known_netlist known.now).edition ≡ 1 }
+    requires forms { AreForms (known_netlist known.now) (known_patterns known.now)
         (models_of_forms all.now.list.items) all.now.reach }
-    ensures ready { IsReady (machine_netlist machine.now) book.new machine.now.pool.now machine.now.patterns.now }
-    ensures word { IfOk result (IsLeastModeWord (machine_netlist machine.now) (Some special)
-        (machine_patterns machine.now) (models_of_forms all.now.list.items) value) }
+    ensures ready { IsReadyFor known.now.machine book.new }
+    ensures word { IfOk result (IsLeastModeWord (known_netlist known.now) (Some special)
+        (known_patterns known.now) (models_of_forms all.now.list.items) value) }
 {
-    let Machine {
-        checked,
-        pool,
-        patterns,
-        ..
-    } = *machine;
-    mode_word(alloc, checked, book, pool, patterns, all, special, value)
+    mode_word(alloc, &known.machine, book, all, special, value)
 }
 
-// The words into a mode that can be used, and back.
+// The words into a mode that can be used, and back; none without a mode register.
 fn passage(
     alloc: Global,
-    machines: &[Machine<'_>],
+    machines: &[KnownMachine<'_>],
     books: &mut [Book],
     list: &FormsByMode,
     netlist: &Netlist,
-    special: u32,
     mode: usize,
 ) -> Result<Option<Passage>, NoMemory>
     requires rules { KeepsModes netlist.now }
     requires machines { AreMachinesOf machines.now netlist.now }
     requires ready { AreReadyAll machines.now books.old }
     requires forms { AreFormsBelow netlist.now machines.now (modes_in netlist.now) list.now }
-    requires special { netlist.now.special ≡ Some special }
     requires within { mode < modes_in netlist.now }
     ensures ready { AreReadyAll machines.now books.new }
     ensures words { IfOk result (IsPassageOrNone netlist.now machines.now list.now mode) }
 {
+    let Some(special) = netlist.special else {
+        return Ok(None);
+    };
     let into = mode as u64;
     let Some(enter) = word_in(
         alloc,
@@ -211,7 +198,7 @@ fn passage(
 /// For each mode other than 0 that can be used the words into it and back.
 pub(crate) fn passages(
     alloc: Global,
-    machines: &[Machine<'_>],
+    machines: &[KnownMachine<'_>],
     books: &mut [Book],
     list: &FormsByMode,
     netlist: &Netlist,
@@ -225,11 +212,8 @@ pub(crate) fn passages(
 {
     let mut passages = Vec::new(alloc);
     passages.push(None)?;
-    let Some(register) = netlist.special else {
-        return Ok(passages);
-    };
     for mode in 1..machines.len() {
-        let words = passage(alloc, machines, books, list, netlist, register, mode)?;
+        let words = passage(alloc, machines, books, list, netlist, mode)?;
         passages.push(words)?;
     }
     Ok(passages)

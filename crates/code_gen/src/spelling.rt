@@ -5,7 +5,7 @@ ghost use Rattle.rec_bits.specs.Operators.{IsWidth};
 ghost use Rattle.form_model.specs.declared.flow.Flow.{Flow as Place};
 ghost use Rattle.mode_set.specs.Plans.{UsableAt, stock_at};
 ghost use Rattle.respell.specs.Kept.{AreSpelled, KeepsOrGains};
-ghost use Rattle.right_code.specs.Works.{node_limit};
+ghost use Rattle.right_code.specs.FlowJobs.{node_limit};
 ghost use Rattle.src_trees.specs.Jobs.{model_of_job, models_of_jobs};
 ghost use Rattle.src_trees.specs.Turned.{Turns, turned_flow as exchanged, turned_place as exchanged_place};
 ghost use Rattle.code_gen.specs.Inner.Spelling.{turns_of};

@@ -7,7 +7,7 @@ ghost use Rattle.right_code.specs.Cuts.{plan_at, plans_at, plans_of};
 ghost use Rattle.code_gen.specs.Inner.Planning.{ArePlannedIn, planned_steps, plans_in, jobs_in};
 ghost use Rattle.code_gen.specs.Inner.Views.{place_mode};
 
-use crate::views::{Modes, PlannedProgram};
+use crate::views::PlannedProgram;
 use branch_fix::continues;
 use emit_seq::emit;
 use form_model::{Flow, Step};
@@ -17,16 +17,16 @@ use std::alloc::Global;
 // Adds the steps of the job of this number, which are none where there is none.
 fn push_job(
     alloc: Global,
-    modes: &Modes<'_>,
     program: &PlannedProgram<'_>,
     tree: u32,
     steps: &mut Vec<Step>,
 ) -> Result<(), NoMemory>
-    requires { ArePlannedIn modes.now program.now }
+    requires { ArePlannedIn program.now.modes program.now }
     ensures { OnOk result (steps.new.items ≡ steps.old.items
-        ++ planned_steps modes.now program.now.temps (job_list (slice_get (jobs_in program.now) tree))
+        ++ planned_steps program.now.modes program.now.temps (job_list (slice_get (jobs_in program.now) tree))
         (plans_of (slice_get (plans_in program.now) tree))) }
 {
+    let modes = &program.modes;
     let Some(job) = program.jobs.get(tree as usize) else {
         return Ok(());
     };
@@ -49,14 +49,13 @@ fn push_job(
 // there.
 fn push_place(
     alloc: Global,
-    modes: &Modes<'_>,
     program: &PlannedProgram<'_>,
     at: usize,
     steps: &mut Vec<Step>,
 ) -> Result<(), NoMemory>
-    requires { ArePlannedIn modes.now program.now }
+    requires { ArePlannedIn program.now.modes program.now }
     ensures { OnOk result (steps.new.items ≡ steps.old.items
-        ++ planned_steps modes.now program.now.temps
+        ++ planned_steps program.now.modes program.now.temps
         (job_at (jobs_in program.now) (slice_get program.now.flow.now at))
         (plan_at (plans_in program.now) (slice_get program.now.flow.now at))) }
 {
@@ -64,7 +63,7 @@ fn push_place(
         return Ok(());
     };
     match place {
-        Flow::Assign(tree) => push_job(alloc, modes, program, *tree, steps),
+        Flow::Assign(tree) => push_job(alloc, program, *tree, steps),
         _ => Ok(()),
     }
 }
@@ -72,21 +71,20 @@ fn push_place(
 /// The steps of the jobs at so many places from one on.
 pub(crate) fn block_steps(
     alloc: Global,
-    modes: &Modes<'_>,
     program: &PlannedProgram<'_>,
     at: usize,
     count: usize,
 ) -> Result<Items<Step>, NoMemory>
     requires within { at + count ≤ length program.now.flow.now }
-    requires planned { ArePlannedIn modes.now program.now }
+    requires planned { ArePlannedIn program.now.modes program.now }
     ensures { IfOk result (λ steps. steps
-        ≡ planned_steps modes.now program.now.temps
+        ≡ planned_steps program.now.modes program.now.temps
         (jobs_at program.now.flow.now (jobs_in program.now) at count)
         (plans_at program.now.flow.now (plans_in program.now) at count)) }
 {
     let mut steps = Vec::new(alloc);
     for k in 0..count {
-        push_place(alloc, modes, program, at + k, &mut steps)?;
+        push_place(alloc, program, at + k, &mut steps)?;
     }
     Ok(Items::from_vec(steps))
 }

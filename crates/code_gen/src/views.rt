@@ -1,8 +1,11 @@
 //! The program that code is made from.
 
-use compaction::{Machine, Tables};
-use form_model::{Flow, Forms, Job};
+use code_model::Place;
+use compaction::{KnownMachine, Tables};
+use form_model::{Blocks, Flow, Forms, Job};
 use mode_set::{ModeWord, Plan};
+use rec_bits::Items;
+use src_model::Typed;
 use sym_expr::Pool;
 use transfer_set::Patterns;
 
@@ -23,20 +26,30 @@ pub(crate) struct Passage {
 }
 
 /// What a netlist is in its modes, with the forms that keep the mode there, the register that holds
-/// the mode, and for each mode the words that lead into it and back, where it can be used and is
-/// another than 0.
+/// the mode, for each mode whether it can be used, and the words that lead into it and back, where
+/// it can be used and is another than 0.
 #[derive(Clone, Copy)]
 pub(crate) struct Modes<'a> {
-    pub machines: &'a [Machine<'a>],
+    pub machines: &'a [KnownMachine<'a>],
     pub forms: &'a [Forms],
     pub special: Option<u32>,
+    pub usable: &'a [bool],
     pub passages: &'a [Option<Passage>],
 }
 
+/// A program that was checked, with the places of its variables, its flow and its jobs.
+#[derive(Drop)]
+pub(crate) struct PlacedProgram<'a> {
+    pub typed: &'a Typed,
+    pub places: Items<Place>,
+    pub blocks: Blocks,
+}
+
 /// A program with the modes and the covers of its jobs, in the order of their numbers, with so many
-/// temporary cells.
+/// temporary cells, on what a netlist is in its modes.
 #[derive(Clone, Copy)]
 pub(crate) struct PlannedProgram<'a> {
+    pub modes: Modes<'a>,
     pub temps: u32,
     pub flow: &'a [Flow],
     pub jobs: &'a [Job],

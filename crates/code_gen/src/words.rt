@@ -5,16 +5,16 @@ ghost use Rattle.std.specs.List.{AllByRecursion, slice_index_or};
 ghost use Rattle.bit_bdd.specs.Diagrams.{Extends};
 ghost use Rattle.block_words.specs.Laws.{operation_in};
 ghost use Rattle.form_model.specs.Live.{regs_of};
-ghost use Rattle.transfer_set.specs.Ready.{IsReady};
+ghost use Rattle.transfer_set.specs.Machines.{IsReadyFor};
 ghost use Rattle.word_fit.specs.Fits.{FitsTurning, IsLeastFit};
 ghost use Rattle.code_gen.specs.Blocks.{IsOnce};
-ghost use Rattle.code_gen.specs.Machines.{machine_netlist, machine_patterns};
+ghost use Rattle.code_gen.specs.Machines.{known_netlist, known_patterns};
 ghost use Rattle.code_gen.specs.Inner.Coded.{AreItemWords, HasWord, IsWordOf, groups_at, words_at};
 
 use bit_bdd::Book;
 use branch_fix::Item;
 use code_model::Word;
-use compaction::{Machine, PackedBlock, pattern_list};
+use compaction::{KnownMachine, PackedBlock, pattern_list};
 use form_model::{RegSet, Step};
 use nop_synth::jump_word;
 use rec_bits::{Items, NoMemory};
@@ -23,29 +23,21 @@ use std::alloc::Global;
 // The word of a jump or a branch, which keeps these registers.
 fn word_of_jump(
     alloc: Global,
-    machine: &Machine<'_>,
+    known: &KnownMachine<'_>,
     book: &mut Book,
     step: Step,
     kept: RegSet,
 ) -> Result<u64, NoMemory>
-    requires ready { IsReady (machine_netlist machine.now) book.old machine.now.pool.now machine.now.patterns.now }
-    requires word { (w : ℕ) × FitsTurning (machine_netlist machine.now) w
-        (operation_in (machine_netlist machine.now) (machine_patterns machine.now) step) (regs_of kept) }
+    requires ready { IsReadyFor known.now.machine book.old }
+    requires word { (w : ℕ) × FitsTurning (known_netlist known.now) w
+        (operation_in (known_netlist known.now) (known_patterns known.now) step) (regs_of kept) }
     ensures grows { Extends book.old book.new }
-    ensures ready { IsReady (machine_netlist machine.now) book.new machine.now.pool.now machine.now.patterns.now }
+    ensures ready { IsReadyFor known.now.machine book.new }
     ensures least { IfOk result (IsLeastFit (λ word.
-        FitsTurning (machine_netlist machine.now) word
-        (operation_in (machine_netlist machine.now) (machine_patterns machine.now) step) (regs_of kept))) }
+        FitsTurning (known_netlist known.now) word
+        (operation_in (known_netlist known.now) (known_patterns known.now) step) (regs_of kept))) }
 {
-    let found = jump_word(
-        alloc,
-        machine.checked,
-        book,
-        machine.pool,
-        machine.patterns,
-        step,
-        kept,
-    )?;
+    let found = jump_word(alloc, &known.machine, book, step, kept)?;
     match found {
         Some(word) => Ok(word),
         // each jump of a layout has a word
@@ -79,18 +71,18 @@ fn steps_of_group(blocks: &[PackedBlock], block: u32, at: u32) -> &[Step]
 // The word of an item, which lists the patterns of its steps.
 fn word_of_item(
     alloc: Global,
-    machine: &Machine<'_>,
+    known: &KnownMachine<'_>,
     book: &mut Book,
     blocks: &[PackedBlock],
     kept: RegSet,
     item: Item,
 ) -> Result<Word, NoMemory>
-    requires ready { IsReady (machine_netlist machine.now) book.old machine.now.pool.now machine.now.patterns.now }
-    requires word { HasWord (machine_netlist machine.now) (machine_patterns machine.now) (regs_of kept) item }
+    requires ready { IsReadyFor known.now.machine book.old }
+    requires word { HasWord (known_netlist known.now) (known_patterns known.now) (regs_of kept) item }
     requires once { AllByRecursion IsOnce blocks.now }
     ensures grows { Extends book.old book.new }
-    ensures ready { IsReady (machine_netlist machine.now) book.new machine.now.pool.now machine.now.patterns.now }
-    ensures word { IfOk result (IsWordOf (machine_netlist machine.now) (machine_patterns machine.now) (regs_of kept) blocks.now item) }
+    ensures ready { IsReadyFor known.now.machine book.new }
+    ensures word { IfOk result (IsWordOf (known_netlist known.now) (known_patterns known.now) (regs_of kept) blocks.now item) }
 {
     match item {
         Item::Group { block, at } => {
@@ -102,7 +94,7 @@ fn word_of_item(
         }
         Item::Jump(step) => {
             let patterns = pattern_list(alloc, &[step])?;
-            let word = word_of_jump(alloc, machine, book, step, kept)?;
+            let word = word_of_jump(alloc, known, book, step, kept)?;
             Ok(Word { word, patterns })
         }
     }
@@ -111,23 +103,23 @@ fn word_of_item(
 /// The words of a layout's items; jump and branch words keep these registers.
 pub(crate) fn words_of_items(
     alloc: Global,
-    machine: &Machine<'_>,
+    known: &KnownMachine<'_>,
     book: &mut Book,
     blocks: &[PackedBlock],
     kept: RegSet,
     items: &[Item],
 ) -> Result<Items<Word>, NoMemory>
-    requires ready { IsReady (machine_netlist machine.now) book.old machine.now.pool.now machine.now.patterns.now }
-    requires words { AllByRecursion (HasWord (machine_netlist machine.now) (machine_patterns machine.now) (regs_of kept)) items.now }
+    requires ready { IsReadyFor known.now.machine book.old }
+    requires words { AllByRecursion (HasWord (known_netlist known.now) (known_patterns known.now) (regs_of kept)) items.now }
     requires once { AllByRecursion IsOnce blocks.now }
     ensures grows { Extends book.old book.new }
-    ensures ready { IsReady (machine_netlist machine.now) book.new machine.now.pool.now machine.now.patterns.now }
-    ensures words { IfOk result (AreItemWords (machine_netlist machine.now)
-        (machine_patterns machine.now) (regs_of kept) blocks.now items.now) }
+    ensures ready { IsReadyFor known.now.machine book.new }
+    ensures words { IfOk result (AreItemWords (known_netlist known.now)
+        (known_patterns known.now) (regs_of kept) blocks.now items.now) }
 {
     let mut words = Items::new(alloc);
     for item in items {
-        let word = word_of_item(alloc, machine, book, blocks, kept, *item)?;
+        let word = word_of_item(alloc, known, book, blocks, kept, *item)?;
         words.push(word)?;
     }
     Ok(words)

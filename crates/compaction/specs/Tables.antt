@@ -5,7 +5,7 @@ use Rattle.net_model.specs.Occurs.{has_read}
 use Rattle.sym_expr.specs.declared.pool.Node.{Node}
 use Rattle.sym_expr.specs.Pools.{expr_of_id}
 use Rattle.live_sets.specs.Reading.{AreReads}
-use Rattle.compaction.specs.declared.machine.Machine.{Machine}
+use Rattle.compaction.specs.declared.machine.KnownMachine.{KnownMachine}
 
 -- for each of the first ids of a pool whether its expression reads the memory or the file
 abbrev pub AreReaders : List Node → List Bool → Type 0
@@ -20,5 +20,5 @@ pub record AreTables (pool : List Node) (registers : List ℕ) (memory : List Bo
   pub readers : AreReaders pool memory
 
 -- those of a machine are of its pool
-abbrev pub KnowsReads : Machine → Type 0
-KnowsReads machine = AreTables machine.pool.now machine.registers.now machine.memory.now
+abbrev pub KnowsReads : KnownMachine → Type 0
+KnowsReads known = AreTables known.machine.pool.now known.registers.now known.memory.now

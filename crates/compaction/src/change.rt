@@ -1,17 +1,18 @@
 //! What is to be done with two neighbours.
 
-ghost use Rattle.std.specs.Prelude.{◌≡◌, ℕ, ◌<◌, [], ◌∷◌, ◌++◌, length, IfOk, IfSome, MatchOption, MatchBool, Some, slice_get, remove};
+ghost use Rattle.std.specs.Prelude.{◌≡◌, ℕ, [], ◌∷◌, ◌++◌, IfOk, IfSome, MatchOption, MatchBool, Some, slice_get, remove};
 ghost use Rattle.bit_bdd.specs.Diagrams.{Extends};
 ghost use Rattle.form_model.specs.declared.forms.Step.{Step as TheStep};
 ghost use Rattle.form_model.specs.Live.{regs_of};
 ghost use Rattle.word_fit.specs.Fits.{IsLeastFit};
-ghost use Rattle.compaction.specs.Machines.{IsReadyFor, fits_in, operation_in};
-ghost use Rattle.compaction.specs.Inner.Machines.{AreWordsOf, CanMerge, CanMove, Changes, HasTables, HasWord, IsFitted, IsPairFitted, Moves, MovesAt};
+ghost use Rattle.transfer_set.specs.Machines.{IsReadyFor};
+ghost use Rattle.compaction.specs.Machines.{fits_in, operation_in};
+ghost use Rattle.compaction.specs.Inner.Machines.{AreWordsOf, CanMerge, CanMove, Changes, HasTables, HasWord, IsFitted, IsPairFitted, Moves};
 ghost use Rattle.compaction.specs.Packing.{IsFree};
 
 use crate::copies::{added, joined};
 use crate::depends::{all_differ, is_read_by_either, reads_across, reads_from, shares_destination};
-use crate::machine::Machine;
+use crate::machine::KnownMachine;
 use bit_bdd::Book;
 use form_model::{RegSet, Step};
 use live_sets::live_between;
@@ -42,133 +43,122 @@ struct Pair {
     second: Fitted,
 }
 
+// A group parted at one of its steps.
+#[derive(Clone, Copy)]
+struct Parted<'a> {
+    front: &'a [Step],
+    step: Step,
+    back: &'a [Step],
+}
+
 // The least word that fits the group, if one does.
 fn word_in(
     alloc: Global,
-    machine: &Machine<'_>,
+    known: &KnownMachine<'_>,
     book: &mut Book,
     group: &[Step],
     live: RegSet,
 ) -> Result<Option<u64>, NoMemory>
-    requires ready { IsReadyFor machine.now book.old }
+    requires ready { IsReadyFor known.now.machine book.old }
     ensures grows { Extends book.old book.new }
-    ensures ready { IsReadyFor machine.now book.new }
+    ensures ready { IsReadyFor known.now.machine book.new }
     ensures word { IfOk result (λ found. MatchOption found
-        (HasWord machine.now group.now (regs_of live) → ⊥)
-        (IsLeastFit (λ word. fits_in machine.now word group.now (regs_of live)))) }
+        (HasWord known.now group.now (regs_of live) → ⊥)
+        (IsLeastFit (λ word. fits_in known.now word group.now (regs_of live)))) }
 {
-    word_for(
-        alloc,
-        machine.checked,
-        book,
-        machine.pool,
-        machine.patterns,
-        group,
-        live,
-    )
+    word_for(alloc, &known.machine, book, group, live)
 }
 
 // The two groups in one, if they may be merged where `live` is live behind the second. A word is
 // sought only where nothing else forbids it.
 fn merged(
     alloc: Global,
-    machine: &Machine<'_>,
+    known: &KnownMachine<'_>,
     book: &mut Book,
     first: &[Step],
     second: &[Step],
     live: RegSet,
 ) -> Result<Option<Fitted>, NoMemory>
-    requires ready { IsReadyFor machine.now book.old }
-    requires tables { HasTables machine.now }
+    requires ready { IsReadyFor known.now.machine book.old }
+    requires tables { HasTables known.now }
     ensures grows { Extends book.old book.new }
-    ensures ready { IsReadyFor machine.now book.new }
+    ensures ready { IsReadyFor known.now.machine book.new }
     ensures merged { IfOk result (λ found. MatchOption found
-        (CanMerge machine.now first.now second.now (regs_of live) → ⊥)
-        (λ both. (both.group ≡ first.now ++ second.now) × CanMerge machine.now first.now second.now (regs_of live))) }
-    ensures word { IfOk result (λ found. IfSome found (IsFitted machine.now (regs_of live))) }
+        (CanMerge known.now first.now second.now (regs_of live) → ⊥)
+        (λ both. (both.group ≡ first.now ++ second.now) × CanMerge known.now first.now second.now (regs_of live))) }
+    ensures word { IfOk result (λ found. IfSome found (IsFitted known.now (regs_of live))) }
 {
-    if !all_differ(machine, first, second) {
+    if !all_differ(known, first, second) {
         return Ok(None);
     }
-    if reads_across(alloc, machine, first, second)? {
+    if reads_across(alloc, known, first, second)? {
         return Ok(None);
     }
     let both = joined(alloc, first, second)?;
-    match word_in(alloc, machine, book, both.as_slice(), live)? {
+    match word_in(alloc, known, book, both.as_slice(), live)? {
         Some(word) => Ok(Some(Fitted { group: both, word })),
         None => Ok(None),
     }
 }
 
-// Whether a step may leave its group for the group before it, but for their words: `front` and
-// `back` stand before it and behind it in its own.
+// Whether a step may leave its group for the group before it, but for their words.
 fn is_free(
     alloc: Global,
-    machine: &Machine<'_>,
+    known: &KnownMachine<'_>,
     first: &[Step],
-    step: Step,
-    front: &[Step],
-    back: &[Step],
+    parted: Parted<'_>,
 ) -> Result<bool, NoMemory>
-    requires { HasTables machine.now }
+    requires { HasTables known.now }
     ensures { IfOk result (λ free. MatchBool free
-        (IsFree (operation_in machine.now) first.now step (front.now ++ back.now))
-        (IsFree (operation_in machine.now) first.now step (front.now ++ back.now) → ⊥)) }
+        (IsFree (operation_in known.now) first.now parted.entry.step (parted.entry.front.now ++ parted.entry.back.now))
+        (IsFree (operation_in known.now) first.now parted.entry.step (parted.entry.front.now ++ parted.entry.back.now) → ⊥)) }
 {
+    let Parted { front, step, back } = parted;
     if front.is_empty() && back.is_empty() {
         return Ok(false);
     }
-    if shares_destination(machine, step, first) {
+    if shares_destination(known, step, first) {
         return Ok(false);
     }
-    if reads_from(alloc, machine, step, first)? {
+    if reads_from(alloc, known, step, first)? {
         return Ok(false);
     }
-    if is_read_by_either(alloc, machine, step, front, back)? {
+    if is_read_by_either(alloc, known, step, front, back)? {
         return Ok(false);
     }
     Ok(true)
 }
 
-// The group with the step, and what the step leaves behind, if it may move: `front` and `back`
-// stand before it and behind it in its own group.
+// The group with the step, and what the step leaves behind in its own, if it may move.
 fn moved_out(
     alloc: Global,
-    machine: &Machine<'_>,
+    known: &KnownMachine<'_>,
     book: &mut Book,
     first: &[Step],
-    step: Step,
-    front: &[Step],
-    back: &[Step],
+    parted: Parted<'_>,
     live: RegSet,
 ) -> Result<Option<Pair>, NoMemory>
-    requires ready { IsReadyFor machine.now book.old }
-    requires tables { HasTables machine.now }
+    requires ready { IsReadyFor known.now.machine book.old }
+    requires tables { HasTables known.now }
     ensures grows { Extends book.old book.new }
-    ensures ready { IsReadyFor machine.now book.new }
+    ensures ready { IsReadyFor known.now.machine book.new }
     ensures moved { IfOk result (λ found. MatchOption found
-        (CanMove machine.now first.now step (front.now ++ back.now) (regs_of live) → ⊥)
-        (λ pair. (pair.first.group ≡ first.now ++ step ∷ []) × (pair.second.group ≡ front.now ++ back.now)
-        × CanMove machine.now first.now step (front.now ++ back.now) (regs_of live))) }
-    ensures words { IfOk result (λ found. IfSome found (IsPairFitted machine.now (regs_of live))) }
+        (CanMove known.now first.now parted.entry.step (parted.entry.front.now ++ parted.entry.back.now) (regs_of live) → ⊥)
+        (λ pair. (pair.first.group ≡ first.now ++ parted.entry.step ∷ [])
+        × (pair.second.group ≡ parted.entry.front.now ++ parted.entry.back.now)
+        × CanMove known.now first.now parted.entry.step (parted.entry.front.now ++ parted.entry.back.now) (regs_of live))) }
+    ensures words { IfOk result (λ found. IfSome found (IsPairFitted known.now (regs_of live))) }
 {
-    if !is_free(alloc, machine, first, step, front, back)? {
+    if !is_free(alloc, known, first, parted)? {
         return Ok(None);
     }
-    let rest = joined(alloc, front, back)?;
-    let between = live_between(
-        machine.checked,
-        machine.patterns,
-        machine.pool,
-        machine.registers,
-        rest.as_slice(),
-        live,
-    );
-    let more = added(alloc, first, step)?;
-    let Some(first_word) = word_in(alloc, machine, book, more.as_slice(), between)? else {
+    let rest = joined(alloc, parted.front, parted.back)?;
+    let between = live_between(&known.machine, known.registers, rest.as_slice(), live);
+    let more = added(alloc, first, parted.step)?;
+    let Some(first_word) = word_in(alloc, known, book, more.as_slice(), between)? else {
         return Ok(None);
     };
-    let Some(second_word) = word_in(alloc, machine, book, rest.as_slice(), live)? else {
+    let Some(second_word) = word_in(alloc, known, book, rest.as_slice(), live)? else {
         return Ok(None);
     };
     Ok(Some(Pair {
@@ -183,55 +173,32 @@ fn moved_out(
     }))
 }
 
-// The two groups with the step at `index` moved to the first, if it may be.
-fn moved_at(
-    alloc: Global,
-    machine: &Machine<'_>,
-    book: &mut Book,
-    first: &[Step],
-    second: &[Step],
-    index: usize,
-    live: RegSet,
-) -> Result<Option<Pair>, NoMemory>
-    requires ready { IsReadyFor machine.now book.old }
-    requires tables { HasTables machine.now }
-    requires within { index < length second.now }
-    ensures grows { Extends book.old book.new }
-    ensures ready { IsReadyFor machine.now book.new }
-    ensures moved { IfOk result (λ found. MatchOption found
-        ((x : TheStep) → slice_get second.now index ≡ Some x →
-        CanMove machine.now first.now x (remove second.now index) (regs_of live) → ⊥)
-        (λ pair. MovesAt machine.now first.now second.now (regs_of live) index pair.first.group pair.second.group)) }
-    ensures words { IfOk result (λ found. IfSome found (IsPairFitted machine.now (regs_of live))) }
-{
-    let step = second[index];
-    let front = &second[..index];
-    let back = &second[index + 1..];
-    let found = moved_out(alloc, machine, book, first, step, front, back, live)?;
-    Ok(found)
-}
-
 // The two groups with the first movable step moved, if there is one.
 fn moved(
     alloc: Global,
-    machine: &Machine<'_>,
+    known: &KnownMachine<'_>,
     book: &mut Book,
     first: &[Step],
     second: &[Step],
     live: RegSet,
 ) -> Result<Option<Pair>, NoMemory>
-    requires ready { IsReadyFor machine.now book.old }
-    requires tables { HasTables machine.now }
+    requires ready { IsReadyFor known.now.machine book.old }
+    requires tables { HasTables known.now }
     ensures grows { Extends book.old book.new }
-    ensures ready { IsReadyFor machine.now book.new }
+    ensures ready { IsReadyFor known.now.machine book.new }
     ensures moved { IfOk result (λ found. MatchOption found
         ((index : ℕ) (x : TheStep) → slice_get second.now index ≡ Some x →
-        CanMove machine.now first.now x (remove second.now index) (regs_of live) → ⊥)
-        (λ pair. Moves machine.now first.now second.now (regs_of live) pair.first.group pair.second.group)) }
-    ensures words { IfOk result (λ found. IfSome found (IsPairFitted machine.now (regs_of live))) }
+        CanMove known.now first.now x (remove second.now index) (regs_of live) → ⊥)
+        (λ pair. Moves known.now first.now second.now (regs_of live) pair.first.group pair.second.group)) }
+    ensures words { IfOk result (λ found. IfSome found (IsPairFitted known.now (regs_of live))) }
 {
     for index in 0..second.len() {
-        match moved_at(alloc, machine, book, first, second, index, live)? {
+        let parted = Parted {
+            front: &second[..index],
+            step: second[index],
+            back: &second[index + 1..],
+        };
+        match moved_out(alloc, known, book, first, parted, live)? {
             Some(pair) => return Ok(Some(pair)),
             None => {}
         }
@@ -242,22 +209,22 @@ fn moved(
 /// What is to be done with two neighbours, where `live` is live behind the second.
 pub(crate) fn change_of(
     alloc: Global,
-    machine: &Machine<'_>,
+    known: &KnownMachine<'_>,
     book: &mut Book,
     first: &[Step],
     second: &[Step],
     live: RegSet,
 ) -> Result<Change, NoMemory>
-    requires ready { IsReadyFor machine.now book.old }
-    requires tables { HasTables machine.now }
+    requires ready { IsReadyFor known.now.machine book.old }
+    requires tables { HasTables known.now }
     ensures grows { Extends book.old book.new }
-    ensures ready { IsReadyFor machine.now book.new }
-    ensures change { IfOk result (Changes machine.now first.now second.now (regs_of live)) }
-    ensures words { IfOk result (AreWordsOf machine.now (regs_of live)) }
+    ensures ready { IsReadyFor known.now.machine book.new }
+    ensures change { IfOk result (Changes known.now first.now second.now (regs_of live)) }
+    ensures words { IfOk result (AreWordsOf known.now (regs_of live)) }
 {
-    match merged(alloc, machine, book, first, second, live)? {
+    match merged(alloc, known, book, first, second, live)? {
         Some(both) => Ok(Change::Merged(both)),
-        None => match moved(alloc, machine, book, first, second, live)? {
+        None => match moved(alloc, known, book, first, second, live)? {
             Some(Pair { first, second }) => Ok(Change::Moved { first, second }),
             None => Ok(Change::Settled),
         },

@@ -6,7 +6,7 @@ ghost use Rattle.compaction.specs.Packing.{all_differ, is_read_by, reads_across,
 ghost use Rattle.compaction.specs.Machines.{operation_in};
 ghost use Rattle.compaction.specs.Inner.Machines.{HasTables};
 
-use crate::machine::{Machine, reads_memory};
+use crate::machine::{KnownMachine, reads_memory};
 use form_model::Step;
 use rec_bits::NoMemory;
 use std::alloc::Global;
@@ -16,46 +16,38 @@ use word_fit::stores_cells;
 // the file and the other writes one are their addresses looked at.
 fn touches(
     alloc: Global,
-    machine: &Machine<'_>,
+    known: &KnownMachine<'_>,
     reader: Step,
     writer: Step,
 ) -> Result<bool, NoMemory>
-    requires { HasTables machine.now }
+    requires { HasTables known.now }
     ensures { IfOk result (λ read. read
-        ≡ reads (operation_in machine.now reader) (location_of (operation_in machine.now writer))) }
+        ≡ reads (operation_in known.now reader) (location_of (operation_in known.now writer))) }
 {
-    if stores_cells(machine.patterns, writer) && !reads_memory(machine, reader) {
+    if stores_cells(known.machine.patterns, writer) && !reads_memory(known, reader) {
         return Ok(false);
     }
-    live_sets::touches(
-        alloc,
-        machine.checked,
-        machine.patterns,
-        machine.pool,
-        machine.registers,
-        reader,
-        writer,
-    )
+    live_sets::touches(alloc, &known.machine, known.registers, reader, writer)
 }
 
 /// Whether the step reads a destination of the group.
 pub(crate) fn reads_from(
     alloc: Global,
-    machine: &Machine<'_>,
+    known: &KnownMachine<'_>,
     step: Step,
     group: &[Step],
 ) -> Result<bool, NoMemory>
-    requires { HasTables machine.now }
+    requires { HasTables known.now }
     ensures { IfOk result (λ read.
-        read ≡ reads_from (operation_in machine.now) (operation_in machine.now step) group.now) }
+        read ≡ reads_from (operation_in known.now) (operation_in known.now step) group.now) }
 {
     match group {
         [] => Ok(false),
         [writer, rest @ ..] => {
-            if touches(alloc, machine, step, *writer)? {
+            if touches(alloc, known, step, *writer)? {
                 Ok(true)
             } else {
-                reads_from(alloc, machine, step, rest)
+                reads_from(alloc, known, step, rest)
             }
         }
     }
@@ -64,20 +56,20 @@ pub(crate) fn reads_from(
 /// Whether one of the readers reads a destination of the group.
 pub(crate) fn reads_across(
     alloc: Global,
-    machine: &Machine<'_>,
+    known: &KnownMachine<'_>,
     group: &[Step],
     readers: &[Step],
 ) -> Result<bool, NoMemory>
-    requires { HasTables machine.now }
-    ensures { IfOk result (λ read. read ≡ reads_across (operation_in machine.now) group.now readers.now) }
+    requires { HasTables known.now }
+    ensures { IfOk result (λ read. read ≡ reads_across (operation_in known.now) group.now readers.now) }
 {
     match readers {
         [] => Ok(false),
         [reader, rest @ ..] => {
-            if reads_from(alloc, machine, *reader, group)? {
+            if reads_from(alloc, known, *reader, group)? {
                 Ok(true)
             } else {
-                reads_across(alloc, machine, group, rest)
+                reads_across(alloc, known, group, rest)
             }
         }
     }
@@ -86,21 +78,21 @@ pub(crate) fn reads_across(
 // Whether a step of the group reads the step's destination.
 fn is_read_by(
     alloc: Global,
-    machine: &Machine<'_>,
+    known: &KnownMachine<'_>,
     step: Step,
     group: &[Step],
 ) -> Result<bool, NoMemory>
-    requires { HasTables machine.now }
+    requires { HasTables known.now }
     ensures { IfOk result (λ read.
-        read ≡ is_read_by (operation_in machine.now) (operation_in machine.now step) group.now) }
+        read ≡ is_read_by (operation_in known.now) (operation_in known.now step) group.now) }
 {
     match group {
         [] => Ok(false),
         [reader, rest @ ..] => {
-            if touches(alloc, machine, *reader, step)? {
+            if touches(alloc, known, *reader, step)? {
                 Ok(true)
             } else {
-                is_read_by(alloc, machine, step, rest)
+                is_read_by(alloc, known, step, rest)
             }
         }
     }
@@ -109,68 +101,62 @@ fn is_read_by(
 /// Whether a step of one of two groups reads the step's destination.
 pub(crate) fn is_read_by_either(
     alloc: Global,
-    machine: &Machine<'_>,
+    known: &KnownMachine<'_>,
     step: Step,
     first: &[Step],
     second: &[Step],
 ) -> Result<bool, NoMemory>
-    requires { HasTables machine.now }
+    requires { HasTables known.now }
     ensures { IfOk result (λ read. read
-        ≡ is_read_by (operation_in machine.now) (operation_in machine.now step) (first.now ++ second.now)) }
+        ≡ is_read_by (operation_in known.now) (operation_in known.now step) (first.now ++ second.now)) }
 {
-    let in_first = is_read_by(alloc, machine, step, first)?;
-    let in_second = is_read_by(alloc, machine, step, second)?;
+    let in_first = is_read_by(alloc, known, step, first)?;
+    let in_second = is_read_by(alloc, known, step, second)?;
     Ok(in_first || in_second)
 }
 
 /// Whether a step of the group has the step's destination.
-pub(crate) fn shares_destination(machine: &Machine<'_>, step: Step, group: &[Step]) -> bool
-    requires { HasTables machine.now }
-    ensures { result ≡ shares_destination (operation_in machine.now) (operation_in machine.now step) group.now }
+pub(crate) fn shares_destination(known: &KnownMachine<'_>, step: Step, group: &[Step]) -> bool
+    requires { HasTables known.now }
+    ensures { result ≡ shares_destination (operation_in known.now) (operation_in known.now step) group.now }
 {
     match group {
         [] => false,
         [other, rest @ ..] => {
-            live_sets::shares(
-                machine.checked,
-                machine.patterns,
-                machine.pool,
-                step,
-                *other,
-            ) || shares_destination(machine, step, rest)
+            live_sets::shares(&known.machine, step, *other) || shares_destination(known, step, rest)
         }
     }
 }
 
 // Whether a step of one of two groups has the step's destination.
-fn shares_either(machine: &Machine<'_>, step: Step, first: &[Step], second: &[Step]) -> bool
-    requires { HasTables machine.now }
+fn shares_either(known: &KnownMachine<'_>, step: Step, first: &[Step], second: &[Step]) -> bool
+    requires { HasTables known.now }
     ensures { result
-        ≡ shares_destination (operation_in machine.now) (operation_in machine.now step) (first.now ++ second.now) }
+        ≡ shares_destination (operation_in known.now) (operation_in known.now step) (first.now ++ second.now) }
 {
-    shares_destination(machine, step, first) || shares_destination(machine, step, second)
+    shares_destination(known, step, first) || shares_destination(known, step, second)
 }
 
 /// Whether the destinations of two groups all differ.
-pub(crate) fn all_differ(machine: &Machine<'_>, first: &[Step], second: &[Step]) -> bool
-    requires { HasTables machine.now }
-    ensures { result ≡ all_differ (operation_in machine.now) (first.now ++ second.now) }
+pub(crate) fn all_differ(known: &KnownMachine<'_>, first: &[Step], second: &[Step]) -> bool
+    requires { HasTables known.now }
+    ensures { result ≡ all_differ (operation_in known.now) (first.now ++ second.now) }
 {
     match first {
-        [] => differ(machine, second),
+        [] => differ(known, second),
         [step, rest @ ..] => {
-            !shares_either(machine, *step, rest, second) && all_differ(machine, rest, second)
+            !shares_either(known, *step, rest, second) && all_differ(known, rest, second)
         }
     }
 }
 
 // Whether the destinations of a group all differ.
-fn differ(machine: &Machine<'_>, group: &[Step]) -> bool
-    requires { HasTables machine.now }
-    ensures { result ≡ all_differ (operation_in machine.now) group.now }
+fn differ(known: &KnownMachine<'_>, group: &[Step]) -> bool
+    requires { HasTables known.now }
+    ensures { result ≡ all_differ (operation_in known.now) group.now }
 {
     match group {
         [] => true,
-        [step, rest @ ..] => !shares_destination(machine, *step, rest) && differ(machine, rest),
+        [step, rest @ ..] => !shares_destination(known, *step, rest) && differ(known, rest),
     }
 }

@@ -5,27 +5,29 @@
 //! that fit them, clocked in order, leave what the steps leave (`meaning`: `MeansSteps`); no two
 //! neighbours may be merged and no step may move up (`packed`: `ArePacked`); and which packing it
 //! is, is settled (`chosen`: `IsWritten`, `law_of_choice`). `pack_with` gives each of the same
-//! groups with its word, the least that fits it (`least`: `AreLeast`), by a `Machine` that knows
-//! what the pool's expressions read; `tables_of` tells that once for all blocks (`AreTables`).
-//! `pattern_list` gives the numbers of a group's patterns, ascending.
+//! groups with its word, the least that fits it (`least`: `AreLeast`), by a `KnownMachine`, of
+//! which it is known what its expressions read; `tables_of` tells that once for all blocks
+//! (`AreTables`). `pattern_list` gives the numbers of a group's patterns, ascending.
 //!
-//! Invariant: before each turn of `settle` the pairs before the current one are settled (`PackedTo`
-//! in `specs/Inner/Machines`), `lives` has the registers that are live behind each group, and
-//! `found` the words that changes were made for, each the least that fits its group now
-//! (`AreFound` in `specs/Inner/Found`). A turn keeps what the groups do in every state and what is
-//! live before them (`IsSame` in `specs/Inner/Turns`), so what was settled to the left stays so,
-//! and so do the words there; after a change the packer goes on one pair back. A turn makes the
-//! list lighter or goes on by one pair, so it ends. The words of groups that no change made, each
-//! of one step, are sought last.
+//! Invariant: before each turn of `settled` the pairs before the current one are settled, `lives`
+//! has the registers that are live behind each group, and `found` the words that changes were made
+//! for, each the least that fits its group now (`IsDraft` in `specs/Inner/Machines`, by `PackedTo`
+//! and by `AreFound` of `specs/Inner/Found`). A turn keeps what the groups do in every state and
+//! what is live before them (`IsSame` in `specs/Inner/Turns`), so what was settled to the left stays
+//! so, and so do the words there; after a change the packer goes on one pair back. A turn makes the
+//! list lighter or goes on by one pair, so it ends. The words of groups that no change made, each of
+//! one step, are sought last. No code reads what is live behind the block once `draft_of` has made
+//! the sets of it, so `turn` and `group_words` promise what they do at any such registers.
 //!
 //! Files:
 //!
 //! - `tables`: what the expressions of a pool read.
-//! - `machine`: a netlist with its patterns and the tables.
+//! - `machine`: a machine with the tables.
 //! - `copies`: groups made of others.
 //! - `depends`: what steps of groups read and write of one another.
 //! - `change`: what is done with two neighbours: merge, move a step, or leave them; a word is
 //!   sought only where nothing else forbids the change.
+//! - `draft`: the groups of a block while they are packed, with what is known of each.
 //! - `packer`: from pair to pair, `pack_with` and `pack`.
 //! - `words`: the words of the groups, of which those that were found are taken over.
 //! - `list`: the list of a word's patterns.
@@ -40,6 +42,7 @@
 mod change;
 mod copies;
 mod depends;
+mod draft;
 mod laws;
 mod list;
 mod machine;
@@ -49,6 +52,6 @@ mod words;
 
 pub use laws::law_of_choice;
 pub use list::pattern_list;
-pub use machine::Machine;
+pub use machine::KnownMachine;
 pub use packer::{PackedBlock, pack, pack_with};
 pub use tables::{Tables, tables_of};

@@ -1,4 +1,4 @@
-//! A netlist with its patterns.
+//! A netlist with its patterns, and what their expressions read.
 
 ghost use Rattle.std.specs.Prelude.{◌≡◌};
 ghost use Rattle.net_model.specs.Occurs.{transfer_has_read};
@@ -7,16 +7,12 @@ ghost use Rattle.compaction.specs.Inner.Machines.{HasTables};
 
 use form_model::{RegSet, Step};
 use live_sets::flag_at;
-use net_model::Checked;
-use sym_expr::Pool;
-use transfer_set::Patterns;
+use transfer_set::Machine;
 
-/// A netlist that code is made for, with its patterns, whose expressions are of the pool.
+/// A netlist that code is made for, with what the expressions of its patterns read.
 #[derive(Clone, Copy)]
-pub struct Machine<'a> {
-    pub checked: &'a Checked,
-    pub pool: &'a Pool,
-    pub patterns: &'a Patterns,
+pub struct KnownMachine<'a> {
+    pub machine: Machine<'a>,
     /// For each expression of the pool the registers that it reads.
     pub registers: &'a [RegSet],
     /// And whether it reads the memory or the file.
@@ -24,15 +20,13 @@ pub struct Machine<'a> {
 }
 
 /// Whether a step reads the memory or the file.
-pub(crate) fn reads_memory(machine: &Machine<'_>, step: Step) -> bool
-    requires { HasTables machine.now }
-    ensures { result ≡ transfer_has_read (operation_in machine.now step).move }
+pub(crate) fn reads_memory(known: &KnownMachine<'_>, step: Step) -> bool
+    requires { HasTables known.now }
+    ensures { result ≡ transfer_has_read (operation_in known.now step).move }
 {
-    match machine.patterns.expr_of(step.pattern) {
+    match known.machine.patterns.expr_of(step.pattern) {
         None => false,
-        Some((None, value)) => flag_at(machine.memory, value),
-        Some((Some(addr), value)) => {
-            flag_at(machine.memory, addr) || flag_at(machine.memory, value)
-        }
+        Some((None, value)) => flag_at(known.memory, value),
+        Some((Some(addr), value)) => flag_at(known.memory, addr) || flag_at(known.memory, value),
     }
 }

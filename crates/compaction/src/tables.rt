@@ -50,8 +50,8 @@ fn memory_table(alloc: Global, pool: &Pool) -> Result<Items<bool>, NoMemory>
     Ok(flags)
 }
 
-/// What the expressions of a pool read, which a `Machine` is lent for all blocks. Want of memory is
-/// the only refusal.
+/// What the expressions of a pool read, which a `KnownMachine` is lent for all blocks. Want of
+/// memory is the only refusal.
 pub fn tables_of(alloc: Global, pool: &Pool) -> Result<Tables, NoMemory>
     ensures { IfOk result (λ tables. AreTables pool.now tables.registers tables.memory) }
 {

@@ -30,9 +30,9 @@ use Rattle.compile_command.specs.declared.fault.CompileFault.{CompileFault}
 use Rattle.compile_command.specs.declared.fault.CompileFault.TheVariants.{NetText, Net, SrcText, Src, DataFull, NoStep, NoJump, NoCover, NoReach, ImageFull, Memory}
 
 -- tasks with the same parts are one
-pub same_parts : (task other : Task) → task.netlist ≡ other.netlist → task.width ≡ other.width → task.listing ≡ other.listing → task.places ≡ other.places → task.flow ≡ other.flow → task.works ≡ other.works → task ≡ other
-same_parts task other netlist width listing places flow works =
-    (λ i. record { netlist = netlist i; width = width i; listing = listing i; places = places i; flow = flow i; works = works i })
+pub same_parts : (task other : Task) → task.netlist ≡ other.netlist → task.width ≡ other.width → task.program ≡ other.program → task.places ≡ other.places → task.flow ≡ other.flow → task.jobs ≡ other.jobs → task ≡ other
+same_parts task other netlist width program places flow jobs =
+    (λ i. record { netlist = netlist i; width = width i; program = program i; places = places i; flow = flow i; jobs = jobs i })
 
 -- why there is no image of a task that has room
 pub fault_of_image : (task : Task) → HasRoom task → (fault : CodeFault) → IsCodeFault task fault → IsTaskFault task (code_fault fault)
@@ -44,23 +44,24 @@ fault_of_image task room (Overlong len size bound) h = (room, h)
 fault_of_image task room CodeMemory h = tt
 
 -- why its program has no places in as many cells as its memory has
-pub place_fault : (task : Task) (words : ℕ) → words ≡ memory_size task.netlist.storages → (fault : BindFault) → IsBindFault (need_of task.width task.listing) words fault → IsPlaceFault task (bind_fault fault)
+pub place_fault : (task : Task) (words : ℕ) → words ≡ memory_size task.netlist.storages → (fault : BindFault) → IsBindFault (need_of task.width task.program) words fault → IsPlaceFault task (bind_fault fault)
 place_fault task words same (NoRoom need have) h = record { needs = h.0; has = h.1 ∙ same; more = omega (arith, h.0, h.1, h.2) }
 place_fault task words same BindMemory h = tt
 
--- why it has no places
-pub fault_of_places : (task : Task) (fault : CompileFault) → IsPlaceFault task fault → IsTaskFault task fault
-fault_of_places task (NetText at) h = absurd h
-fault_of_places task (Net fault) h = absurd h
-fault_of_places task (SrcText at) h = absurd h
-fault_of_places task (Src fault) h = absurd h
-fault_of_places task (DataFull need have) h = h
-fault_of_places task NoStep h = absurd h
-fault_of_places task NoJump h = absurd h
-fault_of_places task (NoCover number) h = absurd h
-fault_of_places task (NoReach bound reach) h = absurd h
-fault_of_places task (ImageFull len size bound) h = absurd h
-fault_of_places task Memory h = tt
+-- why it has no places, in whatever way that is told
+pub fault_of_places : (task : Task) (Tells : CompileFault → Type 0) → ((need have : ℕ) → IsDataFull need have task → Tells (DataFull need have)) → Tells Memory
+    → (fault : CompileFault) → IsPlaceFault task fault → Tells fault
+fault_of_places task Tells full memory (NetText at) h = absurd h
+fault_of_places task Tells full memory (Net fault) h = absurd h
+fault_of_places task Tells full memory (SrcText at) h = absurd h
+fault_of_places task Tells full memory (Src fault) h = absurd h
+fault_of_places task Tells full memory (DataFull need have) h = full need have h
+fault_of_places task Tells full memory NoStep h = absurd h
+fault_of_places task Tells full memory NoJump h = absurd h
+fault_of_places task Tells full memory (NoCover number) h = absurd h
+fault_of_places task Tells full memory (NoReach bound reach) h = absurd h
+fault_of_places task Tells full memory (ImageFull len size bound) h = absurd h
+fault_of_places task Tells full memory Memory h = memory
 
 -- why the program's bytes were not taken for a netlist that was read
 pub fault_of_program : (net src : List ℕ) (modes : Moded) (width : ℕ) → IsTakenModes compiled_edition net modes → width ≡ memory_width modes.netlist.storages → (fault : CompileFault) →
@@ -106,8 +107,8 @@ module _ (net src : List ℕ) where
   one_task a b p q =
       let e : p.entries ≡ q.entries = p.net_file.file.file.says.only q.entries q.net_file.file.file.says.text in
       p.row
-      ∙ same_task a.netlist b.netlist a.width b.width a.listing b.listing (p.netlist ∙ (ap taken_of e ∙ sym q.netlist)) (p.width ∙ (ap data_width e ∙ sym q.width))
-      (p.src_file.says.only b.listing q.src_file.says.text)
+      ∙ same_task a.netlist b.netlist a.width b.width a.program b.program (p.netlist ∙ (ap taken_of e ∙ sym q.netlist)) (p.width ∙ (ap data_width e ∙ sym q.width))
+      (p.src_file.says.only b.program q.src_file.says.text)
       ∙ sym q.row
 
   -- what holds of it, and what else does, holds of the same task
@@ -126,7 +127,7 @@ module _ (net src : List ℕ) where
   pub none_broken : (P : Property) (fault : SrcFault) → TaskHolds net src P → BreaksSrc net src fault → ⊥
   none_broken P fault h b =
       let e : b.entries ≡ h.is.entries = b.net_file.file.file.says.only h.is.entries h.is.net_file.file.file.says.text in
-      no_broken_rule src h.task.width h.task.listing fault h.is.src_file
+      no_broken_rule src h.task.width h.task.program fault h.is.src_file
       (subst (λ n. BreaksSrcRule src n fault) (ap data_width e ∙ sym h.is.width) b.breaks)
 
   -- what follows from what holds of it holds of it

@@ -21,13 +21,13 @@ use Rattle.compile_command.specs.declared.fault.CompileFault.TheVariants.{DataFu
 
 -- the program needs more cells than the memory has, and these are the numbers
 pub record IsDataFull (need have : ℕ) (task : Task) : Type 0 where
-  pub needs : need ≡ need_of task.width task.listing
+  pub needs : need ≡ need_of task.width task.program
   pub has : have ≡ memory_size task.netlist.storages
   pub more : have < need
 
 -- the memory has the cells that the program needs
 pub record HasRoom (task : Task) : Type 0 where
-  pub room : need_of task.width task.listing ≤ memory_size task.netlist.storages
+  pub room : need_of task.width task.program ≤ memory_size task.netlist.storages
 
 -- an image that is right code for a task whose netlist holds it: the memory has room for the
 -- program, jumps reach as far as its code may be long, the image is made for the task and traces

@@ -26,8 +26,8 @@ pub record IsTask (net src : List ℕ) (task : Task) : Type 0 where
   pub net_file : IsRoutedTaken compiled_edition net entries
   pub netlist : task.netlist ≡ taken_of entries
   pub width : task.width ≡ data_width entries
-  pub src_file : IsSrcFile src task.width task.listing
-  pub row : task ≡ row_task task.netlist task.width task.listing
+  pub src_file : IsSrcFile src task.width task.program
+  pub row : task ≡ row_task task.netlist task.width task.program
 
 -- they are, and this holds of the task
 pub record TaskHolds (net src : List ℕ) (P : Property) : Type 0 where

@@ -1,21 +1,21 @@
 //! From the two texts to the image's.
 
-ghost use Rattle.std.specs.Prelude.{◌≡◌, ◌<◌, ◌≤◌, ◌^◌, IfOk, IfErr, None, length};
+ghost use Rattle.std.specs.Prelude.{◌≡◌, ◌<◌, ◌≤◌, ◌^◌, IfOk, IfErr, length};
 ghost use Rattle.std.specs.List.{AllByRecursion};
 ghost use Rattle.net_model.specs.ModeRules.{KeepsModes};
-ghost use Rattle.net_model.specs.Nets.{memory_size, memory_width};
+ghost use Rattle.net_model.specs.Nets.{memory_size};
 ghost use Rattle.isa_extract.specs.Extraction.{AreIsas};
 ghost use Rattle.isa_extract.specs.Taken.{IsTakenModes};
-ghost use Rattle.src_model.specs.Rules.{first_fault};
 ghost use Rattle.src_model.specs.Written.{model_of_program};
 ghost use Rattle.src_front.specs.Fronts.{AreNamed, IsSrcFile};
 ghost use Rattle.code_model.specs.ImageFits.{IsFitting, PlaceFits, limits_of};
 ghost use Rattle.code_model.specs.ImageLines.{IsImageText};
 ghost use Rattle.code_model.specs.Layout.{layout_of};
 ghost use Rattle.code_model.specs.Places.{Apart};
-ghost use Rattle.right_code.specs.Tasks.{read_task};
+ghost use Rattle.right_code.specs.Tasks.{IsChecked, read_task};
+ghost use Rattle.code_gen.specs.Tasks.{coded_task};
 ghost use Rattle.compile_command.specs.Code.{HasRoom, IsPlaceFault, IsRightFor, IsTaskFault};
-ghost use Rattle.compile_command.specs.Read.{IsCompiledTo, IsRead};
+ghost use Rattle.compile_command.specs.Read.{AreChecked, IsCompiledTo, IsRead};
 ghost use Rattle.compile_command.specs.Compiled.{IsCompiled, IsCompileFault, IsNetFault, IsReadFault, IsSrcFault};
 ghost use Rattle.compile_command.specs.Tasks.{compiled_edition};
 ghost use Rattle.compile_command.specs.declared.fault.CompileFault.{CompileFault};
@@ -23,7 +23,8 @@ ghost use Rattle.compile_command.specs.declared.fault.CompileFault.{CompileFault
 use crate::fault::CompileFault;
 use binding::bind;
 use code_gen::{blocks_of, image_of};
-use code_model::{Image, Places};
+use code_model::{Image, Place, Places};
+use form_model::Blocks;
 use isa_extract::{Isa, read_extracted};
 use net_model::Modes;
 use rec_bits::{Items, NoMemory};
@@ -93,6 +94,33 @@ pub fn text(alloc: Global, modes: &Modes, image: &Image) -> Result<Vec<u8>, NoMe
     image_text::write(alloc, image)
 }
 
+/// What code is made of: the places of a program's variables, and its flow and jobs.
+#[derive(Drop)]
+pub struct LoweredProgram {
+    pub places: Items<Place>,
+    pub blocks: Blocks,
+}
+
+/// What code of the program for the netlist is made of. The refusals are `DataFull` and want of
+/// memory.
+pub fn lowered(alloc: Global, modes: &Modes, typed: &Typed) -> Result<LoweredProgram, CompileFault>
+    requires { AreChecked modes.now typed.now }
+    ensures task { IfOk result (λ lowered. coded_task modes.now.netlist typed.now lowered.places lowered.blocks
+        ≡ read_task modes.now typed.now) }
+    ensures checked { IfOk result (λ lowered.
+        IsChecked (coded_task modes.now.netlist typed.now lowered.places lowered.blocks)) }
+    ensures room { IfOk result (λ _. HasRoom (read_task modes.now typed.now)) }
+    ensures named { IfOk result (λ lowered. AllByRecursion PlaceFits lowered.places) }
+    ensures refused { IfErr result (IsPlaceFault (read_task modes.now typed.now)) }
+{
+    let places = places(alloc, modes, typed)?;
+    let blocks = blocks_of(alloc, modes, typed, &places)?;
+    Ok(LoweredProgram {
+        places: places.list,
+        blocks,
+    })
+}
+
 /// The image of the program for the netlist: right code. The refusals are those from `DataFull` on.
 pub fn image_for(
     alloc: Global,
@@ -100,18 +128,13 @@ pub fn image_for(
     isas: Items<Isa>,
     typed: &Typed,
 ) -> Result<Image, CompileFault>
-    requires rules { KeepsModes modes.now.netlist }
+    requires checked { AreChecked modes.now typed.now }
     requires isas { AreIsas modes.now.bases isas }
-    requires width { typed.now.width ≡ memory_width modes.now.netlist.storages }
-    requires program { first_fault typed.now.width (model_of_program typed.now.program) ≡ None }
-    requires few { length typed.now.program.vars < 2 ^ 32 }
-    requires named { AreNamed typed.now.program.vars }
     ensures image { IfOk result (λ image. IsRightFor image (read_task modes.now typed.now)) }
     ensures refused { IfErr result (IsTaskFault (read_task modes.now typed.now)) }
 {
-    let places = places(alloc, modes, typed)?;
-    let blocks = blocks_of(alloc, modes, typed, &places)?;
-    let image = image_of(alloc, modes, isas, typed, places.list, blocks)?;
+    let lowered = lowered(alloc, modes, typed)?;
+    let image = image_of(alloc, modes, isas, typed, lowered.places, lowered.blocks)?;
     Ok(image)
 }
 
@@ -125,6 +148,7 @@ pub fn read(
     requires net { length net.now < 2 ^ 32 }
     requires src { length src.now < 2 ^ 32 }
     ensures read { IfOk result (λ all. IsRead net.now src.now all.0 all.2) }
+    ensures checked { IfOk result (λ all. AreChecked all.0 all.2) }
     ensures isas { IfOk result (λ all. AreIsas all.0.bases all.1) }
     ensures refused { IfErr result (IsReadFault net.now src.now) }
 {

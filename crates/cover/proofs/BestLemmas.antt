@@ -10,18 +10,24 @@ use Rattle.net_model.specs.Exprs.{ExprModel}
 use Rattle.form_model.specs.Forms.{DestinationModel}
 use Rattle.form_model.specs.Trees.{model_of_tree}
 use Rattle.form_model.specs.declared.trees.Tree.{Tree}
-use Rattle.form_model.specs.CoverModels.{CoverModel, use_form, cost, model_of_cover}
+use Rattle.form_model.specs.CoverModels.{CoverModel, use_form, cost, model_of_cover, model_of_cover_operands, model_of_cover_cuts}
 use Rattle.form_model.specs.Covers.{StockModel, JobCoverModel, IsChosen, HasNoCover, parts_cost, written, IsBefore}
-use Rattle.cover.specs.declared.limits.Limits.{Limits}
+use Rattle.form_model.specs.declared.covers.Cover.{Cover}
+use Rattle.cover.proofs.ChoiceLemmas.{first_by_form}
+use Rattle.least_costs.proofs.FitLemmas.{best_least}
+use Rattle.least_costs.specs.Searches.{open_operands, open_cuts}
+use Rattle.least_costs.specs.Fits.{fit_cost, IsBestFit}
+use Rattle.least_costs.specs.declared.fits.BestFit.{BestFit}
+use Rattle.least_costs.specs.declared.limits.Limits.{Limits}
 use Rattle.cover.specs.declared.covers.JobCover.{JobCover}
 use Rattle.cover.specs.declared.covers.TreeCover.{TreeCover}
-use Rattle.cover.specs.Inner.Subgoals.{free, SubgoalModel, IsSparing}
-use Rattle.cover.specs.Inner.Least.{IsLeast}
+use Rattle.least_costs.specs.Subgoals.{free, SubgoalModel, IsSparing}
+use Rattle.least_costs.specs.Least.{IsLeast}
 use Rattle.cover.specs.Jobs.{trees_of}
-use Rattle.cover.specs.Inner.Choice.{IsFirst}
+use Rattle.cover.specs.Inner.Choice.{IsFirst, NeverBegins, AreFirstParts}
 use Rattle.cover.specs.Best.{model_of_job_cover}
 use Rattle.cover.specs.Inner.Best.{root_subgoal, IsTreeCover, better_of, Beats, IsBestOne, IsBest}
-use Rattle.cover.proofs.OrderlyLemmas.{to_orderly, from_orderly, and_zero}
+use Rattle.least_costs.proofs.OrderlyLemmas.{to_orderly, from_orderly, and_zero}
 
 pub first_cost : (stock : StockModel) (limits : Limits) (ask : SubgoalModel) (n : ℕ) (p : CoverModel) → IsLeast stock limits ask (Some n) → IsFirst stock limits ask p → n ≡ cost p
 first_cost stock limits ask n p least first =
@@ -29,10 +35,20 @@ first_cost stock limits ask n p least first =
     let h = least.least p first.sparing in
     elim (first.first p0 sparing0) [ inl lt ↦ absurd (omega (arith, lt, h, e0)) | inr eq ↦ (let e = eq.0 in omega (arith, e, e0)) ]
 
+-- the first covers of the parts of the form that begins a first cover make one
+pub parts_first : (stock : StockModel) (limits : Limits) (ask : SubgoalModel) (b : BestFit) (c : Cover) → IsBestFit stock limits ask (length stock.forms) b → AreFirstParts stock limits (open_operands b.fit.operands.items) (open_cuts b.fit.cuts.items) b.form c → IsFirst stock limits ask (model_of_cover c) × (fit_cost b.fit ≡ cost (model_of_cover c))
+parts_first stock limits ask b c h parts =
+    let least = best_least stock limits ask b h in
+    let earlier : (j : ℕ) → j < b.form → NeverBegins stock limits ask (fit_cost b.fit) j = λ j lt ps cs sparing e. (let x = h.first j ps cs lt sparing in absurd (omega (arith, x, e))) in
+    let first : IsFirst stock limits ask (model_of_cover c) =
+    subst (λ k. IsFirst stock limits ask (use_form k (model_of_cover_operands c.operands) (model_of_cover_cuts c.cuts))) (sym parts.0)
+    (first_by_form stock limits ask (fit_cost b.fit) least b.form _ _ _ _ _ _ earlier h.fits refl parts.1 parts.2) in
+    (first, first_cost stock limits ask (fit_cost b.fit) (model_of_cover c) least first)
+
 -- a first cover of the tree at j, among the covers of that tree
-beats_same : (a b : CoverModel) (j i : ℕ) → i ≡ j → (cost a < cost b) ⊎ ((cost a ≡ cost b) × ((a ≡ b) ⊎ IsBefore a b)) → Beats (record { which = j; plan = a }) (record { which = i; plan = b })
+beats_same : (a b : CoverModel) (j i : ℕ) → i ≡ j → (cost a < cost b) ⊎ ((cost a ≡ cost b) × ((a ≡ b) ⊎ IsBefore a b)) → Beats (record { which = j; cover = a }) (record { which = i; cover = b })
 beats_same a b j i e (inl lt) = inl lt
-beats_same a b j i e (inr (same, inl eq)) = inr (same, inl (λ k. record { which = sym e k; plan = eq k }))
+beats_same a b j i e (inr (same, inl eq)) = inr (same, inl (λ k. record { which = sym e k; cover = eq k }))
 beats_same a b j i e (inr (same, inr before)) = inr (same, inr (inr (sym e, before)))
 
 lt_of : (a b : ℕ) → nat_lt a b ≡ true → a < b
@@ -41,7 +57,7 @@ lt_of a b e = grind (arith, nat_tests)
 ge_of : (a b : ℕ) → nat_lt a b ≡ false → b ≤ a
 ge_of a b e = grind (arith, nat_tests)
 
-at_least : (a b : JobCoverModel) → Beats a b → cost a.plan ≤ cost b.plan
+at_least : (a b : JobCoverModel) → Beats a b → cost a.cover ≤ cost b.cover
 at_least a b (inl lt) = omega (arith, lt)
 at_least a b (inr eq) = let e = eq.0 in omega (arith, e)
 
@@ -97,7 +113,7 @@ module _ (stock : StockModel) (destination : DestinationModel) (trees : List Exp
   best_more (Some c) (Some x) b n = go (nat_lt x.cost c.cost) refl
     where
       go : (v : Bool) → nat_lt x.cost c.cost ≡ v → IsBest stock destination trees (j + 1) (if v then Some (record { which = j; cover = x.cover; cost = x.cost }) else Some c)
-      go true e = new_best x n (λ i u q lt get' sparing. (let l = lt_of x.cost c.cost e in let m = at_least (model_of_job_cover c) (record { which = i; plan = q }) (b.beats i u q lt get' sparing) in let k = b.costs in omega (arith, l, m, k)))
+      go true e = new_best x n (λ i u q lt get' sparing. (let l = lt_of x.cost c.cost e in let m = at_least (model_of_job_cover c) (record { which = i; cover = q }) (b.beats i u q lt get' sparing) in let k = b.costs in omega (arith, l, m, k)))
       go false e = old_best c b (λ q sparing. (let l = ge_of x.cost c.cost e in let m = tree_cover_least x n q sparing in omega (arith, l, m)))
 
 pub tree_get : (trees : List Tree) (j : ℕ) (t : Tree) → slice_get trees j ≡ Some t → slice_get (trees_of trees) j ≡ Some (model_of_tree t)
@@ -108,14 +124,14 @@ best_chosen stock destination trees n c len b = record {
   covers =
       let (orderly, kept) = to_orderly stock (model_of_cover c.cover) (root_subgoal destination b.tree) (free stock) b.sparing in
       record { tree = b.tree; used = b.used; orderly = orderly; enough = kept.1 };
-  first = λ other covers. b.beats other.which covers.tree other.plan (let w = slice_get_within trees other.which covers.tree covers.used in omega (arith, w, len)) covers.used
-      (from_orderly stock other.plan (root_subgoal destination covers.tree) (free stock) covers.orderly (and_zero (written stock.rules other.plan), covers.enough));
+  first = λ other covers. b.beats other.which covers.tree other.cover (let w = slice_get_within trees other.which covers.tree covers.used in omega (arith, w, len)) covers.used
+      (from_orderly stock other.cover (root_subgoal destination covers.tree) (free stock) covers.orderly (and_zero (written stock.forms other.cover), covers.enough));
 }
 
 pub best_none : (stock : StockModel) (destination : DestinationModel) (trees : List ExprModel) (n : ℕ) → length trees ≡ n → IsBest stock destination trees n None → HasNoCover stock destination trees
 best_none stock destination trees n len b = record {
-  none = λ other covers. b other.which covers.tree other.plan (let w = slice_get_within trees other.which covers.tree covers.used in omega (arith, w, len)) covers.used
-      (from_orderly stock other.plan (root_subgoal destination covers.tree) (free stock) covers.orderly (and_zero (written stock.rules other.plan), covers.enough));
+  none = λ other covers. b other.which covers.tree other.cover (let w = slice_get_within trees other.which covers.tree covers.used in omega (arith, w, len)) covers.used
+      (from_orderly stock other.cover (root_subgoal destination covers.tree) (free stock) covers.orderly (and_zero (written stock.forms other.cover), covers.enough));
 }
 
 pub listed_at : {X : Type 0} (xs : List X) (i : ℕ) → i < length xs → (x : X) × (slice_get xs i ≡ Some x)

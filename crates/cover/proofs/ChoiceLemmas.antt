@@ -7,11 +7,12 @@ use Rattle.net_model.specs.Exprs.{ExprModel}
 use Rattle.form_model.specs.Matches.{MatchModel}
 use Rattle.form_model.specs.CoverModels.{CoverModel, use_form, CoverOperandsModel, no_operands, operand_then, CoverCutsModel, no_cuts, cut_then, cost, operands_cost, cuts_cost}
 use Rattle.form_model.specs.Covers.{StockModel, Operand, operands_of, cuts_of, IsBefore, CutsBefore, SamePlaces}
-use Rattle.cover.specs.declared.limits.Limits.{Limits}
-use Rattle.cover.specs.Inner.Subgoals.{free, SubgoalModel, operand_subgoal, cut_subgoal, after, takes, IsSparing, AreSparing, AreStored}
-use Rattle.cover.specs.Inner.Least.{IsLeast, IsLeastForm, IsLeastOrder, IsLeastCut}
-use Rattle.cover.specs.Inner.Choice.{Fits, NeverBegins, Starts, StartsCut, IsFirst, OrderBefore, IsFirstOrder, IsFirstCuts}
-use Rattle.cover.proofs.LeastLemmas.{some_of, some_form}
+use Rattle.least_costs.specs.declared.limits.Limits.{Limits}
+use Rattle.least_costs.specs.Subgoals.{free, SubgoalModel, operand_subgoal, cut_subgoal, after, takes, IsSparing, AreSparing, AreStored}
+use Rattle.least_costs.specs.Least.{IsLeast, IsLeastForm, IsLeastOrder, IsLeastCut}
+use Rattle.least_costs.specs.Fits.{Fits}
+use Rattle.cover.specs.Inner.Choice.{NeverBegins, Starts, StartsCut, IsFirst, OrderBefore, IsFirstOrder, IsFirstCuts}
+use Rattle.least_costs.proofs.LeastLemmas.{some_of}
 
 pub cost_pos : (p : CoverModel) → 0 < cost p
 cost_pos (use_form k ps cs) = omega arith
@@ -26,12 +27,6 @@ some_none e f = cc
 pub same_some : {o : Option ℕ} {m n : ℕ} → o ≡ Some m → o ≡ Some n → m ≡ n
 same_some e f = cc
 
--- the least cost of the covers by a form whose parts are known
-pub fits_least : (stock : StockModel) (limits : Limits) (ask : SubgoalModel) (k : ℕ) (inputs : List Operand) (stored : List ExprModel) (a b : ℕ) → Fits stock limits ask k inputs stored a b → IsLeastForm stock limits ask k (Some (1 + a + b))
-fits_least stock limits ask k inputs stored a b f =
-    some_form stock limits ask k f.rule f.found (Some a) (Some b) f.listed f.spared f.takes_it
-    (subst (λ l. IsLeastOrder stock limits l (Some a)) f.operands_are f.order) (subst (λ l. IsLeastCut stock l (Some b)) f.cuts_are f.cut)
-
 -- a form whose least cost differs from the least cost of all begins no cover of that cost
 pub never_by : (stock : StockModel) (limits : Limits) (ask : SubgoalModel) (n k : ℕ) (o : Option ℕ) → IsLeast stock limits ask (Some n) → IsLeastForm stock limits ask k o → ((m : ℕ) → o ≡ Some m → m ≢ n) → NeverBegins stock limits ask n k
 never_by stock limits ask n k None least is differ = λ ps cs sparing e. is.least ps cs sparing
@@ -42,11 +37,11 @@ never_by stock limits ask n k (Some m) least is differ = λ ps cs sparing e.
     differ m refl (omega (arith, le, ge, e, e0))
 
 module _ (stock : StockModel) (limits : Limits) (ask : SubgoalModel) (n : ℕ) (least : IsLeast stock limits ask (Some n)) where
-  pub cover_exists : ((j : ℕ) → j < length stock.rules → NeverBegins stock limits ask n j) → ⊥
+  pub cover_exists : ((j : ℕ) → j < length stock.forms → NeverBegins stock limits ask n j) → ⊥
   cover_exists none = go least.reached.0 least.reached.1 least.reached.2
     where
       go : (p : CoverModel) → IsSparing stock limits ask p → cost p ≡ n → ⊥
-      go (use_form j ps cs) (rule, get, spared, found, is, orders, stored) e = none j (slice_get_within stock.rules j rule get) ps cs (rule, get, spared, found, is, orders, stored) e
+      go (use_form j ps cs) (form, get, spared, found, is, orders, stored) e = none j (slice_get_within stock.forms j form get) ps cs (form, get, spared, found, is, orders, stored) e
 
   -- parts of one form's covers, compared
   join : (k l : ℕ) (ps qs : CoverOperandsModel) (cs ds : CoverCutsModel) → k ≡ l → (ps ≡ qs) ⊎ OrderBefore ps qs → (cs ≡ ds) ⊎ CutsBefore cs ds → (use_form k ps cs ≡ use_form l qs ds) ⊎ IsBefore (use_form k ps cs) (use_form l qs ds)
@@ -57,7 +52,7 @@ module _ (stock : StockModel) (limits : Limits) (ask : SubgoalModel) (n : ℕ) (
 
   pub first_by_form : (k : ℕ) (inputs : List Operand) (stored : List ExprModel) (a b : ℕ) (ps : CoverOperandsModel) (cs : CoverCutsModel) → ((j : ℕ) → j < k → NeverBegins stock limits ask n j) → Fits stock limits ask k inputs stored a b → 1 + a + b ≡ n → IsFirstOrder stock limits inputs ps → IsFirstCuts stock stored cs → IsFirst stock limits ask (use_form k ps cs)
   first_by_form k inputs stored a b ps cs earlier fits sum order cuts = record {
-    sparing = (fits.rule, fits.listed, fits.spared, fits.found, fits.takes_it, subst (λ l. AreSparing stock limits l ps) fits.operands_are order.sparing, subst (λ l. AreStored stock l cs) fits.cuts_are cuts.covered);
+    sparing = (fits.form, fits.listed, fits.spared, fits.found, fits.takes_it, subst (λ l. AreSparing stock limits l ps) fits.operands_are order.sparing, subst (λ l. AreStored stock l cs) fits.cuts_are cuts.covered);
     first = go;
   }
     where
@@ -88,20 +83,20 @@ module _ (stock : StockModel) (limits : Limits) (ask : SubgoalModel) (n : ℕ) (
           ]
 
       go : (q : CoverModel) → IsSparing stock limits ask q → (cost (use_form k ps cs) < cost q) ⊎ ((cost (use_form k ps cs) ≡ cost q) × ((use_form k ps cs ≡ q) ⊎ IsBefore (use_form k ps cs) q))
-      go (use_form l qs ds) (rule, get, spared, found, is, orders, stored') =
-          let all = least.least (use_form l qs ds) (rule, get, spared, found, is, orders, stored') in
+      go (use_form l qs ds) (form, get, spared, found, is, orders, stored') =
+          let all = least.least (use_form l qs ds) (form, get, spared, found, is, orders, stored') in
           let ea = cost_a in
           let eb = cost_b in
           elim (cases_lt l k) [
-            | inl lt ↦ inl (let ne = earlier l lt qs ds (rule, get, spared, found, is, orders, stored') in omega (arith, all, ne, ea, eb, sum))
+            | inl lt ↦ inl (let ne = earlier l lt qs ds (form, get, spared, found, is, orders, stored') in omega (arith, all, ne, ea, eb, sum))
             | inr ge ↦ elim (cases_eq k l) [
               | inl same ↦
-                  (let e : rule ≡ fits.rule = (let x = fits.listed in let y : slice_get stock.rules k ≡ Some rule = subst (λ j. slice_get stock.rules j ≡ Some rule) (sym same) get in cc) in
-                  let is' : takes stock fits.rule ask ≡ Some found = subst (λ r. takes stock r ask ≡ Some found) e is in
+                  (let e : form ≡ fits.form = (let x = fits.listed in let y : slice_get stock.forms k ≡ Some form = subst (λ j. slice_get stock.forms j ≡ Some form) (sym same) get in cc) in
+                  let is' : takes stock fits.form ask ≡ Some found = subst (λ r. takes stock r ask ≡ Some found) e is in
                   let e' : found ≡ fits.found = (let x = fits.takes_it in cc) in
                   at_same l qs ds same
-                  (subst (λ x. AreSparing stock limits x qs) (sym fits.operands_are) (subst (λ (f : MatchModel). AreSparing stock limits (operands_of f.sites) qs) e' orders))
-                  (subst (λ x. AreStored stock x ds) (sym fits.cuts_are) (subst (λ (f : MatchModel). AreStored stock (cuts_of f.sites) ds) e' stored')))
+                  (subst (λ x. AreSparing stock limits x qs) (sym fits.operands_are) (subst (λ (f : MatchModel). AreSparing stock limits (operands_of f.leaves) qs) e' orders))
+                  (subst (λ x. AreStored stock x ds) (sym fits.cuts_are) (subst (λ (f : MatchModel). AreStored stock (cuts_of f.leaves) ds) e' stored')))
               | inr other ↦ elim (cases_eq (1 + operands_cost ps + cuts_cost cs) (1 + operands_cost qs + cuts_cost ds)) [
                 | inl equal ↦ inr (equal, inr (inl (omega arith)))
                 | inr differ ↦ inl (omega (arith, all, ea, eb, sum, differ))
@@ -191,12 +186,6 @@ module _ (stock : StockModel) (limits : Limits) (ops : List Operand) (n : ℕ) (
               ]
             ]
           ]
-
-pub forms_later : (stock : StockModel) (limits : Limits) (ask : SubgoalModel) (n k : ℕ) → ((j : ℕ) → j < k → NeverBegins stock limits ask n j) → NeverBegins stock limits ask n k → (j : ℕ) → j < k + 1 → NeverBegins stock limits ask n j
-forms_later stock limits ask n k earlier here j lt = elim (cases_eq j k) [
-  | inl same ↦ subst (NeverBegins stock limits ask n) (sym same) here
-  | inr other ↦ earlier j (omega arith)
-]
 
 pub operands_later : (stock : StockModel) (limits : Limits) (ops : List Operand) (n i : ℕ) → ((j : ℕ) (p : CoverModel) (ps : CoverOperandsModel) → j < i → AreSparing stock limits ops (operand_then j p ps) → cost p + operands_cost ps ≢ n) → Starts stock limits ops n i None → (j : ℕ) (p : CoverModel) (ps : CoverOperandsModel) → j < i + 1 → AreSparing stock limits ops (operand_then j p ps) → cost p + operands_cost ps ≢ n
 operands_later stock limits ops n i earlier here j p ps lt orders = elim (cases_eq j i) [

@@ -1,21 +1,4 @@
-mod PartLemmas
-mod SlotLemmas
-mod RowLemmas
-mod SizeLemmas
-mod LowLemmas
-mod NodeLemmas
-mod LeastLemmas
-mod OfferLemmas
-mod InputLemmas
-mod FewLemmas
-mod TableLemmas
-mod StartLemmas
 mod ChoiceLemmas
-mod ValueLemmas
-mod MatchLemmas
-mod FloorLemmas
-mod FitLemmas
-mod OrderlyLemmas
+mod BeginLemmas
 mod BestLemmas
 mod OnceLemmas
-pub mod MadeLemmas

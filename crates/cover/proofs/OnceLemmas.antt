@@ -60,12 +60,12 @@ choice_once : (a b : JobCoverModel) → ChoiceBefore a b → ChoiceBefore b a �
 choice_once a b (inl h) (inl k) = omega (arith, h, k)
 choice_once a b (inl h) (inr k) = let e = k.0 in omega (arith, h, e)
 choice_once a b (inr h) (inl k) = let e = h.0 in omega (arith, k, e)
-choice_once a b (inr h) (inr k) = before_once a.plan b.plan h.1 k.1
+choice_once a b (inr h) (inr k) = before_once a.cover b.cover h.1 k.1
 
 pub chosen_once : (stock : StockModel) (destination : DestinationModel) (trees : List ExprModel) (a b : JobCoverModel) → IsChosen stock destination trees a → IsChosen stock destination trees b → a ≡ b
 chosen_once stock destination trees a b x y = go (x.first b y.covers) (y.first a x.covers)
   where
-    go : (cost a.plan < cost b.plan) ⊎ ((cost a.plan ≡ cost b.plan) × ((a ≡ b) ⊎ ChoiceBefore a b)) → (cost b.plan < cost a.plan) ⊎ ((cost b.plan ≡ cost a.plan) × ((b ≡ a) ⊎ ChoiceBefore b a)) → a ≡ b
+    go : (cost a.cover < cost b.cover) ⊎ ((cost a.cover ≡ cost b.cover) × ((a ≡ b) ⊎ ChoiceBefore a b)) → (cost b.cover < cost a.cover) ⊎ ((cost b.cover ≡ cost a.cover) × ((b ≡ a) ⊎ ChoiceBefore b a)) → a ≡ b
     go (inl h) (inl k) = absurd (omega (arith, h, k))
     go (inl h) (inr (e, k)) = absurd (omega (arith, h, e))
     go (inr (e, inl same)) k = same

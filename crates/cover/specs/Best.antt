@@ -7,4 +7,4 @@ use Rattle.cover.specs.declared.covers.JobCover.{JobCover}
 
 -- the choice that the code's cover is
 abbrev pub model_of_job_cover : JobCover → JobCoverModel
-model_of_job_cover c = record { which = c.which; plan = model_of_cover c.cover }
+model_of_job_cover c = record { which = c.which; cover = model_of_cover c.cover }

@@ -1,4 +1,3 @@
 pub mod Jobs
 pub mod Best
-pub mod Made
 pub mod Inner

@@ -11,54 +11,60 @@ ghost use Rattle.tree_grammar.specs.Leaves.{model_of_destination};
 ghost use Rattle.cover.specs.Best.{model_of_job_cover};
 ghost use Rattle.cover.specs.Inner.Best.{root_subgoal, IsTreeCover, better_of, IsBest};
 ghost use Rattle.cover.specs.Jobs.{trees_of};
-ghost use Rattle.cover.specs.Inner.Jobs.{instance_stock};
-ghost use Rattle.cover.specs.Inner.Tables.{AreRight};
+ghost use Rattle.least_costs.specs.Searches.{search_stock};
+ghost use Rattle.least_costs.specs.Tables.{AreRight};
 
-use crate::choice::choose;
+use crate::choice::{Beginning, PartCosts, choose_parts};
 use crate::covers::{CoverFault, JobCover, TreeCover};
-use crate::fits::{Subgoal, least_of};
-use crate::instance::Instance;
-use crate::limits::Limits;
-use crate::table::{CostTable, new_table};
 use form_model::{Aim, Form, Forms, Job};
+use least_costs::{CostTable, Limits, Search, cost_of};
 use rec_bits::NoMemory;
 use std::alloc::Global;
-use tree_grammar::Destination;
+use tree_grammar::{Destination, Subgoal};
 
-// The first cover of least cost of the instance's tree, if there is a cover.
-fn cover_tree(alloc: Global, instance: &Instance) -> Result<Option<TreeCover>, NoMemory>
-    ensures { IfOk result (λ o. IsTreeCover (instance_stock instance.now)
-        (root_subgoal (model_of_destination instance.now.destination) (model_of_tree instance.now.tree.now)) o) }
+// The first cover of least cost of the tree, if there is a cover.
+fn cover_tree(search: &Search) -> Result<Option<TreeCover>, NoMemory>
+    ensures { IfOk result (λ o. IsTreeCover (search_stock search.now)
+        (root_subgoal (model_of_destination search.now.destination) (model_of_tree search.now.tree.now)) o) }
 {
-    let mut table = new_table(alloc, instance)?;
-    cover_by(alloc, instance, &mut table)
+    let mut table = search.new_table()?;
+    cover_by(search, &mut table)
 }
 
 // The same with a table of what was found.
 fn cover_by<'a>(
-    alloc: Global,
-    instance: &Instance<'a>,
+    search: &Search<'a>,
     table: &mut CostTable<'a>,
 ) -> Result<Option<TreeCover>, NoMemory>
-    requires right { AreRight instance.now table.old }
-    ensures { IfOk result (λ o. IsTreeCover (instance_stock instance.now)
-        (root_subgoal (model_of_destination instance.now.destination) (model_of_tree instance.now.tree.now)) o) }
+    requires right { AreRight search.now table.old }
+    ensures { IfOk result (λ o. IsTreeCover (search_stock search.now)
+        (root_subgoal (model_of_destination search.now.destination) (model_of_tree search.now.tree.now)) o) }
 {
-    let want = Subgoal {
-        destination: instance.destination,
-        tree: instance.tree,
+    let goal = Subgoal {
+        destination: search.destination,
+        tree: search.tree,
         whole: true,
         at: 0,
     };
-    let Some(n) = least_of(alloc, instance, table, &want)? else {
+    let Some(best) = search.best_fit(table, &goal)? else {
         return Ok(None);
+    };
+    let cost = cost_of(&best.fit);
+    let start = Beginning {
+        form: best.form,
+        operands: &best.fit.operands,
+        cuts: &best.fit.cuts,
+        costs: PartCosts {
+            operands: best.fit.operands_cost,
+            cuts: best.fit.cuts_cost,
+        },
     };
     let free = Limits {
         avoid: 0,
-        allowed: instance.file,
+        allowed: search.file,
     };
-    let cover = choose(alloc, instance, table, &want, free, n)?;
-    Ok(Some(TreeCover { cover, cost: n }))
+    let cover = choose_parts(search, table, start, free)?;
+    Ok(Some(TreeCover { cover, cost }))
 }
 
 // The cover that is known, or the cover of the tree at `j` where that is cheaper.
@@ -114,14 +120,15 @@ fn cover_tree_at(
     ensures { IfOk result (λ o. (t : ExprModel) → slice_get (trees_of job.now.trees.items) j ≡ Some t →
         IsTreeCover (stock_with forms.now temps file) (root_subgoal (aim_destination job.now.aim) t) o) }
 {
-    let instance = Instance {
+    let search = Search {
+        alloc,
         forms,
         temps,
         file,
         destination: Destination::of(&job.aim),
         tree: &job.trees[j],
     };
-    cover_tree(alloc, &instance)
+    cover_tree(&search)
 }
 
 // The cover of a job with the job's cost: that of a test leaves out its branch word.

@@ -21,8 +21,8 @@ use Rattle.tree_grammar.specs.declared.parts.Leaf.TheVariants.{Operand, Cut}
 use Rattle.tree_grammar.specs.declared.parts.Match.{Match}
 use Rattle.tree_grammar.proofs.NumberLemmas.{holds_here}
 use Rattle.tree_sharing.proofs.NodeLemmas.{from_start}
-use Rattle.cover.specs.Made.{IsMade, part_goal}
-use Rattle.cover.proofs.MadeLemmas.{goes_there, part_stands}
+use Rattle.least_costs.specs.Made.{IsMade, part_goal}
+use Rattle.least_costs.proofs.MadeLemmas.{goes_there, part_stands}
 use Rattle.cover_lacks.specs.Lacks.{leaf_tree, FormAsks, PartAsks, RootAsks}
 use Rattle.cover_lacks.specs.declared.asks.Look.{Look}
 use Rattle.cover_lacks.specs.declared.asks.Search.{Search}
@@ -64,7 +64,7 @@ module _ (stock : StockModel) (below : Option ℕ) (parts : List Leaf) where
     ];
   }
 
--- ---- parts and sites
+-- ---- parts and leaves
 
 same_tree : (p : Leaf) → leaf_tree (model_of_leaf p) ≡ part_tree p
 same_tree (Operand home tree whole at) = refl
@@ -119,30 +119,30 @@ stands_behind number at t p less stands =
 pub form_at : (forms : List Form) (k : ℕ) (d : Form) → k < length forms → slice_get (models_of_forms forms) k ≡ Some (model_of_form (get_or forms k d))
 form_at forms k d lt = slice_get-map model_of_form forms k ∙ ap (option_map model_of_form) (slice_get-get_or forms k d lt)
 
-module _ (stock : StockModel) (nodes : List ExprModel) (l : Look) (k : ℕ) (rule : FormModel) (get : slice_get stock.rules k ≡ Some rule) where
-  pub asked_none : (old : List ℕ) → old ≡ old ++ [] → None ≡ taken stock.temps rule (model_of_destination l.destination) (model_of_tree l.tree.now) l.whole → AddsAsked stock nodes l k old old
+module _ (stock : StockModel) (nodes : List ExprModel) (l : Look) (k : ℕ) (form : FormModel) (get : slice_get stock.forms k ≡ Some form) where
+  pub asked_none : (old : List ℕ) → old ≡ old ++ [] → None ≡ taken stock.temps form (model_of_destination l.goal.destination) (model_of_tree l.goal.tree.now) l.goal.whole → AddsAsked stock nodes l k old old
   asked_none old e none = record {
     added = [];
     is = e;
     are = record {
       each = λ i m h. absurd (cc);
       all = λ t h. absurd (let a = h.0 in
-          let same : a.rule ≡ rule = cc in
-          let took = subst (λ (x : FormModel). taken stock.temps x (model_of_destination l.destination) (model_of_tree l.tree.now) l.whole ≡ Some a.found) same a.takes in
+          let same : a.form ≡ form = cc in
+          let took = subst (λ (x : FormModel). taken stock.temps x (model_of_destination l.goal.destination) (model_of_tree l.goal.tree.now) l.goal.whole ≡ Some a.found) same a.takes in
           cc);
     };
     after = λ p i m h. absurd (cc);
   }
 
-  pub asked_some : (m : Match) (old new : List ℕ) → Some (model_of_match m) ≡ taken stock.temps rule (model_of_destination l.destination) (model_of_tree l.tree.now) l.whole → ((ns : List ExprModel) → LookStands ns l → AreAt ns m.parts.items) → LookStands nodes l → AddsParts stock l.below m.parts.items (length m.parts.items) old new → AddsAsked stock nodes l k old new
+  pub asked_some : (m : Match) (old new : List ℕ) → Some (model_of_match m) ≡ taken stock.temps form (model_of_destination l.goal.destination) (model_of_tree l.goal.tree.now) l.goal.whole → ((ns : List ExprModel) → LookStands ns l → AreAt ns m.parts.items) → LookStands nodes l → AddsParts stock l.below m.parts.items (length m.parts.items) old new → AddsAsked stock nodes l k old new
   asked_some m old new takes at stands adds = record {
     added = adds.added;
     is = adds.is;
     are = record { each = one; all = every };
     after = λ part i n h. (let u = adds.each i n h in
         let small = subst (λ b. IsBelow b (part_tree u.part)) part.1 u.counts in
-        let lt = stands_behind l.at (part_at u.part) (model_of_tree l.tree.now) (part_tree u.part) small
-        (λ ns holds. at_part ns m.parts.items u.place u.part (at ns (part_stands ns l.at (model_of_destination l.destination) (model_of_tree l.tree.now) part.0 holds)) u.listed) in
+        let lt = stands_behind l.goal.at (part_at u.part) (model_of_tree l.goal.tree.now) (part_tree u.part) small
+        (λ ns holds. at_part ns m.parts.items u.place u.part (at ns (part_stands ns l.goal.at (model_of_destination l.goal.destination) (model_of_tree l.goal.tree.now) part.0 holds)) u.listed) in
         let e = u.at in omega (arith, lt, e));
   }
     where
@@ -153,44 +153,44 @@ module _ (stock : StockModel) (nodes : List ExprModel) (l : Look) (k : ℕ) (rul
             tree = part_tree u.part;
             here = ap (slice_get nodes) (sym u.at) ∙ at_part nodes m.parts.items u.place u.part (at nodes stands) u.listed;
             has = (
-              record { rule = rule; listed = get; found = model_of_match m; takes = sym takes; site = u.place; leaves = open_part m.parts.items u.place u.part u.listed },
+              record { form = form; listed = get; found = model_of_match m; takes = sym takes; leaf = u.place; leaves = open_part m.parts.items u.place u.part u.listed },
               u.counts,
             );
             unmade = u.unmade;
           }
 
-      of_part : (t : ExprModel) (site : ℕ) → IsBelow l.below t → (p : Leaf) × (slice_get m.parts.items site ≡ Some p) × (part_tree p ≡ t) → IsMade stock t ⊎ IsListed nodes adds.added t
-      of_part t site counts (p, listed, tree) = elim (adds.all site p (slice_get_within m.parts.items site p listed) listed (subst (IsBelow l.below) (sym tree) counts)) [
+      of_part : (t : ExprModel) (leaf : ℕ) → IsBelow l.below t → (p : Leaf) × (slice_get m.parts.items leaf ≡ Some p) × (part_tree p ≡ t) → IsMade stock t ⊎ IsListed nodes adds.added t
+      of_part t leaf counts (p, listed, tree) = elim (adds.all leaf p (slice_get_within m.parts.items leaf p listed) listed (subst (IsBelow l.below) (sym tree) counts)) [
         | inl made ↦ inl (subst (IsMade stock) tree made)
-        | inr w ↦ inr (w.0, part_at p, w.1, at_part nodes m.parts.items site p (at nodes stands) listed ∙ ap Some tree)
+        | inr w ↦ inr (w.0, part_at p, w.1, at_part nodes m.parts.items leaf p (at nodes stands) listed ∙ ap Some tree)
       ]
 
       every : (t : ExprModel) → LookAsks stock l k t → IsMade stock t ⊎ IsListed nodes adds.added t
       every t (a, counts) =
-          let same : a.rule ≡ rule = cc in
-          let took = subst (λ (x : FormModel). taken stock.temps x (model_of_destination l.destination) (model_of_tree l.tree.now) l.whole ≡ Some a.found) same a.takes in
+          let same : a.form ≡ form = cc in
+          let took = subst (λ (x : FormModel). taken stock.temps x (model_of_destination l.goal.destination) (model_of_tree l.goal.tree.now) l.goal.whole ≡ Some a.found) same a.takes in
           let found : a.found ≡ model_of_match m = cc in
-          of_part t a.site counts (part_open m.parts.items a.site t (subst (λ (f : MatchModel). slice_get (map leaf_tree f.sites) a.site ≡ Some t) found a.leaves))
+          of_part t a.leaf counts (part_open m.parts.items a.leaf t (subst (λ (f : MatchModel). slice_get (map leaf_tree f.leaves) a.leaf ≡ Some t) found a.leaves))
 
 -- ---- what a form asks for of a part
 
-part_asks : (stock : StockModel) (l : Look) (k : ℕ) (t : ExprModel) → IsPartLook l → l.whole ≡ false → LookAsks stock l k t → PartAsks stock (model_of_tree l.tree.now) k t
+part_asks : (stock : StockModel) (l : Look) (k : ℕ) (t : ExprModel) → IsPartLook l → l.goal.whole ≡ false → LookAsks stock l k t → PartAsks stock (model_of_tree l.goal.tree.now) k t
 part_asks stock l k t (holds, below) part (asks, counts) = record {
-  destination = model_of_destination l.destination;
+  destination = model_of_destination l.goal.destination;
   holds = holds;
-  asks = subst (λ w. FormAsks stock k (model_of_destination l.destination) (model_of_tree l.tree.now) w t) part asks;
+  asks = subst (λ w. FormAsks stock k (model_of_destination l.goal.destination) (model_of_tree l.goal.tree.now) w t) part asks;
   smaller = subst (λ b. IsBelow b t) below counts;
 }
 
-module _ (stock : StockModel) (nodes : List ExprModel) (k : ℕ) (rule : FormModel) (get : slice_get stock.rules k ≡ Some rule) where
+module _ (stock : StockModel) (nodes : List ExprModel) (k : ℕ) (form : FormModel) (get : slice_get stock.forms k ≡ Some form) where
   -- where it puts the part is where its goal is
-  puts_there : (part t : ExprModel) (a : PartAsks stock part k t) → part_goal rule.goal ≡ Some a.destination
+  puts_there : (part t : ExprModel) (a : PartAsks stock part k t) → part_goal form.goal ≡ Some a.destination
   puts_there part t a =
-      let same : a.asks.rule ≡ rule = cc in
+      let same : a.asks.form ≡ form = cc in
       let took = subst (λ (x : FormModel). taken stock.temps x a.destination part false ≡ Some a.asks.found) same a.asks.takes in
-      goes_there stock.temps rule rule.goal a.destination part a.asks.found a.holds took
+      goes_there stock.temps form form.goal a.destination part a.asks.found a.holds took
 
-  pub of_part_none : (part : ExprModel) (at : ℕ) (old : List ℕ) → old ≡ old ++ [] → part_goal rule.goal ≡ None → AddsOfPart stock nodes part at k old old
+  pub of_part_none : (part : ExprModel) (at : ℕ) (old : List ℕ) → old ≡ old ++ [] → part_goal form.goal ≡ None → AddsOfPart stock nodes part at k old old
   of_part_none part at old e none = record {
     added = [];
     is = e;
@@ -198,7 +198,7 @@ module _ (stock : StockModel) (nodes : List ExprModel) (k : ℕ) (rule : FormMod
     after = λ i m h. absurd (cc);
   }
 
-  pub of_part_some : (l : Look) (old new : List ℕ) → IsPartLook l → l.whole ≡ false → part_goal rule.goal ≡ Some (model_of_destination l.destination) → AddsAsked stock nodes l k old new → AddsOfPart stock nodes (model_of_tree l.tree.now) l.at k old new
+  pub of_part_some : (l : Look) (old new : List ℕ) → IsPartLook l → l.goal.whole ≡ false → part_goal form.goal ≡ Some (model_of_destination l.goal.destination) → AddsAsked stock nodes l k old new → AddsOfPart stock nodes (model_of_tree l.goal.tree.now) l.goal.at k old new
   of_part_some l old new part whole goal adds = record {
     added = adds.added;
     is = adds.is;
@@ -209,11 +209,11 @@ module _ (stock : StockModel) (nodes : List ExprModel) (k : ℕ) (rule : FormMod
     after = adds.after part;
   }
     where
-      looks : (t : ExprModel) → PartAsks stock (model_of_tree l.tree.now) k t → LookAsks stock l k t
+      looks : (t : ExprModel) → PartAsks stock (model_of_tree l.goal.tree.now) k t → LookAsks stock l k t
       looks t a =
-          let there = puts_there (model_of_tree l.tree.now) t a in
-          let same : a.destination ≡ model_of_destination l.destination = cc in (
-            subst (λ w. FormAsks stock k (model_of_destination l.destination) (model_of_tree l.tree.now) w t) (sym whole) (subst (λ d. FormAsks stock k d (model_of_tree l.tree.now) false t) same a.asks),
+          let there = puts_there (model_of_tree l.goal.tree.now) t a in
+          let same : a.destination ≡ model_of_destination l.goal.destination = cc in (
+            subst (λ w. FormAsks stock k (model_of_destination l.goal.destination) (model_of_tree l.goal.tree.now) w t) (sym whole) (subst (λ d. FormAsks stock k d (model_of_tree l.goal.tree.now) false t) same a.asks),
             subst (λ b. IsBelow b t) (sym part.1) a.smaller,
           )
 
@@ -244,7 +244,7 @@ after_more at old new added before is more = subst (AreAfter at) (sym is) (λ i 
 
 form_bound : (forms : List Form) (temps file k : ℕ) (d : DestinationModel) (t u : ExprModel) (whole : Bool) → FormAsks (stock_with forms temps file) k d t whole u → k < length forms
 form_bound forms temps file k d t u whole a =
-    let w = slice_get_within (models_of_forms forms) k a.rule a.listed in
+    let w = slice_get_within (models_of_forms forms) k a.form a.listed in
     let l = length-map forms model_of_form in
     omega (arith, w, l)
 

@@ -9,7 +9,7 @@ use Rattle.net_model.specs.Exprs.{ExprModel}
 use Rattle.form_model.specs.Forms.{DestinationModel}
 use Rattle.form_model.specs.Covers.{StockModel}
 use Rattle.tree_sharing.specs.Sharing.{job_nodes}
-use Rattle.cover.specs.Made.{IsMade}
+use Rattle.least_costs.specs.Made.{IsMade}
 use Rattle.cover_lacks.specs.Lacks.{RootAsks, PartAsks, RootHasAll, PartHasAll, IsMissed, of_root, of_part, IsLacking}
 use Rattle.cover_lacks.specs.Inner.Asked.{AreAfter, AreUnmade, FirstAsk}
 use Rattle.cover_lacks.specs.Inner.Flags.{IsSet, IsFlagged, Marked, AreClear, AreFlags, IsSome, GoesOn, RootVisited, PartVisited, IsVisited}

@@ -12,7 +12,7 @@ use Rattle.form_model.specs.Covers.{StockModel, stock_with}
 use Rattle.form_model.specs.declared.forms.Form.{Form}
 use Rattle.form_model.specs.declared.trees.Tree.{Tree}
 use Rattle.tree_sharing.specs.Sharing.{job_nodes, exprs_at}
-use Rattle.cover.specs.Made.{IsLeastCost}
+use Rattle.least_costs.specs.Made.{IsLeastCost}
 use Rattle.cover_lacks.specs.Lacks.{AreInOrder, AreLacking, IsLacking, IsUncovered, Lacks, all_nodes}
 use Rattle.cover_lacks.specs.Inner.Flags.{IsSet, IsFlagged, AreFlags, IsSome, LacksOf, IsLackingIn}
 use Rattle.cover_lacks.specs.Inner.Listed.{AddsRoot, AreAdded, LacksBelow}

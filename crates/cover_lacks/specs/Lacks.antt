@@ -9,7 +9,7 @@ use Rattle.form_model.specs.Forms.{FormModel, DestinationModel}
 use Rattle.form_model.specs.Matches.{LeafModel, operand, cut, MatchModel, taken}
 use Rattle.form_model.specs.CoverModels.{CoverModel}
 use Rattle.form_model.specs.Covers.{StockModel}
-use Rattle.cover.specs.Made.{HoldsParts, IsCover, IsMade}
+use Rattle.least_costs.specs.Made.{HoldsParts, IsCover, IsMade}
 use Rattle.tree_sharing.specs.Sharing.{IsFirst, job_nodes}
 
 -- ---- what forms ask for
@@ -21,14 +21,14 @@ leaf_tree (cut shape tree) = tree
 
 -- a form asks for a tree: it takes the one that goes to the destination, and its match leaves the
 -- other open, as an operand or a cut
-pub record FormAsks (stock : StockModel) (form : ℕ) (destination : DestinationModel) (tree : ExprModel) (whole : Bool)
+pub record FormAsks (stock : StockModel) (k : ℕ) (destination : DestinationModel) (tree : ExprModel) (whole : Bool)
     (asked : ExprModel) : Type 0 where
-  pub rule : FormModel
-  pub listed : slice_get stock.rules form ≡ Some rule
+  pub form : FormModel
+  pub listed : slice_get stock.forms k ≡ Some form
   pub found : MatchModel
-  pub takes : taken stock.temps rule destination tree whole ≡ Some found
-  pub site : ℕ
-  pub leaves : slice_get (map leaf_tree found.sites) site ≡ Some asked
+  pub takes : taken stock.temps form destination tree whole ≡ Some found
+  pub leaf : ℕ
+  pub leaves : slice_get (map leaf_tree found.leaves) leaf ≡ Some asked
 
 -- of a job's tree: for the destination of the job
 abbrev pub RootAsks : StockModel → DestinationModel → ExprModel → ℕ → ExprModel → Type 0
@@ -69,7 +69,7 @@ IsLacking stock destination root tree =
 
 -- the tree has no cover for the destination
 abbrev pub IsUncovered : StockModel → DestinationModel → ExprModel → Type 0
-IsUncovered stock destination root = (plan : CoverModel) → IsCover stock destination root true plan → ⊥
+IsUncovered stock destination root = (cover : CoverModel) → IsCover stock destination root true cover → ⊥
 
 -- what is lacking of one of the trees that have no cover
 pub record Lacks (stock : StockModel) (destination : DestinationModel) (roots : List ExprModel) (tree : ExprModel) : Type 0 where

@@ -7,11 +7,11 @@ ghost use Rattle.tree_grammar.specs.Leaves.{AreAt, IsPartAt, model_of_destinatio
 ghost use Rattle.cover_lacks.specs.Lacks.{PartAsks, RootAsks};
 ghost use Rattle.cover_lacks.specs.Inner.Asked.{AddsAsked, AddsOfPart, AddsParts, AddsTree, AreAfter, AreUnmade, FirstAsk, IsBelow, IsSearch, LookStands, part_at, part_tree, search_nodes, search_stock};
 
-use cover::part_destination;
 use form_model::{Form, Tree};
+use least_costs::part_destination;
 use rec_bits::NoMemory;
 use std::alloc::Global;
-use tree_grammar::{Destination, Leaf, match_at, tree_size};
+use tree_grammar::{Destination, Leaf, Subgoal, match_at, tree_size};
 
 /// A tree of a job, and by what it is to be covered.
 #[derive(Clone, Copy)]
@@ -27,14 +27,10 @@ pub struct Search<'a> {
     pub made: &'a [bool],
 }
 
-/// What a form is asked of: a tree that goes to a destination, with the number at which its trees
-/// begin.
+/// What a form is asked of, and which of the trees that it asks for count.
 #[derive(Clone, Copy)]
 pub struct Look<'a> {
-    pub destination: Destination<'a>,
-    pub tree: &'a Tree,
-    pub whole: bool,
-    pub at: u64,
+    pub goal: Subgoal<'a>,
     /// Only trees with fewer nodes count, where this is some.
     pub below: Option<u64>,
 }
@@ -122,16 +118,7 @@ fn add_asked<'a>(
     ensures { OnOk result (AddsAsked (search_stock search.now) (search_nodes search.now) look.now k
         numbers.old.items numbers.new.items) }
 {
-    let Some(found) = match_at(
-        alloc,
-        &search.forms[k],
-        look.destination,
-        look.tree,
-        look.whole,
-        search.temps,
-        look.at,
-    )?
-    else {
+    let Some(found) = match_at(alloc, &search.forms[k], look.goal, search.temps)? else {
         return Ok(());
     };
     add_parts(search, look.below, &found.parts, numbers)
@@ -145,10 +132,12 @@ pub(crate) fn unmade_of_root(alloc: Global, search: &Search) -> Result<Vec<u64>,
         (model_of_tree search.now.tree.now)) (length search.now.forms.now)) numbers.items) }
 {
     let look = Look {
-        destination: search.destination,
-        tree: search.tree,
-        whole: true,
-        at: 0,
+        goal: Subgoal {
+            destination: search.destination,
+            tree: search.tree,
+            whole: true,
+            at: 0,
+        },
         below: None,
     };
     let mut numbers = Vec::new(alloc);
@@ -177,10 +166,12 @@ fn add_of_part(
         return Ok(());
     };
     let look = Look {
-        destination,
-        tree: part,
-        whole: false,
-        at,
+        goal: Subgoal {
+            destination,
+            tree: part,
+            whole: false,
+            at,
+        },
         below: Some(tree_size(part)?),
     };
     add_asked(alloc, search, &look, k, numbers)

@@ -15,8 +15,8 @@ ghost use Rattle.cover_lacks.specs.Inner.Listed.{AddsRoot, AreAdded};
 use crate::asks::Search;
 use crate::flags::lacking_flags;
 use crate::listed::in_order;
-use cover::{least_cost, made_parts};
 use form_model::{Forms, Job, Tree};
+use least_costs::{least_cost, made_parts};
 use rec_bits::NoMemory;
 use std::alloc::Global;
 use tree_grammar::Destination;
@@ -52,6 +52,13 @@ fn flags_of(
     lacking_flags(alloc, &search)
 }
 
+// The subtrees of a job's trees, and for each whether it is lacking.
+#[derive(Drop)]
+struct Flagged<'a> {
+    nodes: Vec<&'a Tree>,
+    flags: Vec<bool>,
+}
+
 // Adds the subtrees of a job's tree, with their flags.
 fn add_root<'a>(
     alloc: Global,
@@ -59,16 +66,15 @@ fn add_root<'a>(
     temps: u32,
     destination: Destination<'a>,
     tree: &'a Tree,
-    nodes: &mut Vec<&'a Tree>,
-    flags: &mut Vec<bool>,
+    list: &mut Flagged<'a>,
 ) -> Result<(), NoMemory>
     ensures { OnOk result (AddsRoot (stock_with forms.now.list.items temps forms.now.file) (model_of_destination destination.entry)
-        (model_of_tree tree.now) nodes.old.items nodes.new.items flags.old.items flags.new.items) }
+        (model_of_tree tree.now) list.old.nodes.items list.new.nodes.items list.old.flags.items list.new.flags.items) }
 {
     let subtrees = numbered(alloc, destination, tree)?;
     let lacking = flags_of(alloc, forms, temps, destination, tree, &subtrees)?;
-    nodes.extend_from_slice(&subtrees)?;
-    flags.extend_from_slice(&lacking)?;
+    list.nodes.extend_from_slice(&subtrees)?;
+    list.flags.extend_from_slice(&lacking)?;
     Ok(())
 }
 
@@ -78,27 +84,18 @@ fn add_roots<'a>(
     forms: &Forms,
     job: &'a Job,
     temps: u32,
-    nodes: &mut Vec<&'a Tree>,
-    flags: &mut Vec<bool>,
+    list: &mut Flagged<'a>,
 ) -> Result<(), NoMemory>
-    requires nodes { nodes.old.items ≡ [] }
-    requires flags { flags.old.items ≡ [] }
-    ensures nodes { OnOk result (exprs_at nodes.new.items
+    requires nodes { list.old.nodes.items ≡ [] }
+    requires flags { list.old.flags.items ≡ [] }
+    ensures nodes { OnOk result (exprs_at list.new.nodes.items
         ≡ all_nodes (aim_destination job.now.aim) (trees_of job.now.trees.items)) }
     ensures added { OnOk result (AreAdded (stock_with forms.now.list.items temps forms.now.file) (aim_destination job.now.aim)
-        (trees_of job.now.trees.items) (length job.now.trees.items) (exprs_at nodes.new.items) flags.new.items) }
+        (trees_of job.now.trees.items) (length job.now.trees.items) (exprs_at list.new.nodes.items) list.new.flags.items) }
 {
     for j in 0..job.trees.len() {
         let destination = Destination::of(&job.aim);
-        add_root(
-            alloc,
-            forms,
-            temps,
-            destination,
-            &job.trees[j],
-            nodes,
-            flags,
-        )?;
+        add_root(alloc, forms, temps, destination, &job.trees[j], list)?;
     }
     Ok(())
 }
@@ -122,8 +119,10 @@ pub fn lacking<'a>(
         IsUncovered (stock_with forms.now.list.items temps forms.now.file) (aim_destination job.now.aim) root →
         0 < vec_len list) }
 {
-    let mut nodes = Vec::new(alloc);
-    let mut flags = Vec::new(alloc);
-    add_roots(alloc, forms, job, temps, &mut nodes, &mut flags)?;
-    in_order(alloc, &nodes, &flags)
+    let mut list = Flagged {
+        nodes: Vec::new(alloc),
+        flags: Vec::new(alloc),
+    };
+    add_roots(alloc, forms, job, temps, &mut list)?;
+    in_order(alloc, &list.nodes, &list.flags)
 }

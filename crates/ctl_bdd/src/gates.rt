@@ -139,34 +139,44 @@ fn rest_bits(
     }
 }
 
+// The rows of a case.
+#[derive(Drop)]
+struct CaseRows<'a> {
+    // The net for each number of the selector.
+    rows: &'a [(u64, u32)],
+    // The net for all other numbers; the constant 0 where there is none.
+    rest: Option<u32>,
+    // The width of the nets.
+    width: u8,
+}
+
 // The bits of a case with a selector of these bits, from the last row to the first.
 fn case_bits(
     alloc: Global,
     book: &mut Book,
     table: &[Items<SetId>],
     sel: &[SetId],
-    rows: &[(u64, u32)],
-    rest: Option<u32>,
-    width: u8,
+    case: &CaseRows,
 ) -> Result<Items<SetId>, NoMemory>
-    requires high { width ≤ 64 }
+    requires high { case.now.width ≤ 64 }
     requires table { IsBitTable book.old table.now }
     requires sel { AreSets book.old sel.now }
     requires few { length sel.now ≤ 64 }
-    requires rows { HasRows table.now (length sel.now) width rows.now }
-    requires rest { HasRest table.now width rest }
+    requires rows { HasRows table.now (length sel.now) case.now.width case.now.rows.now }
+    requires rest { HasRest table.now case.now.width case.now.rest }
     ensures grows { Extends book.old book.new }
     ensures sets { IfOk result (λ out. AreSets book.new out) }
-    ensures long { IfOk result (λ out. length out ≡ width) }
+    ensures long { IfOk result (λ out. length out ≡ case.now.width) }
     ensures number { IfOk result (λ out. (word : ℕ) →
         number_at book.new out word ≡
-        case_value (numbers_at book.old table.now word) (number_at book.old sel.now word) rows.now rest) }
+        case_value (numbers_at book.old table.now word) (number_at book.old sel.now word)
+        case.now.rows.now case.now.rest) }
 {
-    let mut out = rest_bits(alloc, book, table, rest, width)?;
-    let mut left = rows.len();
+    let mut out = rest_bits(alloc, book, table, case.rest, case.width)?;
+    let mut left = case.rows.len();
     while left > 0 {
         left -= 1;
-        let (key, net) = rows[left];
+        let (key, net) = case.rows[left];
         out = row_bits(alloc, book, sel, key, sets_of(table, net), out.as_slice())?;
     }
     Ok(out)
@@ -236,7 +246,12 @@ pub(crate) fn gate_bits(
         }
         Gate::Case { sel, rows, rest } => {
             let sets = sets_of(table, *sel);
-            let out = case_bits(alloc, book, table, sets, rows.as_slice(), *rest, net.width)?;
+            let case = CaseRows {
+                rows: rows.as_slice(),
+                rest: *rest,
+                width: net.width,
+            };
+            let out = case_bits(alloc, book, table, sets, &case)?;
             Ok(out)
         }
         Gate::Reg(_) | Gate::Read { .. } | Gate::Bus(_) => unreachable!(),

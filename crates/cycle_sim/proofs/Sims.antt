@@ -22,7 +22,7 @@ use Rattle.cycle_sim.specs.Clocks.{Clocks}
 use Rattle.cycle_sim.specs.Moded.{IsHeldBy}
 use Rattle.cycle_sim.specs.Shown.{Shown}
 use Rattle.cycle_sim.specs.Trades.{AreAlike, holding, shape_of}
-use Rattle.cycle_sim.specs.Inner.Moding.{AreSims, no_sim, shown_by, sim_at, traded}
+use Rattle.cycle_sim.specs.Moding.{AreSims, no_sim, shown_by, sim_at, traded}
 use Rattle.cycle_sim.proofs.Moding.{clocks_same}
 
 -- ---- lists

@@ -5,4 +5,3 @@ pub mod Operations
 pub mod Decoding
 pub mod Programs
 pub mod Running
-pub mod Moding

@@ -31,8 +31,8 @@
 //! - `sim`: `Sim`, with its clock.
 //! - `modes`: `ModeSim`, a simulator for each mode.
 //! - `specs/`, cited by public contracts: `Clocks`, `Shown` (what contracts see of a simulator),
-//!   `Trades` and `Moded`. `specs/Inner/`: `Running`, `Ports`, `Operations`, `Decoding`, `Programs`
-//!   and `Moding`, for the invariants.
+//!   `Trades`, `Moded` and `Moding`. `specs/Inner/`: `Running`, `Ports`, `Operations`, `Decoding`
+//!   and `Programs`, for the invariants.
 //! - `proofs/`: `Inlets`: what stands in the array before the instructions; `Gates`: an instruction
 //!   gives its net's value; `Runs`: so do all of them; `Programs`: and so a program is one of its
 //!   netlist; `Edges`: a clock, from the array; `Trading`: a state fits netlists of the same shapes

@@ -12,7 +12,7 @@ ghost use Rattle.cycle_sim.specs.Clocks.{Clocks, register_in};
 ghost use Rattle.cycle_sim.specs.Moded.{IsHeldBy};
 ghost use Rattle.cycle_sim.specs.Shown.{Shown};
 ghost use Rattle.cycle_sim.specs.Trades.{AreAlike};
-ghost use Rattle.cycle_sim.specs.Inner.Moding.{sim_at, traded};
+ghost use Rattle.cycle_sim.specs.Moding.{sim_at, traded};
 
 use crate::sim::{Clocked, Sim};
 use crate::values::{value_at, zeros};
@@ -36,7 +36,7 @@ pub struct ModeSim<'a> {
 impl<'a> Model for ModeSim<'a> {
     ghost use Rattle.cycle_sim.specs.Shown.{Shown};
     ghost use Rattle.cycle_sim.specs.Trades.{AreAlike};
-    ghost use Rattle.cycle_sim.specs.Inner.Moding.{AreSims, shown_by};
+    ghost use Rattle.cycle_sim.specs.Moding.{AreSims, shown_by};
 
     ghost Value = { Shown };
 

@@ -224,10 +224,10 @@ module _ (k : ℕ) (cells : List ℕ) where
   destination_lies at tested h r = tt
 
   -- a job reads and writes no cell below those that it does with the addresses of one memory
-  pub job_lies : (at : ℕ) (work : JobModel) → JobIndexesLie k cells work → Lies at cells work → Lies at cells (job_of_banked k work)
-  job_lies at work h r = record {
-    reads = all_read at work.trees h.trees r.reads;
-    destination = destination_lies at work.destination h.destination r.destination;
+  pub job_lies : (at : ℕ) (job : JobModel) → JobIndexesLie k cells job → Lies at cells job → Lies at cells (job_of_banked k job)
+  job_lies at job h r = record {
+    reads = all_read at job.trees h.trees r.reads;
+    destination = destination_lies at job.destination h.destination r.destination;
     below = r.below;
   }
 
@@ -246,7 +246,7 @@ module _ (k : ℕ) (cells : List ℕ) where
   cell_same tested h = refl
 
   -- a job does to the cells what it does with the addresses of one memory
-  pub done_same : (work : JobModel) → JobIndexesLie k cells work → done (job_of_banked k work) cells ≡ done work cells
-  done_same work h =
-      ap (λ c. put_in c (job_value cells (map (banked_tree k) work.trees)) cells) (cell_same work.destination h.destination)
-      ∙ ap (λ v. put_in (destination_cell cells work.destination) v cells) (first_same work.trees h.trees)
+  pub done_same : (job : JobModel) → JobIndexesLie k cells job → done (job_of_banked k job) cells ≡ done job cells
+  done_same job h =
+      ap (λ c. put_in c (job_value cells (map (banked_tree k) job.trees)) cells) (cell_same job.destination h.destination)
+      ∙ ap (λ v. put_in (destination_cell cells job.destination) v cells) (first_same job.trees h.trees)

@@ -137,12 +137,12 @@ module _ (word k : ℕ) (places : List VariablePlace) (temps : ℕ) (vars : List
       destination = tt;
     }
 
-  does : (Can : List ℕ → Type 0) (change : List ℕ → List ℕ) (work : JobModel) → ((cells : List ℕ) → HoldsCells temps memory cells → Can (seen_store memory cells) → JobIndexesLie k cells work) → Does memory temps Can change work
-      → Does memory temps Can change (job_of_banked k work)
-  does Can change work indexes own = record {
-    lies = λ cells c h. job_lies k cells temps work (indexes cells c h) (own.lies cells c h);
-    store = λ cells c h. ap (seen_store memory) (done_same k cells work (indexes cells c h)) ∙ own.store cells c h;
-    fits = λ cells c h. subst (λ v. v < 2 ^ word) (sym (first_same k cells work.trees (indexes cells c h).trees)) (own.fits cells c h);
+  does : (Can : List ℕ → Type 0) (change : List ℕ → List ℕ) (job : JobModel) → ((cells : List ℕ) → HoldsCells temps memory cells → Can (seen_store memory cells) → JobIndexesLie k cells job) → Does memory temps Can change job
+      → Does memory temps Can change (job_of_banked k job)
+  does Can change job indexes own = record {
+    lies = λ cells c h. job_lies k cells temps job (indexes cells c h) (own.lies cells c h);
+    store = λ cells c h. ap (seen_store memory) (done_same k cells job (indexes cells c h)) ∙ own.store cells c h;
+    fits = λ cells c h. subst (λ v. v < 2 ^ word) (sym (first_same k cells job.trees (indexes cells c h).trees)) (own.fits cells c h);
   }
 
   -- jobs that are made from a program's do what its statements say

@@ -243,9 +243,9 @@ module _ (k bits : ℕ) (some : 1 ≤ k) (room : k + 2 ≤ bits) where
         let s = job_size k destination t in
         (tree_kept k t ∙ h.0, omega (arith, n, h.1), omega (arith, s, h.2), trees_small destination trees h.3)
 
-    pub banked_small : (works : List JobModel) → AllSmall bits temps most works → AllSmall bits temps (2 * most) (map (job_of_banked k) works)
+    pub banked_small : (jobs : List JobModel) → AllSmall bits temps most jobs → AllSmall bits temps (2 * most) (map (job_of_banked k) jobs)
     banked_small [] h = tt
-    banked_small (work ∷ later) h = (
-      record { destination = goal_kept k work.destination h.0.destination; trees = trees_small work.destination work.trees h.0.trees },
+    banked_small (job ∷ later) h = (
+      record { destination = goal_kept k job.destination h.0.destination; trees = trees_small job.destination job.trees h.0.trees },
       banked_small later h.1,
     )

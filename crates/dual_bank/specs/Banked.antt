@@ -43,9 +43,9 @@ banked_destination k (stored address) = stored (banked_address k (banked_tree k 
 banked_destination k destination = destination
 
 abbrev pub job_of_banked : ℕ → JobModel → JobModel
-job_of_banked k work = record {
-  destination = banked_destination k work.destination;
-  trees = map (banked_tree k) work.trees;
+job_of_banked k job = record {
+  destination = banked_destination k job.destination;
+  trees = map (banked_tree k) job.trees;
 }
 
 -- the joined memory, whose addresses have one bit more than the memory's
@@ -93,6 +93,6 @@ abbrev pub DestinationIndexesLie : ℕ → List ℕ → DestinationModel → Typ
 DestinationIndexesLie k cells (stored address) = IndexesLie k cells address × AddressLies k cells address
 DestinationIndexesLie k cells destination = Unit {0}
 
-pub record JobIndexesLie (k : ℕ) (cells : List ℕ) (work : JobModel) : Type 0 where
-  pub trees : AllIndexesLie k cells work.trees
-  pub destination : DestinationIndexesLie k cells work.destination
+pub record JobIndexesLie (k : ℕ) (cells : List ℕ) (job : JobModel) : Type 0 where
+  pub trees : AllIndexesLie k cells job.trees
+  pub destination : DestinationIndexesLie k cells job.destination

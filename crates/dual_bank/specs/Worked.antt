@@ -70,11 +70,11 @@ in_bank_four : bank_cells in_bank vars ≡ 4
 in_bank_four = refl
 
 -- an index is added within its memory, and that of the bank put behind; numbers stay
-moved_works : jobs_of_banked 8 (joined_memory 16 8 (bank_layout 16 8 in_bank moved).list) moved ≡
+moved_jobs : jobs_of_banked 8 (joined_memory 16 8 (bank_layout 16 8 in_bank moved).list) moved ≡
     record {
       destination = stored (zext (slice (bin Add (read InMemory (const 9 5) 16) (const 16 6)) 7 0) 9);
       trees = read InMemory
           (bin Add (zext (slice (bin Add (read InMemory (const 9 5) 16) (const 16 0)) 7 0) 9) (const 9 256)) 16 ∷ [];
     }
     ∷ record { destination = cell 259; trees = const 16 5 ∷ [] } ∷ []
-moved_works = refl
+moved_jobs = refl

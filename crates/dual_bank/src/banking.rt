@@ -5,16 +5,12 @@ ghost use Rattle.rec_bits.specs.declared.operator.Op2.TheVariants.{Add};
 ghost use Rattle.net_model.specs.Exprs.{bin, const, slice, zext};
 ghost use Rattle.form_model.specs.Trees.{model_of_tree};
 ghost use Rattle.form_model.specs.Forms.{aim_destination};
-ghost use Rattle.src_model.specs.Written.{model_of_program};
 ghost use Rattle.src_trees.specs.Jobs.{model_of_job, models_of_jobs};
-ghost use Rattle.src_trees.specs.Flows.{program_jobs};
-ghost use Rattle.dual_bank.specs.Banked.{banked_address, banked_destination, banked_tree, job_of_banked, jobs_of_banked, in_memory, joined_memory, summed};
+ghost use Rattle.dual_bank.specs.Banked.{banked_address, banked_destination, banked_tree, job_of_banked, in_memory, summed};
 ghost use Rattle.dual_bank.specs.Inner.Sums.{IsSum, IsNoSum};
 
-use code_model::Places;
 use form_model::{Aim, Blocks, Job, Tree};
 use rec_bits::{NoMemory, Op2};
-use src_model::Typed;
 use std::alloc::Global;
 
 // A sum of an index and the address of an array, cut to an address: the index, and the width and the
@@ -215,25 +211,16 @@ fn banked_jobs(alloc: Global, k: u8, jobs: &[Job]) -> Result<Vec<Job>, NoMemory>
     Ok(made)
 }
 
-/// The flow and the jobs of a program over two memories, from those that `lower` gives for these
-/// places and addresses of one bit more than `addr_width`: the address of an element at a computed
-/// index is made to lie in its own memory. `addr_width` is from 1 to 15 and at most the program's
-/// width less 2; the places are those of `bind_banks`. The only error is want of memory.
-pub fn banked(
-    alloc: Global,
-    _typed: &Typed,
-    blocks: Blocks,
-    _places: &Places,
-    addr_width: u8,
-) -> Result<Blocks, NoMemory>
+/// The flow and the jobs of a program over two memories, from those over one that `lower` gives for
+/// the places of `bind_banks` and addresses of one bit more than `addr_width`, which is from 1 to
+/// 15: the address of an element at a computed index is made to lie in its own memory. The only
+/// error is want of memory.
+pub fn banked(alloc: Global, blocks: Blocks, addr_width: u8) -> Result<Blocks, NoMemory>
     requires some { 1 ≤ addr_width }
     requires most { addr_width ≤ 15 }
-    requires jobs { models_of_jobs blocks.jobs.items ≡ program_jobs (joined_memory _typed.now.width addr_width _places.now.list)
-        (model_of_program _typed.now.program) }
     ensures flow { IfOk result (λ made. made.flow ≡ blocks.flow) }
     ensures jobs { IfOk result (λ made. models_of_jobs made.jobs.items
-        ≡ jobs_of_banked addr_width (joined_memory _typed.now.width addr_width _places.now.list)
-        (model_of_program _typed.now.program)) }
+        ≡ map (job_of_banked addr_width) (models_of_jobs blocks.jobs.items)) }
 {
     let made = banked_jobs(alloc, addr_width, &blocks.jobs);
     let (blocks, jobs) = keeping(blocks, made)?;

@@ -28,8 +28,8 @@ pub fn law_of_banks()
 pub fn law_of_banked()
     ensures values { (k : ℕ) (cells : List ℕ) (t : ExprModel) → IndexesLie k cells t →
         tree_value cells (banked_tree k t) ≡ tree_value cells t }
-    ensures effects { (k : ℕ) (cells : List ℕ) (work : JobModel) → JobIndexesLie k cells work →
-        done (job_of_banked k work) cells ≡ done work cells }
+    ensures effects { (k : ℕ) (cells : List ℕ) (job : JobModel) → JobIndexesLie k cells job →
+        done (job_of_banked k job) cells ≡ done job cells }
     ensures meaning { (word k bank : ℕ) (in_bank : List Bool) (l : ProgramModel) → FitsBanks word k bank in_bank l →
         DoProgram (joined_memory word k (bank_layout word k in_bank l).list) (temp_count word l) l
         (jobs_of_banked k (joined_memory word k (bank_layout word k in_bank l).list) l) }
@@ -38,6 +38,6 @@ pub fn law_of_banked()
 /// Jobs over two memories need no more temporary cells than over one, and have at most twice the
 /// nodes.
 pub fn law_of_sizes()
-    ensures { (bits temps most k : ℕ) (works : List JobModel) → 1 ≤ k → k + 2 ≤ bits → AllSmall bits temps most works →
-        AllSmall bits temps (2 * most) (map (job_of_banked k) works) }
+    ensures { (bits temps most k : ℕ) (jobs : List JobModel) → 1 ≤ k → k + 2 ≤ bits → AllSmall bits temps most jobs →
+        AllSmall bits temps (2 * most) (map (job_of_banked k) jobs) }
 {}

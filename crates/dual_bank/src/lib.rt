@@ -4,7 +4,7 @@
 //! Promise: `part` tells exactly the variables that a text names (`IsPart`), or the first line that
 //! names none or one again (`IsPartRefusal`). `bind_banks` gives their places (`bank_layout`), or
 //! `DataFull` exactly where the memory has too few cells, or else the bank (`IsBankFault`). `banked`
-//! gives the jobs of a program over both (`jobs_of_banked`). The laws, where the variables have room
+//! gives the jobs of a program over both (`job_of_banked`). The laws, where the variables have room
 //! (`FitsBanks`): the joined memory holds them (`law_of_banks`: `HoldsVars`, `HasCellRoom`), a tree
 //! and a job over both have the value and the effect that they have over one where their indexes lie
 //! in their memories, and a program's jobs do what its statements say (`law_of_banked`:

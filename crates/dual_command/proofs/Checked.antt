@@ -116,12 +116,12 @@ seen_is_coded view typed in_bank places blocks p f w =
     ap (λ (x : Places). record {
       netlist = view;
       width = typed.width;
-      listing = model_of_program typed.program;
+      program = model_of_program typed.program;
       places = x.list;
       flow = program_flow (model_of_program typed.program);
-      works = jobs_of_banked (view_bits view) (joined_memory typed.width (view_bits view) x.list) (model_of_program typed.program);
+      jobs = jobs_of_banked (view_bits view) (joined_memory typed.width (view_bits view) x.list) (model_of_program typed.program);
     }) (sym p)
-    ∙ (λ i. record { netlist = view; width = typed.width; listing = model_of_program typed.program; places = places.list; flow = sym f i; works = sym w i })
+    ∙ (λ i. record { netlist = view; width = typed.width; program = model_of_program typed.program; places = places.list; flow = sym f i; jobs = sym w i })
 
 pub dual_is_seen : (n : Netlist) (moded : Moded) → IsSeen n moded → (typed : Typed) (in_bank : List Bool) → dual_task (task_of n typed in_bank) ≡ seen_task moded.netlist typed in_bank
 dual_is_seen n moded seen typed in_bank =

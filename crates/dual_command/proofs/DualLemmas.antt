@@ -58,8 +58,8 @@ fault_of_dual task room CodeMemory h = tt
 
 -- ---- three texts say one task
 
-same_dual : (a b : DualTask) → a.netlist ≡ b.netlist → a.width ≡ b.width → a.listing ≡ b.listing → a.in_bank ≡ b.in_bank → a ≡ b
-same_dual a b netlist width listing in_bank = λ i. record { netlist = netlist i; width = width i; listing = listing i; in_bank = in_bank i }
+same_dual : (a b : DualTask) → a.netlist ≡ b.netlist → a.width ≡ b.width → a.program ≡ b.program → a.in_bank ≡ b.in_bank → a ≡ b
+same_dual a b netlist width program in_bank = λ i. record { netlist = netlist i; width = width i; program = program i; in_bank = in_bank i }
 
 module _ (net : List ℕ) where
   -- two readings of a netlist's bytes are one
@@ -70,9 +70,9 @@ module _ (net src part : List ℕ) where
   pub one_dual : (a b : DualTask) → IsDualTask net src part a → IsDualTask net src part b → a ≡ b
   one_dual a b p q =
       let e : p.net_file.entries ≡ q.net_file.entries = one_net net p.net_file q.net_file in
-      let l : a.listing ≡ b.listing = p.src_file.says.only b.listing q.src_file.says.text in
+      let l : a.program ≡ b.program = p.src_file.says.only b.program q.src_file.says.text in
       same_dual a b (p.netlist ∙ (ap netlist_of e ∙ sym q.netlist)) (p.width ∙ (ap data_width e ∙ sym q.width)) l
-      (part_one b.listing.vars part a.in_bank b.in_bank (subst (λ (x : ProgramModel). IsPart x.vars part a.in_bank) l p.part_file) q.part_file)
+      (part_one b.program.vars part a.in_bank b.in_bank (subst (λ (x : ProgramModel). IsPart x.vars part a.in_bank) l p.part_file) q.part_file)
 
   -- what holds of it, and what else does, holds of the same task
   pub together : (P Q : DualProperty) (G : Type 0) → ((task : DualTask) → P task → Q task → G) → DualHolds net src part P → DualHolds net src part Q → G
@@ -90,8 +90,8 @@ module _ (net src part : List ℕ) where
   pub has_program : (P : DualProperty) → DualHolds net src part P → HasBankedProgram net src
   has_program P h = record {
     net_file = h.is.net_file;
-    listing = h.task.listing;
-    src_file = subst (λ (n : ℕ). IsSrcFile src n h.task.listing) h.is.width h.is.src_file;
+    program = h.task.program;
+    src_file = subst (λ (n : ℕ). IsSrcFile src n h.task.program) h.is.width h.is.src_file;
   }
 
   pub room_of_code : (out : List ℕ) → IsDualCompiled net src part out → DualHolds net src part HasBothRoom
@@ -110,19 +110,19 @@ module _ (net src part : List ℕ) where
 
   pub none_broken : (fault : SrcFault) → HasBankedProgram net src → BreaksDualSrc net src fault → ⊥
   none_broken fault h b =
-      no_broken_rule src (data_width h.net_file.entries) h.listing fault h.src_file
+      no_broken_rule src (data_width h.net_file.entries) h.program fault h.src_file
       (subst (λ (e : UnitsModel). BreaksSrcRule src (data_width e) fault) (one_net net b.net_file h.net_file) b.breaks)
 
   -- a part is refused at one byte, and at none where it is one
   pub one_no_part : (at other : ℕ) → IsNoPart net src part at → IsNoPart net src part other → at ≡ other
   one_no_part at other a b =
-      let l : b.program.listing ≡ a.program.listing = b.program.src_file.says.only a.program.listing a.program.src_file.says.text in
-      one_part_fault a.program.listing.vars part at other a.fault (subst (λ (x : ProgramModel). IsPartFault x.vars part other) l b.fault)
+      let l : b.program.program ≡ a.program.program = b.program.src_file.says.only a.program.program a.program.src_file.says.text in
+      one_part_fault a.program.program.vars part at other a.fault (subst (λ (x : ProgramModel). IsPartFault x.vars part other) l b.fault)
 
   pub none_no_part : (P : DualProperty) (at : ℕ) → DualHolds net src part P → IsNoPart net src part at → ⊥
   none_no_part P at h b =
-      let l : b.program.listing ≡ h.task.listing = b.program.src_file.says.only h.task.listing h.is.src_file.says.text in
-      no_part h.task.listing.vars part h.task.in_bank at h.is.part_file (subst (λ (x : ProgramModel). IsPartFault x.vars part at) l b.fault)
+      let l : b.program.program ≡ h.task.program = b.program.src_file.says.only h.task.program h.is.src_file.says.text in
+      no_part h.task.program.vars part h.task.in_bank at h.is.part_file (subst (λ (x : ProgramModel). IsPartFault x.vars part at) l b.fault)
 
   pub one_full : (p q : ℕ × ℕ) → DualHolds net src part (IsDualFull p.0 p.1) → DualHolds net src part (IsDualFull q.0 q.1) → p ≡ q
   one_full (a, b) (c, d) = together (IsDualFull a b) (IsDualFull c d) ((a, b) ≡ (c, d)) by
@@ -213,17 +213,17 @@ fault_of_view net src part (ImageFull len size bound) h = absurd h
 fault_of_view net src part Memory h = tt
 
 -- why the second bytes tell no part of the program that was read
-pub told_of_part : (src part : List ℕ) (width : ℕ) (listing : ProgramModel) → IsSrcFile src width listing → (fault : ParseFault) → IsPartRefusal listing.vars part fault → IsToldFault src part width (part_fault fault)
-told_of_part src part width listing file (NoPartText at) h = record { listing = listing; file = file; fault = h }
-told_of_part src part width listing file ParseMemory h = tt
+pub told_of_part : (src part : List ℕ) (width : ℕ) (program : ProgramModel) → IsSrcFile src width program → (fault : ParseFault) → IsPartRefusal program.vars part fault → IsToldFault src part width (part_fault fault)
+told_of_part src part width program file (NoPartText at) h = record { program = program; file = file; fault = h }
+told_of_part src part width program file ParseMemory h = tt
 
 -- why the program and its part were not
 pub fault_of_told : (net src part : List ℕ) (modes : Moded) (read : IsViewedModes net modes) (width : ℕ) → width ≡ data_width read.routed.entries → (fault : DualFault) → IsToldFault src part width fault → IsDualFault net src part fault
 fault_of_told net src part modes read width wide (PartText at) h = record {
   program = record {
     net_file = banked_net net modes read;
-    listing = h.listing;
-    src_file = subst (λ (n : ℕ). IsSrcFile src n h.listing) wide h.file;
+    program = h.program;
+    src_file = subst (λ (n : ℕ). IsSrcFile src n h.program) wide h.file;
   };
   fault = h.fault;
 }

@@ -17,7 +17,7 @@ use Rattle.src_trees.specs.Held.{HasCellRoom, HoldsVars}
 use Rattle.src_trees.specs.Lowered.{MemoryMap, JobModel}
 use Rattle.src_trees.specs.Meant.{DoProgram}
 use Rattle.src_trees.proofs.Measured.{program_small}
-use Rattle.src_trees.proofs.Parts.{works_in_length}
+use Rattle.src_trees.proofs.Parts.{jobs_in_length}
 use Rattle.src_trees.proofs.TurnedTests.{told_nowhere, turned_nowhere}
 use Rattle.dual_bank.specs.Banked.{banked_destination, banked_tree, job_of_banked, jobs_of_banked, joined_memory}
 use Rattle.dual_bank.specs.Layouts.{bank_layout, FitsBanks}
@@ -26,7 +26,7 @@ use Rattle.dual_bank.proofs.Lying.{banked_does}
 use Rattle.dual_bank.proofs.Sizes.{banked_small}
 use Rattle.right_code.specs.Jobs.{HasOne}
 use Rattle.right_code.specs.Tasks.{HasJobs, Task}
-use Rattle.right_code.specs.Works.{AllOne, AreFlowJobs}
+use Rattle.right_code.specs.FlowJobs.{AllOne, AreFlowJobs}
 use Rattle.right_code.proofs.Tasks.{program_tests, jobs_one}
 
 module _ (k : ℕ) where
@@ -38,9 +38,9 @@ module _ (k : ℕ) where
   one_kept filed trees h = (banked_tree k h.0, ap (map (banked_tree k)) h.1)
   one_kept tested trees h = tt
 
-  all_one : (works : List JobModel) → AllOne works → AllOne (map (job_of_banked k) works)
+  all_one : (jobs : List JobModel) → AllOne jobs → AllOne (map (job_of_banked k) jobs)
   all_one [] h = tt
-  all_one (work ∷ later) h = (one_kept work.destination work.trees h.0, all_one later h.1)
+  all_one (job ∷ later) h = (one_kept job.destination job.trees h.0, all_one later h.1)
 
   banked_tested : (destination : DestinationModel) → banked_destination k destination ≡ tested → destination ≡ tested
   banked_tested (into id) e = absurd (cc e)
@@ -54,15 +54,15 @@ module _ (k : ℕ) where
   tests_kept all [] h = tt
   tests_kept all (Assign tree ∷ rest) h = (
     record {
-      work = job_of_banked k h.0.work;
+      job = job_of_banked k h.0.job;
       at = slice_get-map (job_of_banked k) all tree ∙ ap (option_map (job_of_banked k)) h.0.at;
-      destination = λ e. h.0.destination (banked_tested h.0.work.destination e);
+      destination = λ e. h.0.destination (banked_tested h.0.job.destination e);
     },
     tests_kept all rest h.1,
   )
   tests_kept all (Tested tree one none ∷ rest) h = (
     record {
-      work = job_of_banked k h.0.work;
+      job = job_of_banked k h.0.job;
       at = slice_get-map (job_of_banked k) all tree ∙ ap (option_map (job_of_banked k)) h.0.at;
       destination = ap (banked_destination k) h.0.destination;
     },
@@ -76,10 +76,10 @@ abbrev pub banked_task : Netlist → ℕ → ℕ → List Bool → ProgramModel 
 banked_task netlist width k in_bank l = record {
   netlist = netlist;
   width = width;
-  listing = l;
+  program = l;
   places = (bank_layout width k in_bank l).list;
   flow = program_flow l;
-  works = jobs_of_banked k (joined_memory width k (bank_layout width k in_bank l).list) l;
+  jobs = jobs_of_banked k (joined_memory width k (bank_layout width k in_bank l).list) l;
 }
 
 -- where the netlist's memory is the joined one, and the program keeps its rules
@@ -100,7 +100,7 @@ banked_jobs netlist width k bank in_bank l fits addr size kept =
       meant =
           subst (DoProgram (record { word = width; addr = memory_addr_width netlist.storages; places = places }) temps l) (sym (told_nowhere (jobs_of_banked k m l)))
           (subst (λ (n : ℕ). DoProgram (record { word = width; addr = n; places = places }) temps l (jobs_of_banked k m l)) (sym addr) (banked_does width k bank in_bank l fits));
-      count = length-map (program_jobs m l) (job_of_banked k) ∙ works_in_length m (stmts_of l.body);
+      count = length-map (program_jobs m l) (job_of_banked k) ∙ jobs_in_length m (stmts_of l.body);
       one = all_one k (program_jobs m l) (jobs_one m (stmts_of l.body));
       tests = tests_kept k (program_jobs m l) (program_flow l) (program_tests m l);
       small = banked_small k width fits.some fits.wide temps 510 (program_jobs m l) (program_small m l kept (bank_held width k bank in_bank l fits).some);

@@ -30,7 +30,7 @@ pub record BreaksDualSrc (net src : List ℕ) (fault : SrcFault) : Type 0 where
 -- at this byte is none
 pub record IsNoPart (net src part : List ℕ) (at : ℕ) : Type 0 where
   pub program : HasBankedProgram net src
-  pub fault : IsPartFault program.listing.vars part at
+  pub fault : IsPartFault program.program.vars part at
 
 -- why the netlist's bytes were not taken
 abbrev pub IsBankedNetFault : List ℕ → CompileFault → Type 0

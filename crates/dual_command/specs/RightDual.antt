@@ -26,30 +26,30 @@ use Rattle.right_code.specs.Tasks.{Task}
 pub record DualTask : Type 0 where
   pub netlist : Netlist
   pub width : ℕ
-  pub listing : ProgramModel
+  pub program : ProgramModel
   pub in_bank : List Bool
 
 -- the task on the view: its variables stand in two memories, and its jobs have their addresses
 abbrev pub dual_task : DualTask → Task
 dual_task task =
     let k : ℕ = addr_bits task.netlist in
-    let places = (bank_layout task.width k task.in_bank task.listing).list in
+    let places = (bank_layout task.width k task.in_bank task.program).list in
     record {
       netlist = view_of task.netlist;
       width = task.width;
-      listing = task.listing;
+      program = task.program;
       places = places;
-      flow = program_flow task.listing;
-      works = jobs_of_banked k (joined_memory task.width k places) task.listing;
+      flow = program_flow task.program;
+      jobs = jobs_of_banked k (joined_memory task.width k places) task.program;
     }
 
 -- the cells that the program needs in the memory, the temporary ones among them, and in the bank,
 -- and those that there are
 abbrev pub need_in_memory : DualTask → ℕ
-need_in_memory task = memory_need task.width task.in_bank task.listing
+need_in_memory task = memory_need task.width task.in_bank task.program
 
 abbrev pub need_in_bank : DualTask → ℕ
-need_in_bank task = bank_cells task.in_bank task.listing.vars
+need_in_bank task = bank_cells task.in_bank task.program.vars
 
 abbrev pub memory_room : DualTask → ℕ
 memory_room task = 2 ^ addr_bits task.netlist
@@ -74,4 +74,4 @@ unmoded n = record n { special = None }
 -- the program's
 pub record IsRightDual (task : DualTask) (image : Image) : Type 0 where
   pub made : IsMadeFor (dual_task task) image
-  pub traces : TracesBy (both_in image) (unmoded task.netlist) image (strace task.width task.listing)
+  pub traces : TracesBy (both_in image) (unmoded task.netlist) image (strace task.width task.program)

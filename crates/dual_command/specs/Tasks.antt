@@ -21,16 +21,16 @@ pub record HasBankedNet (net : List ℕ) : Type 0 where
 -- the second bytes are a program's for its words
 pub record HasBankedProgram (net src : List ℕ) : Type 0 where
   pub net_file : HasBankedNet net
-  pub listing : ProgramModel
-  pub src_file : IsSrcFile src (data_width net_file.entries) listing
+  pub program : ProgramModel
+  pub src_file : IsSrcFile src (data_width net_file.entries) program
 
 -- the third bytes tell a part of its variables, and the task is theirs
 pub record IsDualTask (net src part : List ℕ) (task : DualTask) : Type 0 where
   pub net_file : HasBankedNet net
   pub netlist : task.netlist ≡ netlist_of net_file.entries
   pub width : task.width ≡ data_width net_file.entries
-  pub src_file : IsSrcFile src task.width task.listing
-  pub part_file : IsPart task.listing.vars part task.in_bank
+  pub src_file : IsSrcFile src task.width task.program
+  pub part_file : IsPart task.program.vars part task.in_bank
 
 -- a property of such a task
 abbrev pub DualProperty : Type 1

@@ -140,7 +140,7 @@ fn jobs(alloc: Global, modes: &Modes, typed: &Typed, places: &Places) -> Result<
 {
     let addr_width = sizes_of(modes).addr_width;
     let blocks = lower(alloc, typed, places, addr_width + 1)?;
-    banked(alloc, typed, blocks, places, addr_width)
+    banked(alloc, blocks, addr_width)
 }
 
 // The image of the program for the netlist of which this is the view: right code.

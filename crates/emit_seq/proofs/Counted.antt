@@ -27,16 +27,16 @@ long_insert xs zero x = refl
 long_insert [] (suc i) x = refl
 long_insert (y ∷ xs) (suc i) x = let e = long_insert xs i x in omega (arith, e)
 
-woven_long : (sites : List LeafModel) (xs ys : List (List Step)) → length xs ≡ length (operands_of sites) → length ys ≡ length (cuts_of sites) → length (woven sites xs ys) ≡ total_steps xs + total_steps ys
+woven_long : (leaves : List LeafModel) (xs ys : List (List Step)) → length xs ≡ length (operands_of leaves) → length ys ≡ length (cuts_of leaves) → length (woven leaves xs ys) ≡ total_steps xs + total_steps ys
 woven_long [] [] [] p q = refl
 woven_long [] [] (y ∷ ys) p q = absurd (omega arith)
 woven_long [] (x ∷ xs) ys p q = absurd (omega arith)
-woven_long (operand id tree whole ∷ sites) [] ys p q = absurd (omega arith)
-woven_long (operand id tree whole ∷ sites) (x ∷ xs) ys p q =
-    let e = woven_long sites xs ys (omega arith) q in omega (arith, e, length-append x (woven sites xs ys))
-woven_long (cut shape tree ∷ sites) xs [] p q = absurd (omega arith)
-woven_long (cut shape tree ∷ sites) xs (y ∷ ys) p q =
-    let e = woven_long sites xs ys p (omega arith) in omega (arith, e, length-append y (woven sites xs ys))
+woven_long (operand id tree whole ∷ leaves) [] ys p q = absurd (omega arith)
+woven_long (operand id tree whole ∷ leaves) (x ∷ xs) ys p q =
+    let e = woven_long leaves xs ys (omega arith) q in omega (arith, e, length-append x (woven leaves xs ys))
+woven_long (cut shape tree ∷ leaves) xs [] p q = absurd (omega arith)
+woven_long (cut shape tree ∷ leaves) xs (y ∷ ys) p q =
+    let e = woven_long leaves xs ys p (omega arith) in omega (arith, e, length-append y (woven leaves xs ys))
 
 module _ (stock : StockModel) where
   inside_long : (ps : CoverOperandsModel) (left : List OperandCellsModel) → length (inside_operands stock ps left) ≡ length (operand_counts ps)
@@ -66,17 +66,17 @@ module _ (stock : StockModel) where
   record AreCutCounted (cs : CoverCutsModel) : Type 0 where
     all : (cuts : List CutCellsModel) → AreCut stock (trees_in cuts) cs → total_steps (into_cells stock cs cuts) ≡ cuts_cost cs
 
-  form_long : (rule other : FormModel) (destination : DestinationModel) (i j : ℕ) → length (form_step rule destination i) ≡ length (form_step other destination j)
-  form_long rule other (into id) i j = refl
-  form_long rule other filed i j = refl
-  form_long rule other (cell a) i j = refl
-  form_long rule other (stored a) i j = refl
-  form_long rule other temporary i j = refl
-  form_long rule other tested i j = refl
+  form_long : (form other : FormModel) (destination : DestinationModel) (i j : ℕ) → length (form_step form destination i) ≡ length (form_step other destination j)
+  form_long form other (into id) i j = refl
+  form_long form other filed i j = refl
+  form_long form other (cell a) i j = refl
+  form_long form other (stored a) i j = refl
+  form_long form other temporary i j = refl
+  form_long form other tested i j = refl
 
-  home_long : (rule : FormModel) (home : HomeModel) → length (form_step rule (home_destination home) 0) ≡ 1
-  home_long rule (in_register id) = refl
-  home_long rule (in_file shape) = refl
+  home_long : (form : FormModel) (home : HomeModel) → length (form_step form (home_destination home) 0) ≡ 1
+  home_long form (in_register id) = refl
+  home_long form (in_file shape) = refl
 
   whole_cost : (p : CoverModel) → cost p ≡ parts_cost p + 1
   whole_cost (use_form k ps cs) = omega arith
@@ -119,16 +119,16 @@ module _ (stock : StockModel) where
           ≡ parts_cost (use_form k ps cs) + length (form_step (form_at stock 0) destination 0)
       all' n held destination tree whole o =
           let w : IsOpened stock k ps cs destination tree whole = opened_cover stock k ps cs destination tree whole o in
-          let sites : List LeafModel = (match_at stock k destination tree whole).sites in
-          let left : List OperandCellsModel = cover_operand_cells sites ps cs n in
-          let cuts : List CutCellsModel = cover_cut_cells sites ps cs n in
+          let leaves : List LeafModel = (match_at stock k destination tree whole).leaves in
+          let left : List OperandCellsModel = cover_operand_cells leaves ps cs n in
+          let cuts : List CutCellsModel = cover_cut_cells leaves ps cs n in
           let a : total_steps (inside_operands stock ps left) + length (operand_steps stock ps left held) ≡ operands_cost ps =
-          h.all held left (subst (λ z. AreOrderly stock z ps) (sym (cells_operands sites (operand_counts ps) (cut_counts cs) n)) w.operands) in
+          h.all held left (subst (λ z. AreOrderly stock z ps) (sym (cells_operands leaves (operand_counts ps) (cut_counts cs) n)) w.operands) in
           let b : total_steps (into_cells stock cs cuts) ≡ cuts_cost cs =
-          g.all cuts (subst (λ z. AreCut stock z cs) (sym (cells_trees sites (operand_counts ps) (cut_counts cs) n)) w.cuts) in
-          let d : length (woven sites (inside_operands stock ps left) (into_cells stock cs cuts)) ≡ total_steps (inside_operands stock ps left) + total_steps (into_cells stock cs cuts) =
-          woven_long sites (inside_operands stock ps left) (into_cells stock cs cuts)
-          (inside_long ps left ∙ operands_long stock ps (operands_of sites) w.operands) (cells_long cs cuts ∙ cuts_long stock cs (cuts_of sites) w.cuts) in
+          g.all cuts (subst (λ z. AreCut stock z cs) (sym (cells_trees leaves (operand_counts ps) (cut_counts cs) n)) w.cuts) in
+          let d : length (woven leaves (inside_operands stock ps left) (into_cells stock cs cuts)) ≡ total_steps (inside_operands stock ps left) + total_steps (into_cells stock cs cuts) =
+          woven_long leaves (inside_operands stock ps left) (into_cells stock cs cuts)
+          (inside_long ps left ∙ operands_long stock ps (operands_of leaves) w.operands) (cells_long cs cuts ∙ cuts_long stock cs (cuts_of leaves) w.cuts) in
           let setting : ℕ = cover_setting stock (use_form k ps cs) n held destination tree whole in
           omega (arith, a, b, d, length-append (operand_steps stock ps left held) (form_step (form_at stock k) destination setting), form_long (form_at stock k) (form_at stock 0) destination setting 0)
 
@@ -145,14 +145,14 @@ module _ (stock : StockModel) where
     counted_cuts (cut_then p cs) = cut_counted p cs (counted p) (counted_cuts cs)
 
   -- a job's cover has as many steps as it costs
-  pub steps_cost : (destination : DestinationModel) (tree : ExprModel) (plan : CoverModel) → IsOfJob destination → IsOrderly stock destination tree true plan → length (cover_steps stock destination tree plan) ≡ job_cost destination plan
-  steps_cost (cell a) tree plan j o =
-      length-append (cut_steps stock plan 0 (cell a) tree true) (own_steps stock plan 0 0 (cell a) tree true) ∙ (counted plan).all 0 0 (cell a) tree true o ∙ sym (whole_cost plan)
-  steps_cost (stored a) tree plan j o =
-      length-append (cut_steps stock plan 0 (stored a) tree true) (own_steps stock plan 0 0 (stored a) tree true) ∙ (counted plan).all 0 0 (stored a) tree true o ∙ sym (whole_cost plan)
-  steps_cost tested tree plan j o =
-      let e = (counted plan).all 0 0 tested tree true o in
-      omega (arith, e, length-append (cut_steps stock plan 0 tested tree true) (own_steps stock plan 0 0 tested tree true))
-  steps_cost (into id) tree plan j o = absurd j
-  steps_cost filed tree plan j o = absurd j
-  steps_cost temporary tree plan j o = absurd j
+  pub steps_cost : (destination : DestinationModel) (tree : ExprModel) (cover : CoverModel) → IsOfJob destination → IsOrderly stock destination tree true cover → length (cover_steps stock destination tree cover) ≡ job_cost destination cover
+  steps_cost (cell a) tree cover j o =
+      length-append (cut_steps stock cover 0 (cell a) tree true) (own_steps stock cover 0 0 (cell a) tree true) ∙ (counted cover).all 0 0 (cell a) tree true o ∙ sym (whole_cost cover)
+  steps_cost (stored a) tree cover j o =
+      length-append (cut_steps stock cover 0 (stored a) tree true) (own_steps stock cover 0 0 (stored a) tree true) ∙ (counted cover).all 0 0 (stored a) tree true o ∙ sym (whole_cost cover)
+  steps_cost tested tree cover j o =
+      let e = (counted cover).all 0 0 tested tree true o in
+      omega (arith, e, length-append (cut_steps stock cover 0 tested tree true) (own_steps stock cover 0 0 tested tree true))
+  steps_cost (into id) tree cover j o = absurd j
+  steps_cost filed tree cover j o = absurd j
+  steps_cost temporary tree cover j o = absurd j

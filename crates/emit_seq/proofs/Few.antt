@@ -13,7 +13,7 @@ use Rattle.emit_seq.specs.ReadWords.{AllReadWords}
 use Rattle.form_model.proofs.NeedLaws.{cells_left}
 use Rattle.emit_seq.proofs.Nodes.{goal_nodes, tree_nodes, operands_sum, cuts_sum, leaves_sum, MatchKind, itself, stored_whole, parts, IsPlain, whole_at, goal_kind, goal_sum}
 
-module _ (bits : ℕ) (stock : StockModel) (words : AllReadWords bits stock.rules) where
+module _ (bits : ℕ) (stock : StockModel) (words : AllReadWords bits stock.forms) where
   abbrev op_sum : List Operand → ℕ
   op_sum left = operands_sum stock.temps bits left
 
@@ -22,17 +22,17 @@ module _ (bits : ℕ) (stock : StockModel) (words : AllReadWords bits stock.rule
 
   -- no orderly cover that writes the same and needs no more of the file is cheaper
   abbrev IsMin : CoverModel → DestinationModel → ExprModel → Bool → Type 0
-  IsMin p destination tree whole = (q : CoverModel) → IsOrderly stock destination tree whole q → written stock.rules q ≡ written stock.rules p → need stock.rules q ≤ need stock.rules p → cost p ≤ cost q
+  IsMin p destination tree whole = (q : CoverModel) → IsOrderly stock destination tree whole q → written stock.forms q ≡ written stock.forms p → need stock.forms q ≤ need stock.forms p → cost p ≤ cost q
 
   abbrev AreMin : CoverOperandsModel → List Operand → Type 0
-  AreMin ps left = (qs : CoverOperandsModel) → AreOrderly stock left qs → all_written stock.rules qs ≡ all_written stock.rules ps → operands_need stock.rules qs ≤ operands_need stock.rules ps → operands_cost ps ≤ operands_cost qs
+  AreMin ps left = (qs : CoverOperandsModel) → AreOrderly stock left qs → all_written stock.forms qs ≡ all_written stock.forms ps → operands_need stock.forms qs ≤ operands_need stock.forms ps → operands_cost ps ≤ operands_cost qs
 
   abbrev CutsMin : CoverCutsModel → List ExprModel → Type 0
   CutsMin cs trees = (ds : CoverCutsModel) → AreCut stock trees ds → cuts_cost cs ≤ cuts_cost ds
 
   -- no cover of a tree into a temporary cell is cheaper
   abbrev IsLeastCut : ℕ → ExprModel → Type 0
-  IsLeastCut n tree = (q : CoverModel) → IsOrderly stock temporary tree false q → need stock.rules q ≤ stock.file → n ≤ cost q
+  IsLeastCut n tree = (q : CoverModel) → IsOrderly stock temporary tree false q → need stock.forms q ≤ stock.file → n ≤ cost q
 
   record IsFew (p : CoverModel) : Type 0 where
     few : (destination : DestinationModel) (tree : ExprModel) (whole : Bool) → IsOrderly stock destination tree whole p → IsMin p destination tree whole → cut_count p ≤ goal_nodes stock.temps bits destination tree whole
@@ -67,12 +67,12 @@ module _ (bits : ℕ) (stock : StockModel) (words : AllReadWords bits stock.rule
           let a = cells_left stock q c.0.home c.0.tree c.0.whole d in
           let a' = cells_left stock p c.0.home c.0.tree c.0.whole c.2 in
           let r : cost p + operands_cost ps ≤ cost q + operands_cost ps =
-          m (operand_then j q ps) (c.0, c.1, d, c.3, c.4) (ap (λ z. bit_or z (all_written stock.rules ps)) e) (omega (arith, a, a', b)) in omega (arith, r)
+          m (operand_then j q ps) (c.0, c.1, d, c.3, c.4) (ap (λ z. bit_or z (all_written stock.forms ps)) e) (omega (arith, a, a', b)) in omega (arith, r)
 
       rest_min : (j : ℕ) (left : List Operand) → AreOrderly stock left (operand_then j p ps) → AreMin (operand_then j p ps) left → AreMin ps (remove left j)
       rest_min j left c m qs d e b =
           let r : cost p + operands_cost ps ≤ cost p + operands_cost qs =
-          m (operand_then j p qs) (c.0, c.1, c.2, ap (λ z. bit_and z (home_set c.0.home)) e ∙ c.3, d) (ap (λ z. bit_or (written stock.rules p) z) e) (omega (arith, b)) in omega (arith, r)
+          m (operand_then j p qs) (c.0, c.1, c.2, ap (λ z. bit_and z (home_set c.0.home)) e ∙ c.3, d) (ap (λ z. bit_or (written stock.forms p) z) e) (omega (arith, b)) in omega (arith, r)
 
       few' : (left : List Operand) → AreOrderly stock left (operand_then i p ps) → AreMin (operand_then i p ps) left → operands_count (operand_then i p ps) ≤ op_sum left
       few' left c m =
@@ -111,7 +111,7 @@ module _ (bits : ℕ) (stock : StockModel) (words : AllReadWords bits stock.rule
   no_cut_few = record { few = λ trees c m. omega arith }
 
   -- a cut of the tree itself has a cover that is cheaper than the form's
-  own_cut : (cs : CoverCutsModel) (t : ExprModel) → AreCut stock (t ∷ []) cs → (q : CoverModel) × IsOrderly stock temporary t false q × (need stock.rules q ≤ stock.file) × (cost q ≤ cuts_cost cs)
+  own_cut : (cs : CoverCutsModel) (t : ExprModel) → AreCut stock (t ∷ []) cs → (q : CoverModel) × IsOrderly stock temporary t false q × (need stock.forms q ≤ stock.file) × (cost q ≤ cuts_cost cs)
   own_cut no_cuts t c = absurd (cc)
   own_cut (cut_then p cs) t c =
       let e : c.0 ≡ t = cc (c.2) in
@@ -120,21 +120,21 @@ module _ (bits : ℕ) (stock : StockModel) (words : AllReadWords bits stock.rule
   form_few : (k : ℕ) (ps : CoverOperandsModel) (cs : CoverCutsModel) → AreFew ps → CutsFew cs → IsFew (use_form k ps cs)
   form_few k ps cs hp hc = record { few = few'; fewer = fewer' }
     where
-      op_min : (destination : DestinationModel) (tree : ExprModel) (whole : Bool) → (c : IsOrderly stock destination tree whole (use_form k ps cs)) → IsMin (use_form k ps cs) destination tree whole → AreMin ps (operands_of c.2.sites)
+      op_min : (destination : DestinationModel) (tree : ExprModel) (whole : Bool) → (c : IsOrderly stock destination tree whole (use_form k ps cs)) → IsMin (use_form k ps cs) destination tree whole → AreMin ps (operands_of c.2.leaves)
       op_min destination tree whole c m qs d e b =
           let r : 1 + operands_cost ps + cuts_cost cs ≤ 1 + operands_cost qs + cuts_cost cs =
-          m (use_form k qs cs) (c.0, c.1, c.2, c.3, d, c.5) (ap (λ z. bit_or (form_clobbers (slice_get stock.rules k)) z) e) (omega (arith, b)) in omega (arith, r)
+          m (use_form k qs cs) (c.0, c.1, c.2, c.3, d, c.5) (ap (λ z. bit_or (form_clobbers (slice_get stock.forms k)) z) e) (omega (arith, b)) in omega (arith, r)
 
-      cut_min : (destination : DestinationModel) (tree : ExprModel) (whole : Bool) → (c : IsOrderly stock destination tree whole (use_form k ps cs)) → IsMin (use_form k ps cs) destination tree whole → CutsMin cs (cuts_of c.2.sites)
+      cut_min : (destination : DestinationModel) (tree : ExprModel) (whole : Bool) → (c : IsOrderly stock destination tree whole (use_form k ps cs)) → IsMin (use_form k ps cs) destination tree whole → CutsMin cs (cuts_of c.2.leaves)
       cut_min destination tree whole c m ds d =
           let r : 1 + operands_cost ps + cuts_cost cs ≤ 1 + operands_cost ps + cuts_cost ds = m (use_form k ps ds) (c.0, c.1, c.2, c.3, c.4, d) refl (omega arith) in omega (arith, r)
 
       few' : (destination : DestinationModel) (tree : ExprModel) (whole : Bool) → IsOrderly stock destination tree whole (use_form k ps cs) → IsMin (use_form k ps cs) destination tree whole
           → cut_count (use_form k ps cs) ≤ goal_nodes stock.temps bits destination tree whole
       few' destination tree whole c m =
-          let a : operands_count ps ≤ op_sum (operands_of c.2.sites) = hp.few (operands_of c.2.sites) c.4 (op_min destination tree whole c m) in
-          let b : cuts_count cs ≤ cut_sum (cuts_of c.2.sites) = hc.few (cuts_of c.2.sites) c.5 (cut_min destination tree whole c m) in
-          let s : leaves_sum stock.temps bits c.2.sites ≤ goal_nodes stock.temps bits destination tree whole = goal_sum stock.temps bits c.0 c.0.goal destination tree whole c.2 (words k c.0 c.1).0 (words k c.0 c.1).1 c.3 in
+          let a : operands_count ps ≤ op_sum (operands_of c.2.leaves) = hp.few (operands_of c.2.leaves) c.4 (op_min destination tree whole c m) in
+          let b : cuts_count cs ≤ cut_sum (cuts_of c.2.leaves) = hc.few (cuts_of c.2.leaves) c.5 (cut_min destination tree whole c m) in
+          let s : leaves_sum stock.temps bits c.2.leaves ≤ goal_nodes stock.temps bits destination tree whole = goal_sum stock.temps bits c.0 c.0.goal destination tree whole c.2 (words k c.0 c.1).0 (words k c.0 c.1).1 c.3 in
           omega (arith, a, b, s)
 
       fewer' : (destination : DestinationModel) (tree : ExprModel) (whole : Bool) → IsPlain stock.temps bits destination → IsOrderly stock destination tree whole (use_form k ps cs) → IsMin (use_form k ps cs) destination tree whole
@@ -142,13 +142,13 @@ module _ (bits : ℕ) (stock : StockModel) (words : AllReadWords bits stock.rule
       fewer' destination tree whole pl c m l =
           by_kind (whole_at stock.temps bits destination whole) c.2 (goal_kind stock.temps bits c.0 c.0.goal destination tree whole c.2 (words k c.0 c.1).1 pl c.3) c.4 c.5 (op_min destination tree whole c m) (cut_min destination tree whole c m) l
         where
-          by_kind : (w : Bool) (f : MatchModel) → MatchKind stock.temps bits tree w f → AreOrderly stock (operands_of f.sites) ps → AreCut stock (cuts_of f.sites) cs → AreMin ps (operands_of f.sites)
-              → CutsMin cs (cuts_of f.sites) → IsLeastCut (1 + operands_cost ps + cuts_cost cs) tree → operands_count ps + cuts_count cs ≤ wide_below bits tree
+          by_kind : (w : Bool) (f : MatchModel) → MatchKind stock.temps bits tree w f → AreOrderly stock (operands_of f.leaves) ps → AreCut stock (cuts_of f.leaves) cs → AreMin ps (operands_of f.leaves)
+              → CutsMin cs (cuts_of f.leaves) → IsLeastCut (1 + operands_cost ps + cuts_cost cs) tree → operands_count ps + cuts_count cs ≤ wide_below bits tree
           by_kind w f (itself id e) o u om um l =
-              let b : cuts_count cs ≤ cut_sum (cuts_of f.sites) = hc.few (cuts_of f.sites) u um in
-              let z : cut_sum (cuts_of f.sites) ≡ 0 = ap (λ s. cut_sum (cuts_of s)) e in
+              let b : cuts_count cs ≤ cut_sum (cuts_of f.leaves) = hc.few (cuts_of f.leaves) u um in
+              let z : cut_sum (cuts_of f.leaves) ≡ 0 = ap (λ s. cut_sum (cuts_of s)) e in
               let op : Operand = record { home = id; tree = tree; whole = w } in
-              let eo : operands_of f.sites ≡ op ∷ [] = ap operands_of e in
+              let eo : operands_of f.leaves ≡ op ∷ [] = ap operands_of e in
               let a : operands_count ps ≤ wide_below bits tree =
               hp.fewer op (subst (λ s. AreOrderly stock s ps) eo o) (subst (λ s. AreMin ps s) eo om)
               (λ q d v. let r : 1 + operands_cost ps + cuts_cost cs ≤ cost q = l q d v in omega (arith, r)) in
@@ -158,8 +158,8 @@ module _ (bits : ℕ) (stock : StockModel) (words : AllReadWords bits stock.rule
               let n : 1 + operands_cost ps + cuts_cost cs ≤ cost q = l q d w' in
               absurd (omega (arith, n, r))
           by_kind w f (parts s) o u om um l =
-              let a : operands_count ps ≤ op_sum (operands_of f.sites) = hp.few (operands_of f.sites) o om in
-              let b : cuts_count cs ≤ cut_sum (cuts_of f.sites) = hc.few (cuts_of f.sites) u um in
+              let a : operands_count ps ≤ op_sum (operands_of f.leaves) = hp.few (operands_of f.leaves) o om in
+              let b : cuts_count cs ≤ cut_sum (cuts_of f.leaves) = hc.few (cuts_of f.leaves) u um in
               omega (arith, a, b, s)
 
   mutual
@@ -183,16 +183,16 @@ module _ (bits : ℕ) (stock : StockModel) (words : AllReadWords bits stock.rule
   goal_temps tested t = refl
 
   -- a chosen cover has at most as many cuts as its tree has nodes that can be cut
-  pub chosen_few : (destination : DestinationModel) (trees : List ExprModel) (choice : JobCoverModel) → (c : IsChosen stock destination trees choice) → cut_count choice.plan ≤ tree_temps bits destination c.covers.tree
-  chosen_few destination trees choice c = subst (λ n. cut_count choice.plan ≤ n) (goal_temps destination c.covers.tree) ((few_cover choice.plan).few destination c.covers.tree true c.covers.orderly least)
+  pub chosen_few : (destination : DestinationModel) (trees : List ExprModel) (choice : JobCoverModel) → (c : IsChosen stock destination trees choice) → cut_count choice.cover ≤ tree_temps bits destination c.covers.tree
+  chosen_few destination trees choice c = subst (λ n. cut_count choice.cover ≤ n) (goal_temps destination c.covers.tree) ((few_cover choice.cover).few destination c.covers.tree true c.covers.orderly least)
     where
-      least : IsMin choice.plan destination c.covers.tree true
+      least : IsMin choice.cover destination c.covers.tree true
       least q d e b =
-          let other : JobCoverModel = record { which = choice.which; plan = q } in
+          let other : JobCoverModel = record { which = choice.which; cover = q } in
           let cover : Covers stock destination trees other = record { tree = c.covers.tree; used = c.covers.used; orderly = d; enough = (let n = c.covers.enough in omega (arith, n, b)) } in
           at_most (c.first other cover)
         where
-          at_most : (cost choice.plan < cost q) ⊎ ((cost choice.plan ≡ cost q) × ((choice ≡ record { which = choice.which; plan = q }) ⊎ ChoiceBefore choice (record { which = choice.which; plan = q })))
-              → cost choice.plan ≤ cost q
+          at_most : (cost choice.cover < cost q) ⊎ ((cost choice.cover ≡ cost q) × ((choice ≡ record { which = choice.which; cover = q }) ⊎ ChoiceBefore choice (record { which = choice.which; cover = q })))
+              → cost choice.cover ≤ cost q
           at_most (inl l) = omega (arith, l)
           at_most (inr l) = omega (arith, l.0)

@@ -139,22 +139,22 @@ goal_one into_file = inl refl
 goal_one (jumps reach) = inr refl
 goal_one (branches when_one to) = inr refl
 
-form_some : (rule : Option FormModel) (cells : List (Option ℕ)) (first : Option ℕ) (free : ℕ) → form_cells rule ≡ 1 → (c : ℕ) × (form_cell rule cells first free ≡ Some c)
+form_some : (form : Option FormModel) (cells : List (Option ℕ)) (first : Option ℕ) (free : ℕ) → form_cells form ≡ 1 → (c : ℕ) × (form_cell form cells first free ≡ Some c)
 form_some None cells first free h = absurd (omega (arith, h))
-form_some (Some rule) cells first free h =
-    (cell_or (some_or (tied_cell rule.tied cells) first) free, ap (λ b. if b then Some (cell_or (some_or (tied_cell rule.tied cells) first) free) else None) (eq-eqb (cells_of_goal rule.goal) 1 h))
+form_some (Some form) cells first free h =
+    (cell_or (some_or (tied_cell form.tied cells) first) free, ap (λ b. if b then Some (cell_or (some_or (tied_cell form.tied cells) first) free) else None) (eq-eqb (cells_of_goal form.goal) 1 h))
 
-form_none : (rule : Option FormModel) (cells : List (Option ℕ)) (first : Option ℕ) (free : ℕ) → form_cells rule ≡ 0 → form_cell rule cells first free ≡ None
+form_none : (form : Option FormModel) (cells : List (Option ℕ)) (first : Option ℕ) (free : ℕ) → form_cells form ≡ 0 → form_cell form cells first free ≡ None
 form_none None cells first free h = refl
-form_none (Some rule) cells first free h =
-    ap (λ b. if b then Some (cell_or (some_or (tied_cell rule.tied cells) first) free) else None) (ne_eqb (cells_of_goal rule.goal) 1 (λ z. omega (arith, z, h)))
+form_none (Some form) cells first free h =
+    ap (λ b. if b then Some (cell_or (some_or (tied_cell form.tied cells) first) free) else None) (ne_eqb (cells_of_goal form.goal) 1 (λ z. omega (arith, z, h)))
 
 -- a form's cell is that of its tied operand
-pub tied_is : (o : Option FormModel) (rule : FormModel) → o ≡ Some rule → (cells : List (Option ℕ)) (first : Option ℕ) (free c d : ℕ) → form_cell o cells first free ≡ Some c → tied_cell rule.tied cells ≡ Some d → d ≡ c
-tied_is None rule e cells first free c d h t = absurd (cc)
-tied_is (Some r) rule e cells first free c d h t = go (cells_of_goal r.goal == 1) h
+pub tied_is : (o : Option FormModel) (form : FormModel) → o ≡ Some form → (cells : List (Option ℕ)) (first : Option ℕ) (free c d : ℕ) → form_cell o cells first free ≡ Some c → tied_cell form.tied cells ≡ Some d → d ≡ c
+tied_is None form e cells first free c d h t = absurd (cc)
+tied_is (Some r) form e cells first free c d h t = go (cells_of_goal r.goal == 1) h
   where
-    same : r ≡ rule
+    same : r ≡ form
     same = cc
 
     go : (b : Bool) → (if b then Some (cell_or (some_or (tied_cell r.tied cells) first) free) else None) ≡ Some c → d ≡ c
@@ -164,59 +164,59 @@ tied_is (Some r) rule e cells first free c d h t = go (cells_of_goal r.goal == 1
         cc
     go false q = absurd (cc)
 
-form_free : (size held : ℕ) (rule : Option FormModel) (cells : List (Option ℕ)) (first : Option ℕ) (free : ℕ) → AreFree size held cells → IsFree size held first
-    → (form_cells rule ≡ 1 → IsFree size held (Some free)) → IsFree size held (form_cell rule cells first free)
+form_free : (size held : ℕ) (form : Option FormModel) (cells : List (Option ℕ)) (first : Option ℕ) (free : ℕ) → AreFree size held cells → IsFree size held first
+    → (form_cells form ≡ 1 → IsFree size held (Some free)) → IsFree size held (form_cell form cells first free)
 form_free size held None cells first free h k f = tt
-form_free size held (Some rule) cells first free h k f = go (cells_of_goal rule.goal == 1) refl
+form_free size held (Some form) cells first free h k f = go (cells_of_goal form.goal == 1) refl
   where
-    go : (b : Bool) → (cells_of_goal rule.goal == 1) ≡ b → IsFree size held (if b then Some (cell_or (some_or (tied_cell rule.tied cells) first) free) else None)
-    go true e = free_chosen size held (some_or (tied_cell rule.tied cells) first) free (free_or size held (tied_cell rule.tied cells) first (free_tied size held rule.tied cells h) k) (f (eqb-true (cells_of_goal rule.goal) 1 e))
+    go : (b : Bool) → (cells_of_goal form.goal == 1) ≡ b → IsFree size held (if b then Some (cell_or (some_or (tied_cell form.tied cells) first) free) else None)
+    go true e = free_chosen size held (some_or (tied_cell form.tied cells) first) free (free_or size held (tied_cell form.tied cells) first (free_tied size held form.tied cells h) k) (f (eqb-true (cells_of_goal form.goal) 1 e))
     go false e = tt
 
-left_few : (stock : StockModel) (rule : Option FormModel) → form_cells rule ≤ 1
+left_few : (stock : StockModel) (form : Option FormModel) → form_cells form ≤ 1
 left_few stock None = omega arith
-left_few stock (Some rule) = elim (goal_one rule.goal) as (λ _. cells_of_goal rule.goal ≤ 1) [ inl e ↦ (let n = ap cells_of_goal e in omega (arith, n)) | inr e ↦ omega (arith, e) ]
+left_few stock (Some form) = elim (goal_one form.goal) as (λ _. cells_of_goal form.goal ≤ 1) [ inl e ↦ (let n = ap cells_of_goal e in omega (arith, n)) | inr e ↦ omega (arith, e) ]
 
 module _ (stock : StockModel) where
-  pub left_some : (p : CoverModel) (held : ℕ) → left_cells stock.rules p ≡ 1 → (c : ℕ) × (cell_of stock p held ≡ Some c)
-  left_some (use_form k ps cs) held h = form_some (slice_get stock.rules k) (operand_homes stock ps held) (first_home stock ps held) (free_cell held stock.file) h
+  pub left_some : (p : CoverModel) (held : ℕ) → left_cells stock.forms p ≡ 1 → (c : ℕ) × (cell_of stock p held ≡ Some c)
+  left_some (use_form k ps cs) held h = form_some (slice_get stock.forms k) (operand_homes stock ps held) (first_home stock ps held) (free_cell held stock.file) h
 
-  pub left_none : (p : CoverModel) (held : ℕ) → left_cells stock.rules p ≡ 0 → cell_of stock p held ≡ None
-  left_none (use_form k ps cs) held h = form_none (slice_get stock.rules k) (operand_homes stock ps held) (first_home stock ps held) (free_cell held stock.file) h
+  pub left_none : (p : CoverModel) (held : ℕ) → left_cells stock.forms p ≡ 0 → cell_of stock p held ≡ None
+  left_none (use_form k ps cs) held h = form_none (slice_get stock.forms k) (operand_homes stock ps held) (first_home stock ps held) (free_cell held stock.file) h
 
-  pub left_one : (p : CoverModel) → left_cells stock.rules p ≤ 1
-  left_one (use_form k ps cs) = left_few stock (slice_get stock.rules k)
+  pub left_one : (p : CoverModel) → left_cells stock.forms p ≤ 1
+  left_one (use_form k ps cs) = left_few stock (slice_get stock.forms k)
 
   -- what is free besides an operand's cell
-  pub room_left : (p : CoverModel) (held n : ℕ) → IsFree stock.file held (cell_of stock p held) → left_cells stock.rules p + n ≤ free_count held stock.file
+  pub room_left : (p : CoverModel) (held n : ℕ) → IsFree stock.file held (cell_of stock p held) → left_cells stock.forms p + n ≤ free_count held stock.file
       → n ≤ free_count (holding held (cell_of stock p held)) stock.file
   room_left p held n f h =
-      elim (cases_eq (left_cells stock.rules p) 1) as (λ _. n ≤ free_count (holding held (cell_of stock p held)) stock.file) [
+      elim (cases_eq (left_cells stock.forms p) 1) as (λ _. n ≤ free_count (holding held (cell_of stock p held)) stock.file) [
         | inl one ↦
             let (c, e) = left_some p held one in
             let f' : IsFree stock.file held (Some c) = subst (IsFree stock.file held) e f in
             let less = one_less held c stock.file f'.0 f'.1 in
             subst (λ o. n ≤ free_count (holding held o) stock.file) (sym e) (omega (arith, less, one, h))
         | inr other ↦
-            let zero_is : left_cells stock.rules p ≡ 0 = (let l = left_one p in omega (arith, l, other)) in
+            let zero_is : left_cells stock.forms p ≡ 0 = (let l = left_one p in omega (arith, l, other)) in
             subst (λ o. n ≤ free_count (holding held o) stock.file) (sym (left_none p held zero_is)) (omega (arith, h))
       ]
 
   mutual
     -- where the file is large enough, the cell of a cover is free
-    pub cell_free : (p : CoverModel) (held : ℕ) → need stock.rules p ≤ free_count held stock.file → IsFree stock.file held (cell_of stock p held)
+    pub cell_free : (p : CoverModel) (held : ℕ) → need stock.forms p ≤ free_count held stock.file → IsFree stock.file held (cell_of stock p held)
     cell_free (use_form k ps cs) held h =
         let (homes, first) = homes_free ps held (omega (arith, h)) in
-        form_free stock.file held (slice_get stock.rules k) (operand_homes stock ps held) (first_home stock ps held) (free_cell held stock.file) homes first
+        form_free stock.file held (slice_get stock.forms k) (operand_homes stock ps held) (first_home stock ps held) (free_cell held stock.file) homes first
         (λ one. least_free held stock.file (omega (arith, h, one)))
 
-    pub homes_free : (ps : CoverOperandsModel) (held : ℕ) → operands_need stock.rules ps ≤ free_count held stock.file
+    pub homes_free : (ps : CoverOperandsModel) (held : ℕ) → operands_need stock.forms ps ≤ free_count held stock.file
         → AreFree stock.file held (operand_homes stock ps held) × IsFree stock.file held (first_home stock ps held)
     homes_free no_operands held h = (tt, tt)
     homes_free (operand_then i p ps) held h =
         let c : Option ℕ = cell_of stock p held in
         let f : IsFree stock.file held c = cell_free p held (omega (arith, h)) in
-        let (later, first) = homes_free ps (holding held c) (room_left p held (operands_need stock.rules ps) f (omega (arith, h))) in (
+        let (later, first) = homes_free ps (holding held c) (room_left p held (operands_need stock.forms ps) f (omega (arith, h))) in (
           free_insert stock.file held (operand_homes stock ps (holding held c)) i c f (all_less stock.file held c (operand_homes stock ps (holding held c)) later),
           free_or stock.file held c (first_home stock ps (holding held c)) f (holding_less stock.file held c (first_home stock ps (holding held c)) first),
         )

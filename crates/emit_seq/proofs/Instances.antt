@@ -19,10 +19,10 @@ use Rattle.form_model.proofs.Zips.{Each}
 use Rattle.emit_seq.proofs.Leaving.{leave_value}
 use Rattle.emit_seq.proofs.Spared.{steps_spare}
 
-each_at : (P : FormModel → Type 0) (rules : List FormModel) (k : ℕ) (rule : FormModel) → slice_get rules k ≡ Some rule → Each P rules → P rule
-each_at P [] k rule e h = absurd (cc)
-each_at P (x ∷ rules) zero rule e h = subst P (cc) h.0
-each_at P (x ∷ rules) (suc k) rule e h = each_at P rules k rule e h.1
+each_at : (P : FormModel → Type 0) (forms : List FormModel) (k : ℕ) (form : FormModel) → slice_get forms k ≡ Some form → Each P forms → P form
+each_at P [] k form e h = absurd (cc)
+each_at P (x ∷ forms) zero form e h = subst P (cc) h.0
+each_at P (x ∷ forms) (suc k) form e h = each_at P forms k form e h.1
 
 itself : (t : ExprModel) → MeansAlike t t
 itself t = record { means = λ s i. refl; reads = λ i r. refl }
@@ -30,9 +30,9 @@ itself t = record { means = λ s i. refl; reads = λ i r. refl }
 no_bit : (a b : ExprModel) → ((k : ℕ) → uses a k ≡ false) → BitsApart a b
 no_bit a b f k h = absurd (true≢false (sym h ∙ f k))
 
-into : (rule : FormModel) (r : ℕ) (value : ExprModel) → slice_get acc_patterns rule.pattern ≡ Some (record { storage = r; move = write value }) → MeansAlike rule.value value → IsOnce rule.value → CellsShown 0 rule.value
-    → bit_at rule.clobbers r ≡ 1 → r < 3 → IsIntoReg acc_patterns 3 0 rule r
-into rule r value e a o q c b = record { value = value; is = e; alike = a; once = o; shown = q; clobbered = c; below = b }
+into : (form : FormModel) (r : ℕ) (value : ExprModel) → slice_get acc_patterns form.pattern ≡ Some (record { storage = r; move = write value }) → MeansAlike form.value value → IsOnce form.value → CellsShown 0 form.value
+    → bit_at form.clobbers r ≡ 1 → r < 3 → IsIntoReg acc_patterns 3 0 form r
+into form r value e a o q c b = record { value = value; is = e; alike = a; once = o; shown = q; clobbered = c; below = b }
 
 or_comm : (a b : Bool) → (a || b) ≡ (b || a)
 or_comm true true = refl
@@ -49,7 +49,7 @@ sum_alike a b e = record {
     sums : (x y m n : ℕ) → m ≡ n → (x + y) % 2 ^ m ≡ (y + x) % 2 ^ n
     sums x y m n e = let c : x + y ≡ y + x = omega arith in rw (e, c) refl
 
-acc_each : Each (λ (rule : FormModel). IsFormed None acc_patterns 3 0 rule rule.goal) acc_forms
+acc_each : Each (λ (form : FormModel). IsFormed None acc_patterns 3 0 form form.goal) acc_forms
 acc_each = (
   into _ 0 next refl (itself next) (tt, tt, no_bit pc one (λ k. refl), no_bit one pc (λ k. refl)) (tt, tt) refl (omega arith),
   (
@@ -120,9 +120,9 @@ acc_each = (
     mem = read InMemory field 16
 
 acc_formed : AreFormed None acc_patterns 3 0 acc_forms
-acc_formed k rule e = each_at (λ (r : FormModel). IsFormed None acc_patterns 3 0 r r.goal) acc_forms k rule e acc_each
+acc_formed k form e = each_at (λ (r : FormModel). IsFormed None acc_patterns 3 0 r r.goal) acc_forms k form e acc_each
 
-acc_own : Each (λ (rule : FormModel). clobbers_of acc_forms rule.pattern ≡ rule.clobbers) acc_forms
+acc_own : Each (λ (form : FormModel). clobbers_of acc_forms form.pattern ≡ form.clobbers) acc_forms
 acc_own = (refl, (refl, (refl, (refl, (refl, (refl, (refl, (refl, (refl, (refl, (refl, tt)))))))))))
 
 acc_shared : AreShared acc_forms
@@ -132,7 +132,7 @@ acc_shared j k a b ea eb e =
 
 -- what goes into the program counter reads it
 abbrev Counts : FormModel → Type 0
-Counts rule = rule.goal ≡ into_reg 0 → (i : ℕ) × (expr_reads i rule.value (register 0) ≡ true)
+Counts form = form.goal ≡ into_reg 0 → (i : ℕ) × (expr_reads i form.value (register 0) ≡ true)
 
 acc_counts : Each Counts acc_forms
 acc_counts = (
@@ -166,7 +166,7 @@ acc_counts = (
     one_zero e = let q : 1 ≡ 0 = ap number e in omega (arith, q)
 
 acc_counter : ReadsCounter acc_forms 0
-acc_counter k rule e = each_at Counts acc_forms k rule e acc_counts
+acc_counter k form e = each_at Counts acc_forms k form e acc_counts
 
 -- from every state of three registers and at least five cells x = (a + b) - (a - b) is done, and no
 -- variable but x changes

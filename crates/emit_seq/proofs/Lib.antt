@@ -1,6 +1,6 @@
 pub mod BitUnions
 pub mod Matched
-pub mod Sites
+pub mod MatchLeaves
 pub mod Tied
 pub mod Forms
 pub mod FreeCells

@@ -102,9 +102,9 @@ module _ {A : Type 0} (m : A → Operation) (c : A → Regs) (pc : ℕ) where
       later r e (inr w) = or_left _ (writes (m x) r) (h r (kept_live (reads (m x) (register r)) (live_before m (singles xs) after r) (writes (m x) r) e w))
 
 module _ (m : Step → Operation) (c : Step → Regs) (pc : ℕ) where
-  pub woven_alone : (sites : List LeafModel) (xs ys : List (List Step)) → Each (IsAlone m c pc) xs → Each (IsAlone m c pc) ys → IsAlone m c pc (woven sites xs ys)
+  pub woven_alone : (leaves : List LeafModel) (xs ys : List (List Step)) → Each (IsAlone m c pc) xs → Each (IsAlone m c pc) ys → IsAlone m c pc (woven leaves xs ys)
   woven_alone [] xs ys h k = alone_none m c pc
-  woven_alone (operand id tree whole ∷ sites) [] ys h k = woven_alone sites [] ys h k
-  woven_alone (operand id tree whole ∷ sites) (x ∷ xs) ys h k = alone_append m c pc x (woven sites xs ys) h.0 (woven_alone sites xs ys h.1 k)
-  woven_alone (cut shape tree ∷ sites) xs [] h k = woven_alone sites xs [] h k
-  woven_alone (cut shape tree ∷ sites) xs (y ∷ ys) h k = alone_append m c pc y (woven sites xs ys) k.0 (woven_alone sites xs ys h k.1)
+  woven_alone (operand id tree whole ∷ leaves) [] ys h k = woven_alone leaves [] ys h k
+  woven_alone (operand id tree whole ∷ leaves) (x ∷ xs) ys h k = alone_append m c pc x (woven leaves xs ys) h.0 (woven_alone leaves xs ys h.1 k)
+  woven_alone (cut shape tree ∷ leaves) xs [] h k = woven_alone leaves xs [] h k
+  woven_alone (cut shape tree ∷ leaves) xs (y ∷ ys) h k = alone_append m c pc y (woven leaves xs ys) k.0 (woven_alone leaves xs ys h k.1)

@@ -53,7 +53,7 @@ pub record Joined (a b : Option MatchModel) (f : MatchModel) : Type 0 where
   pub second : MatchModel
   pub is_first : a ≡ Some first
   pub is_second : b ≡ Some second
-  pub is : record { setting = bit_or first.setting second.setting; sites = first.sites ++ second.sites } ≡ f
+  pub is : record { setting = bit_or first.setting second.setting; leaves = first.leaves ++ second.leaves } ≡ f
 
 pub joined : (a b : Option MatchModel) (f : MatchModel) → both a b ≡ Some f → Joined a b f
 joined None b f h = absurd (cc)
@@ -68,9 +68,9 @@ pub record Literal (shape t : ExprModel) (f : MatchModel) : Type 0 where
   pub is_tree : t ≡ const width value
   pub wide : width ≡ expr_width shape
   pub shown : shape_setting shape value ≡ Some bits
-  pub is : record { setting = bits; sites = [] } ≡ f
+  pub is : record { setting = bits; leaves = [] } ≡ f
 
-pub settled_some : (o : Option ℕ) (f : MatchModel) → settled o ≡ Some f → (b : ℕ) × (o ≡ Some b) × (record { setting = b; sites = [] } ≡ f)
+pub settled_some : (o : Option ℕ) (f : MatchModel) → settled o ≡ Some f → (b : ℕ) × (o ≡ Some b) × (record { setting = b; leaves = [] } ≡ f)
 settled_some None f h = absurd (cc)
 settled_some (Some b) f h = (b, refl, cc)
 
@@ -81,9 +81,9 @@ literal shape (const w v) f h =
     record { width = w; value = v; bits = b; is_tree = refl; wide = eqb-true w (expr_width shape) p.0; shown = e; is = k }
 literal shape t f h = absurd (cc)
 
-pub opened : (b : Bool) (site : LeafModel) (f : MatchModel) → open_if b site ≡ Some f → (b ≡ true) × (record { setting = 0; sites = site ∷ [] } ≡ f)
-opened true site f h = (refl, cc)
-opened false site f h = absurd (cc)
+pub opened : (b : Bool) (leaf : LeafModel) (f : MatchModel) → open_if b leaf ≡ Some f → (b ≡ true) × (record { setting = 0; leaves = leaf ∷ [] } ≡ f)
+opened true leaf f h = (refl, cc)
+opened false leaf f h = absurd (cc)
 
 pub either : (b : Bool) (x y : Option MatchModel) (f : MatchModel) → (if b then x else y) ≡ Some f → (x ≡ Some f) ⊎ (y ≡ Some f)
 either true x y f h = inl h
@@ -104,13 +104,13 @@ shown_below t (suc n) v h l =
     last : (v n : ℕ) → v < suc n → (v ≡ n) ⊎ (v < n)
     last v n l = grind arith
 
--- the bits of the cells that sites leave open
+-- the bits of the cells that leaves ask for
 abbrev pub open_bits : List LeafModel → List CutCellsModel → List (Option ℕ) → ℕ
-open_bits sites cuts homes = open_setting (operands_of sites) cuts homes
+open_bits leaves cuts homes = open_setting (operands_of leaves) cuts homes
 
 -- the bits of a match and of the cells that it leaves open
 abbrev pub bits_in : MatchModel → List CutCellsModel → List (Option ℕ) → ℕ
-bits_in f cuts homes = bit_or f.setting (open_bits f.sites cuts homes)
+bits_in f cuts homes = bit_or f.setting (open_bits f.leaves cuts homes)
 
 -- no bits where nothing is open
 pub none_open : (b k : ℕ) → bit_at (bit_or b (open_bits [] [] [])) k ≡ bit_at b k
@@ -126,11 +126,11 @@ module _ (temps size : ℕ) (before now : State) where
   -- operands are in their homes and cuts in their cells
   abbrev pub Holds : List LeafModel → List CutCellsModel → List (Option ℕ) → Type 0
   Holds [] cuts homes = (cuts ≡ []) × (homes ≡ [])
-  Holds (operand home tree whole ∷ sites) cuts [] = ⊥
-  Holds (operand home tree whole ∷ sites) cuts (h ∷ homes) = AtHome home h tree × Holds sites cuts homes
-  Holds (cut shape tree ∷ sites) [] homes = ⊥
-  Holds (cut shape tree ∷ sites) (cells ∷ cuts) homes =
-      (cells.shape ≡ shape) × (cells.cell < temps) × (slice_index now.cells cells.cell ≡ mean tree before 0) × Holds sites cuts homes
+  Holds (operand home tree whole ∷ leaves) cuts [] = ⊥
+  Holds (operand home tree whole ∷ leaves) cuts (h ∷ homes) = AtHome home h tree × Holds leaves cuts homes
+  Holds (cut shape tree ∷ leaves) [] homes = ⊥
+  Holds (cut shape tree ∷ leaves) (cells ∷ cuts) homes =
+      (cells.shape ≡ shape) × (cells.cell < temps) × (slice_index now.cells cells.cell ≡ mean tree before 0) × Holds leaves cuts homes
 
   pub record Split (xs ys : List LeafModel) (cuts : List CutCellsModel) (homes : List (Option ℕ)) : Type 0 where
     pub front : List CutCellsModel
@@ -211,10 +211,10 @@ module _ (temps size : ℕ) (before now : State) where
     pub means : (i : ℕ) → ((k : ℕ) → uses e k ≡ true → bit_at i k ≡ bit_at (bits_in f cuts homes) k) → mean e now i ≡ mean t before 0
 
 -- a shape takes a number
-shape_meant : (temps size : ℕ) (before now : State) (e t : ExprModel) (f : MatchModel) (cuts : List CutCellsModel) (homes : List (Option ℕ)) → shape_match e t ≡ Some f → Holds temps size before now f.sites cuts homes → IsMeant temps size before now e t f cuts homes
+shape_meant : (temps size : ℕ) (before now : State) (e t : ExprModel) (f : MatchModel) (cuts : List CutCellsModel) (homes : List (Option ℕ)) → shape_match e t ≡ Some f → Holds temps size before now f.leaves cuts homes → IsMeant temps size before now e t f cuts homes
 shape_meant temps size before now e t f cuts homes h k =
     let l : Literal e t f = literal e t f h in
-    let none : (cuts ≡ []) × (homes ≡ []) = subst (λ (z : MatchModel). Holds temps size before now z.sites cuts homes) (sym l.is) k in
+    let none : (cuts ≡ []) × (homes ≡ []) = subst (λ (z : MatchModel). Holds temps size before now z.leaves cuts homes) (sym l.is) k in
     let shown : IsSetting e l.value l.bits = shape_sets e l.value l.bits l.shown in
     let set : (j : ℕ) → bit_at (bits_in f cuts homes) j ≡ bit_at l.bits j =
     λ j. ap (λ (z : MatchModel). bit_at (bits_in z cuts homes) j) (sym l.is) ∙ ap (λ z. bit_at (bit_or l.bits (open_bits [] z homes)) j) none.0
@@ -237,17 +237,17 @@ or_two true b e = refl
 or_two false b e = e
 
 -- the bits of two matches that have no bit in common
-pub pair_bits : (x y : MatchModel) (f : MatchModel) (cuts front back : List CutCellsModel) (homes fronts backs : List (Option ℕ)) → record { setting = bit_or x.setting y.setting; sites = x.sites ++ y.sites } ≡ f
-    → ((k : ℕ) → bit_at (open_bits (x.sites ++ y.sites) cuts homes) k ≡ max (bit_at (open_bits x.sites front fronts) k) (bit_at (open_bits y.sites back backs) k))
+pub pair_bits : (x y : MatchModel) (f : MatchModel) (cuts front back : List CutCellsModel) (homes fronts backs : List (Option ℕ)) → record { setting = bit_or x.setting y.setting; leaves = x.leaves ++ y.leaves } ≡ f
+    → ((k : ℕ) → bit_at (open_bits (x.leaves ++ y.leaves) cuts homes) k ≡ max (bit_at (open_bits x.leaves front fronts) k) (bit_at (open_bits y.leaves back backs) k))
     → (k : ℕ) → bit_at (bits_in f cuts homes) k ≡ max (bit_at (bits_in x front fronts) k) (bit_at (bits_in y back backs) k)
 pair_bits x y f cuts front back homes fronts backs e g k =
     ap (λ (z : MatchModel). bit_at (bits_in z cuts homes) k) (sym e)
     ∙ omega (
       arith,
-      bit_at_or (bit_or x.setting y.setting) (open_bits (x.sites ++ y.sites) cuts homes) k,
+      bit_at_or (bit_or x.setting y.setting) (open_bits (x.leaves ++ y.leaves) cuts homes) k,
       bit_at_or x.setting y.setting k,
-      bit_at_or x.setting (open_bits x.sites front fronts) k,
-      bit_at_or y.setting (open_bits y.sites back backs) k,
+      bit_at_or x.setting (open_bits x.leaves front fronts) k,
+      bit_at_or y.setting (open_bits y.leaves back backs) k,
       g k,
     )
 
@@ -260,8 +260,8 @@ module _ (temps size : ℕ) (before now : State) where
     pub first : (i : ℕ) → ((k : ℕ) → (uses a k || uses b k) ≡ true → bit_at i k ≡ bit_at (bits_in f cuts homes) k) → mean a now i ≡ mean t before 0
     pub second : (i : ℕ) → ((k : ℕ) → (uses a k || uses b k) ≡ true → bit_at i k ≡ bit_at (bits_in f cuts homes) k) → mean b now i ≡ mean u before 0
 
-  pub two_meant : (a b t u : ExprModel) (x y f : MatchModel) (cuts front back : List CutCellsModel) (homes fronts backs : List (Option ℕ)) → record { setting = bit_or x.setting y.setting; sites = x.sites ++ y.sites } ≡ f
-      → ((k : ℕ) → bit_at (open_bits (x.sites ++ y.sites) cuts homes) k ≡ max (bit_at (open_bits x.sites front fronts) k) (bit_at (open_bits y.sites back backs) k))
+  pub two_meant : (a b t u : ExprModel) (x y f : MatchModel) (cuts front back : List CutCellsModel) (homes fronts backs : List (Option ℕ)) → record { setting = bit_or x.setting y.setting; leaves = x.leaves ++ y.leaves } ≡ f
+      → ((k : ℕ) → bit_at (open_bits (x.leaves ++ y.leaves) cuts homes) k ≡ max (bit_at (open_bits x.leaves front fronts) k) (bit_at (open_bits y.leaves back backs) k))
       → BitsApart a b → BitsApart b a → IsMeant temps size before now a t x front fronts → IsMeant temps size before now b u y back backs → AreMeant a b t u f cuts homes
   two_meant a b t u x y f cuts front back homes fronts backs e g p q m n = record {
     first_width = m.width;
@@ -290,12 +290,12 @@ module _ (temps size : ℕ) (before now : State) (same : (c : ℕ) → temps ≤
   -- what a match of this expression means
   abbrev Sound : ExprModel → Type 0
   Sound a = (t : ExprModel) (whole : Bool) (f : MatchModel) (cuts : List CutCellsModel) (homes : List (Option ℕ)) → matched temps a t whole ≡ Some f → ReadsFrom temps before t
-      → Holds temps size before now f.sites cuts homes → IsMeant temps size before now a t f cuts homes
+      → Holds temps size before now f.leaves cuts homes → IsMeant temps size before now a t f cuts homes
 
   reg_meant : (id w : ℕ) → Sound (reg id w)
   reg_meant id w t whole f cuts homes h r k =
-      let p : ((w == expr_width t) ≡ true) × (record { setting = 0; sites = operand (in_register id) t whole ∷ [] } ≡ f) = opened _ _ _ h in
-      let held : Holds temps size before now (operand (in_register id) t whole ∷ []) cuts homes = subst (λ (z : MatchModel). Holds temps size before now z.sites cuts homes) (sym p.1) k in
+      let p : ((w == expr_width t) ≡ true) × (record { setting = 0; leaves = operand (in_register id) t whole ∷ [] } ≡ f) = opened _ _ _ h in
+      let held : Holds temps size before now (operand (in_register id) t whole ∷ []) cuts homes = subst (λ (z : MatchModel). Holds temps size before now z.leaves cuts homes) (sym p.1) k in
       let none : (j : ℕ) → bit_at (bits_in f cuts homes) j ≡ 0 = λ j. ap (λ (z : MatchModel). bit_at (bits_in z cuts homes) j) (sym p.1) ∙ no_bits homes j held in
       record { width = eqb-true w (expr_width t) p.0; within = λ j u. none j; means = λ i u. value homes held }
     where
@@ -313,8 +313,8 @@ module _ (temps size : ℕ) (before now : State) (same : (c : ℕ) → temps ≤
   -- an operand in the file
   file_meant : (a : ExprModel) (w : ℕ) → shows_below a size ≡ true → Sound (read InFile a w)
   file_meant a w all t whole f cuts homes h r k =
-      let p : ((w == expr_width t) ≡ true) × (record { setting = 0; sites = operand (in_file a) t whole ∷ [] } ≡ f) = opened _ _ _ h in
-      let held : Holds temps size before now (operand (in_file a) t whole ∷ []) cuts homes = subst (λ (z : MatchModel). Holds temps size before now z.sites cuts homes) (sym p.1) k in
+      let p : ((w == expr_width t) ≡ true) × (record { setting = 0; leaves = operand (in_file a) t whole ∷ [] } ≡ f) = opened _ _ _ h in
+      let held : Holds temps size before now (operand (in_file a) t whole ∷ []) cuts homes = subst (λ (z : MatchModel). Holds temps size before now z.leaves cuts homes) (sym p.1) k in
       let (c, lt, v, bits) = found_cell homes held in
       let shown : IsSetting a c (bits_or_none (shape_setting a c)) = shape_sets a c _ (some_bits (shape_setting a c) (shown_below a size c all lt)) in
       let set : (j : ℕ) → bit_at (bits_in f cuts homes) j ≡ bit_at (bits_or_none (shape_setting a c)) j =
@@ -333,7 +333,7 @@ module _ (temps size : ℕ) (before now : State) (same : (c : ℕ) → temps ≤
       found_cell (Some c ∷ hs) held = (c, held.0.0, held.0.1, file_bits temps size before now a t whole cuts (Some c ∷ hs) c held refl)
 
   un_meant : (a : ExprModel) (op : Op1) → Sound a → (t : ExprModel) (f : MatchModel) (cuts : List CutCellsModel) (homes : List (Option ℕ)) → un_match (matched temps a) op t ≡ Some f → ReadsFrom temps before t
-      → Holds temps size before now f.sites cuts homes → IsMeant temps size before now (un op a) t f cuts homes
+      → Holds temps size before now f.leaves cuts homes → IsMeant temps size before now (un op a) t f cuts homes
   un_meant a op ih (un o b) f cuts homes h r k =
       let p : (same_op1 o op ≡ true) × (matched temps a b false ≡ Some f) = picked _ _ _ h in
       let m : IsMeant temps size before now a b f cuts homes = ih b false f cuts homes p.1 r k in
@@ -343,13 +343,13 @@ module _ (temps size : ℕ) (before now : State) (same : (c : ℕ) → temps ≤
 
   bin_meant : (a b : ExprModel) (op : Op2) → Sound a → Sound b → BitsApart a b → BitsApart b a → (t : ExprModel) (f : MatchModel) (cuts : List CutCellsModel) (homes : List (Option ℕ))
       → bin_match (matched temps a) (matched temps b) op t ≡ Some f → ReadsFrom temps before t
-      → Holds temps size before now f.sites cuts homes → IsMeant temps size before now (bin op a b) t f cuts homes
+      → Holds temps size before now f.leaves cuts homes → IsMeant temps size before now (bin op a b) t f cuts homes
   bin_meant a b op iha ihb ab ba (bin o c d) f cuts homes h r k =
       let p : (same_op2 o op ≡ true) × (both (matched temps a c false) (matched temps b d false) ≡ Some f) = picked _ _ _ h in
       let e : o ≡ op = same_two o op p.0 in
       let j : Joined (matched temps a c false) (matched temps b d false) f = joined _ _ _ p.1 in
-      let s : Split temps size before now j.first.sites j.second.sites cuts homes =
-      split temps size before now j.first.sites j.second.sites cuts homes (subst (λ (z : MatchModel). Holds temps size before now z.sites cuts homes) (sym j.is) k) in
+      let s : Split temps size before now j.first.leaves j.second.leaves cuts homes =
+      split temps size before now j.first.leaves j.second.leaves cuts homes (subst (λ (z : MatchModel). Holds temps size before now z.leaves cuts homes) (sym j.is) k) in
       let m : AreMeant temps size before now a b c d f cuts homes =
       two_meant temps size before now a b c d j.first j.second f cuts s.front s.back homes s.fronts s.backs j.is s.bits_of ab ba
       (iha c false j.first s.front s.fronts j.is_first r.0 s.first) (ihb d false j.second s.back s.backs j.is_second r.1 s.second) in
@@ -361,7 +361,7 @@ module _ (temps size : ℕ) (before now : State) (same : (c : ℕ) → temps ≤
   bin_meant a b op iha ihb ab ba t f cuts homes h r k = absurd (cc)
 
   read_meant : (a : ExprModel) (w : ℕ) → Sound a → (t : ExprModel) (f : MatchModel) (cuts : List CutCellsModel) (homes : List (Option ℕ)) → read_match (matched temps a) w t ≡ Some f → ReadsFrom temps before t
-      → Holds temps size before now f.sites cuts homes → IsMeant temps size before now (read InMemory a w) t f cuts homes
+      → Holds temps size before now f.leaves cuts homes → IsMeant temps size before now (read InMemory a w) t f cuts homes
   read_meant a w ih (read InMemory b v) f cuts homes h r k =
       let p : ((v == w) ≡ true) × (matched temps a b (is_number b) ≡ Some f) = picked _ _ _ h in
       let m : IsMeant temps size before now a b f cuts homes = ih b (is_number b) f cuts homes p.1 r.1 k in
@@ -374,7 +374,7 @@ module _ (temps size : ℕ) (before now : State) (same : (c : ℕ) → temps ≤
 
   -- a read at a number
   at_number : (a : ExprModel) (w : ℕ) (t : ExprModel) (f : MatchModel) (cuts : List CutCellsModel) (homes : List (Option ℕ)) → w ≡ expr_width t → literal_match a t ≡ Some f → ReadsFrom temps before t
-      → Holds temps size before now f.sites cuts homes → IsMeant temps size before now (read InMemory a w) t f cuts homes
+      → Holds temps size before now f.leaves cuts homes → IsMeant temps size before now (read InMemory a w) t f cuts homes
   at_number a w (read InMemory b v) f cuts homes e h r k =
       let m : IsMeant temps size before now a b f cuts homes = shape_meant temps size before now a b f cuts homes h k in
       record {
@@ -387,14 +387,14 @@ module _ (temps size : ℕ) (before now : State) (same : (c : ℕ) → temps ≤
   -- a cut in its cell
   at_cut : (a : ExprModel) (w : ℕ) (t : ExprModel) (b : Bool) (f : MatchModel) (cuts : List CutCellsModel) (homes : List (Option ℕ)) → w ≡ expr_width t
       → open_if (b && shows_below a temps) (cut a t) ≡ Some f
-      → Holds temps size before now f.sites cuts homes → IsMeant temps size before now (read InMemory a w) t f cuts homes
+      → Holds temps size before now f.leaves cuts homes → IsMeant temps size before now (read InMemory a w) t f cuts homes
   at_cut a w t b f [] homes e h k =
-      let p : ((b && shows_below a temps) ≡ true) × (record { setting = 0; sites = cut a t ∷ [] } ≡ f) = opened _ _ _ h in
-      absurd (subst (λ (z : MatchModel). Holds temps size before now z.sites [] homes) (sym p.1) k)
+      let p : ((b && shows_below a temps) ≡ true) × (record { setting = 0; leaves = cut a t ∷ [] } ≡ f) = opened _ _ _ h in
+      absurd (subst (λ (z : MatchModel). Holds temps size before now z.leaves [] homes) (sym p.1) k)
   at_cut a w t b f (cells ∷ cuts) homes e h k =
-      let p : ((b && shows_below a temps) ≡ true) × (record { setting = 0; sites = cut a t ∷ [] } ≡ f) = opened _ _ _ h in
+      let p : ((b && shows_below a temps) ≡ true) × (record { setting = 0; leaves = cut a t ∷ [] } ≡ f) = opened _ _ _ h in
       let q : (b ≡ true) × (shows_below a temps ≡ true) = and_parts _ _ p.0 in
-      let held : Holds temps size before now (cut a t ∷ []) (cells ∷ cuts) homes = subst (λ (z : MatchModel). Holds temps size before now z.sites (cells ∷ cuts) homes) (sym p.1) k in
+      let held : Holds temps size before now (cut a t ∷ []) (cells ∷ cuts) homes = subst (λ (z : MatchModel). Holds temps size before now z.leaves (cells ∷ cuts) homes) (sym p.1) k in
       let own : shape_setting a cells.cell ≡ Some (bits_or_none (shape_setting a cells.cell)) =
       some_bits (shape_setting a cells.cell) (shown_below a temps cells.cell q.1 held.1) in
       let shown : IsSetting a cells.cell (bits_or_none (shape_setting a cells.cell)) = shape_sets a cells.cell _ own in
@@ -411,7 +411,7 @@ module _ (temps size : ℕ) (before now : State) (same : (c : ℕ) → temps ≤
       }
 
   cell_meant : (a : ExprModel) (w : ℕ) (t : ExprModel) (whole : Bool) (f : MatchModel) (cuts : List CutCellsModel) (homes : List (Option ℕ)) → cell_match temps a w t whole ≡ Some f → ReadsFrom temps before t
-      → Holds temps size before now f.sites cuts homes → IsMeant temps size before now (read InMemory a w) t f cuts homes
+      → Holds temps size before now f.leaves cuts homes → IsMeant temps size before now (read InMemory a w) t f cuts homes
   cell_meant a w t whole f cuts homes h r k =
       let p : ((w == expr_width t) ≡ true)
       × ((if is_cell t then literal_match a t else open_if (not whole && shows_below a temps) (cut a t)) ≡ Some f) = picked _ _ _ h in
@@ -423,7 +423,7 @@ module _ (temps size : ℕ) (before now : State) (same : (c : ℕ) → temps ≤
 
   slice_meant : (a : ExprModel) (hi lo : ℕ) → ((k : ℕ) → uses (slice a hi lo) k ≡ uses a k) → Sound a → (t : ExprModel) (f : MatchModel) (cuts : List CutCellsModel) (homes : List (Option ℕ))
       → slice_match (matched temps a) (expr_width a) hi lo t ≡ Some f → ReadsFrom temps before t
-      → Holds temps size before now f.sites cuts homes → IsMeant temps size before now (slice a hi lo) t f cuts homes
+      → Holds temps size before now f.leaves cuts homes → IsMeant temps size before now (slice a hi lo) t f cuts homes
   slice_meant a hi lo eq ih (slice b h' l') f cuts homes h r k =
       let p : (((expr_width b == expr_width a) && ((h' == hi) && (l' == lo))) ≡ true) × (matched temps a b false ≡ Some f) = picked _ _ _ h in
       let q : ((expr_width b == expr_width a) ≡ true) × (((h' == hi) && (l' == lo)) ≡ true) = and_parts _ _ p.0 in
@@ -439,7 +439,7 @@ module _ (temps size : ℕ) (before now : State) (same : (c : ℕ) → temps ≤
   slice_meant a hi lo eq ih t f cuts homes h r k = absurd (cc)
 
   zext_meant : (a : ExprModel) (w : ℕ) → Sound a → (t : ExprModel) (f : MatchModel) (cuts : List CutCellsModel) (homes : List (Option ℕ)) → zext_match (matched temps a) (expr_width a) w t ≡ Some f → ReadsFrom temps before t
-      → Holds temps size before now f.sites cuts homes → IsMeant temps size before now (zext a w) t f cuts homes
+      → Holds temps size before now f.leaves cuts homes → IsMeant temps size before now (zext a w) t f cuts homes
   zext_meant a w ih (zext b v) f cuts homes h r k =
       let p : (((expr_width b == expr_width a) && (v == w)) ≡ true) × (matched temps a b false ≡ Some f) = picked _ _ _ h in
       let q : ((expr_width b == expr_width a) ≡ true) × ((v == w) ≡ true) = and_parts _ _ p.0 in
@@ -448,7 +448,7 @@ module _ (temps size : ℕ) (before now : State) (same : (c : ℕ) → temps ≤
   zext_meant a w ih t f cuts homes h r k = absurd (cc)
 
   sext_meant : (a : ExprModel) (w : ℕ) → Sound a → (t : ExprModel) (f : MatchModel) (cuts : List CutCellsModel) (homes : List (Option ℕ)) → sext_match (matched temps a) (expr_width a) w t ≡ Some f → ReadsFrom temps before t
-      → Holds temps size before now f.sites cuts homes → IsMeant temps size before now (sext a w) t f cuts homes
+      → Holds temps size before now f.leaves cuts homes → IsMeant temps size before now (sext a w) t f cuts homes
   sext_meant a w ih (sext b v) f cuts homes h r k =
       let p : (((expr_width b == expr_width a) && (v == w)) ≡ true) × (matched temps a b false ≡ Some f) = picked _ _ _ h in
       let q : ((expr_width b == expr_width a) ≡ true) × ((v == w) ≡ true) = and_parts _ _ p.0 in

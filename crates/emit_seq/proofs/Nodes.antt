@@ -1,4 +1,4 @@
--- The sites of a match take disjoint parts of a tree.
+-- The leaves of a match take disjoint parts of a tree.
 use Rattle.std.proofs.Common.{◌≡◌, ℕ, ◌+◌, ◌≤◌, ◌==◌, ◌&&◌, ◌⊎◌, inl, inr, not, Bool, true, false, if◌then◌else◌, List, [], ◌∷◌, ◌++◌, Option, Some, None, refl, sym, ap, ◌∙◌, subst, arith}
 use Rattle.std.proofs.lemmas.Bool.{and_parts, eq-eqb, eqb-true}
 use Rattle.rec_bits.specs.declared.operator.Op1.{Op1}
@@ -53,7 +53,7 @@ module _ (temps bits : ℕ) where
   address_sum (sext a w) n h = h
   address_sum (select c a b) n h = h
 
-  -- what the sites may want: the nodes of an operand, and those of a cut with the cut itself
+  -- what the leaves may want: the nodes of an operand, and those of a cut with the cut itself
   abbrev pub operands_sum : List Operand → ℕ
   operands_sum [] = 0
   operands_sum (o ∷ os) = tree_nodes o.tree o.whole + operands_sum os
@@ -63,7 +63,7 @@ module _ (temps bits : ℕ) where
   cuts_sum (t ∷ ts) = wide_below bits t + 1 + cuts_sum ts
 
   abbrev pub leaves_sum : List LeafModel → ℕ
-  leaves_sum sites = operands_sum (operands_of sites) + cuts_sum (cuts_of sites)
+  leaves_sum leaves = operands_sum (operands_of leaves) + cuts_sum (cuts_of leaves)
 
   sum-append : (xs ys : List LeafModel) → leaves_sum (xs ++ ys) ≡ leaves_sum xs + leaves_sum ys
   sum-append [] ys = sym (omega arith)
@@ -72,14 +72,14 @@ module _ (temps bits : ℕ) where
 
   -- a match takes the tree itself, as an operand or as a cut, or parts below its root
   pub data MatchKind : ExprModel → Bool → MatchModel → Type 0 where
-    itself : {t : ExprModel} {whole : Bool} {f : MatchModel} → (home : HomeModel) → f.sites ≡ operand home t whole ∷ [] → MatchKind t whole f
-    stored_whole : {t : ExprModel} {whole : Bool} {f : MatchModel} → (shape : ExprModel) → f.sites ≡ cut shape t ∷ [] → wide_below bits t + 1 ≤ tree_nodes t whole → MatchKind t whole f
-    parts : {t : ExprModel} {whole : Bool} {f : MatchModel} → leaves_sum f.sites ≤ wide_below bits t → MatchKind t whole f
+    itself : {t : ExprModel} {whole : Bool} {f : MatchModel} → (home : HomeModel) → f.leaves ≡ operand home t whole ∷ [] → MatchKind t whole f
+    stored_whole : {t : ExprModel} {whole : Bool} {f : MatchModel} → (shape : ExprModel) → f.leaves ≡ cut shape t ∷ [] → wide_below bits t + 1 ≤ tree_nodes t whole → MatchKind t whole f
+    parts : {t : ExprModel} {whole : Bool} {f : MatchModel} → leaves_sum f.leaves ≤ wide_below bits t → MatchKind t whole f
 
-  pub kind_sum : (t : ExprModel) (whole : Bool) (f : MatchModel) → MatchKind t whole f → leaves_sum f.sites ≤ tree_nodes t whole
-  kind_sum t whole f (itself home e) = let q : leaves_sum f.sites ≡ leaves_sum (operand home t whole ∷ []) = ap leaves_sum e in omega (arith, q)
+  pub kind_sum : (t : ExprModel) (whole : Bool) (f : MatchModel) → MatchKind t whole f → leaves_sum f.leaves ≤ tree_nodes t whole
+  kind_sum t whole f (itself home e) = let q : leaves_sum f.leaves ≡ leaves_sum (operand home t whole ∷ []) = ap leaves_sum e in omega (arith, q)
   kind_sum t whole f (stored_whole shape e c) =
-      let q : leaves_sum f.sites ≡ leaves_sum (cut shape t ∷ []) = ap leaves_sum e in omega (arith, q, c)
+      let q : leaves_sum f.leaves ≡ leaves_sum (cut shape t ∷ []) = ap leaves_sum e in omega (arith, q, c)
   kind_sum t whole f (parts h) = let b = below_tree t whole in omega (arith, h, b)
 
   -- what each match of this expression takes
@@ -89,18 +89,18 @@ module _ (temps bits : ℕ) where
   shape_kind : (e t : ExprModel) (whole : Bool) (f : MatchModel) → shape_match e t ≡ Some f → MatchKind t whole f
   shape_kind e t whole f h =
       let l : Literal e t f = literal e t f h in
-      let q : leaves_sum f.sites ≡ 0 = ap (λ (z : MatchModel). leaves_sum z.sites) (sym l.is) in
+      let q : leaves_sum f.leaves ≡ 0 = ap (λ (z : MatchModel). leaves_sum z.leaves) (sym l.is) in
       parts (omega (arith, q))
 
   reg_kind : (id w : ℕ) → MatchKinds (reg id w)
   reg_kind id w t whole f h =
-      let p : ((w == expr_width t) ≡ true) × (record { setting = 0; sites = operand (in_register id) t whole ∷ [] } ≡ f) = opened _ _ _ h in
-      itself (in_register id) (ap (λ (z : MatchModel). z.sites) (sym p.1))
+      let p : ((w == expr_width t) ≡ true) × (record { setting = 0; leaves = operand (in_register id) t whole ∷ [] } ≡ f) = opened _ _ _ h in
+      itself (in_register id) (ap (λ (z : MatchModel). z.leaves) (sym p.1))
 
   file_kind : (a : ExprModel) (w : ℕ) → MatchKinds (read InFile a w)
   file_kind a w t whole f h =
-      let p : ((w == expr_width t) ≡ true) × (record { setting = 0; sites = operand (in_file a) t whole ∷ [] } ≡ f) = opened _ _ _ h in
-      itself (in_file a) (ap (λ (z : MatchModel). z.sites) (sym p.1))
+      let p : ((w == expr_width t) ≡ true) × (record { setting = 0; leaves = operand (in_file a) t whole ∷ [] } ≡ f) = opened _ _ _ h in
+      itself (in_file a) (ap (λ (z : MatchModel). z.leaves) (sym p.1))
 
   un_kind : (a : ExprModel) (op : Op1) → MatchKinds a → (t : ExprModel) (whole : Bool) (f : MatchModel) → un_match (matched temps a) op t ≡ Some f → MatchKind t whole f
   un_kind a op ih (un o b) whole f h =
@@ -112,20 +112,20 @@ module _ (temps bits : ℕ) where
   bin_kind a b op iha ihb (bin o c d) whole f h =
       let p : (same_op2 o op ≡ true) × (both (matched temps a c false) (matched temps b d false) ≡ Some f) = picked _ _ _ h in
       let j : Joined (matched temps a c false) (matched temps b d false) f = joined _ _ _ p.1 in
-      let q : leaves_sum f.sites ≡ leaves_sum (j.first.sites ++ j.second.sites) = ap (λ (z : MatchModel). leaves_sum z.sites) (sym j.is) in
-      parts (omega (arith, q, sum-append j.first.sites j.second.sites, kind_sum c false j.first (iha c false j.first j.is_first), kind_sum d false j.second (ihb d false j.second j.is_second)))
+      let q : leaves_sum f.leaves ≡ leaves_sum (j.first.leaves ++ j.second.leaves) = ap (λ (z : MatchModel). leaves_sum z.leaves) (sym j.is) in
+      parts (omega (arith, q, sum-append j.first.leaves j.second.leaves, kind_sum c false j.first (iha c false j.first j.is_first), kind_sum d false j.second (ihb d false j.second j.is_second)))
   bin_kind a b op iha ihb t whole f h = absurd (cc)
 
   read_kind : (a : ExprModel) (w : ℕ) → MatchKinds a → (t : ExprModel) (whole : Bool) (f : MatchModel) → read_match (matched temps a) w t ≡ Some f → MatchKind t whole f
   read_kind a w ih (read InMemory b v) whole f h =
       let p : ((v == w) ≡ true) × (matched temps a b (is_number b) ≡ Some f) = picked _ _ _ h in
-      parts (address_sum b (leaves_sum f.sites) (kind_sum b (is_number b) f (ih b (is_number b) f p.1)))
+      parts (address_sum b (leaves_sum f.leaves) (kind_sum b (is_number b) f (ih b (is_number b) f p.1)))
   read_kind a w ih t whole f h = absurd (cc)
 
   number_kind : (a t : ExprModel) (whole : Bool) (f : MatchModel) → literal_match a t ≡ Some f → MatchKind t whole f
   number_kind a (read InMemory b v) whole f h =
       let l : Literal a b f = literal a b f h in
-      let q : leaves_sum f.sites ≡ 0 = ap (λ (z : MatchModel). leaves_sum z.sites) (sym l.is) in
+      let q : leaves_sum f.leaves ≡ 0 = ap (λ (z : MatchModel). leaves_sum z.leaves) (sym l.is) in
       parts (omega (arith, q))
   number_kind a t whole f h = absurd (cc)
 
@@ -138,9 +138,9 @@ module _ (temps bits : ℕ) where
       fork : (expr_width t == bits) ≡ true → (b : Bool) → is_cell t ≡ b → (if b then literal_match a t else open_if (not whole && shows_below a temps) (cut a t)) ≡ Some f → MatchKind t whole f
       fork of_words true e k = number_kind a t whole f k
       fork of_words false e k =
-          let p : ((not whole && shows_below a temps) ≡ true) × (record { setting = 0; sites = cut a t ∷ [] } ≡ f) = opened _ _ _ k in
+          let p : ((not whole && shows_below a temps) ≡ true) × (record { setting = 0; leaves = cut a t ∷ [] } ≡ f) = opened _ _ _ k in
           let q : (not whole ≡ true) × (shows_below a temps ≡ true) = and_parts _ _ p.0 in
-          stored_whole a (ap (λ (z : MatchModel). z.sites) (sym p.1)) (cut_tree t whole q.0 of_words e)
+          stored_whole a (ap (λ (z : MatchModel). z.leaves) (sym p.1)) (cut_tree t whole q.0 of_words e)
 
   slice_kind : (a : ExprModel) (hi lo : ℕ) → MatchKinds a → (t : ExprModel) (whole : Bool) (f : MatchModel) → slice_match (matched temps a) (expr_width a) hi lo t ≡ Some f → MatchKind t whole f
   slice_kind a hi lo ih (slice b h' l') whole f h =
@@ -215,63 +215,63 @@ module _ (temps bits : ℕ) where
   IsPlain destination = Unit {0}
 
   -- the address takes nothing there
-  address_none : (o : Option ExprModel) (destination : DestinationModel) (x : MatchModel) → IsPlain destination → address_match temps o destination ≡ Some x → x.sites ≡ []
+  address_none : (o : Option ExprModel) (destination : DestinationModel) (x : MatchModel) → IsPlain destination → address_match temps o destination ≡ Some x → x.leaves ≡ []
   address_none None destination x p h = absurd (cc)
   address_none (Some addr) (cell a) x p h =
       let c : (is_shape addr ≡ true) × (settled (shape_setting addr a) ≡ Some x) = picked (is_shape addr) (settled (shape_setting addr a)) x h in
-      let (b, e, q) = settled_some (shape_setting addr a) x c.1 in ap (λ (z : MatchModel). z.sites) (sym q)
+      let (b, e, q) = settled_some (shape_setting addr a) x c.1 in ap (λ (z : MatchModel). z.leaves) (sym q)
   address_none (Some addr) temporary x p h =
       let c : ((is_shape addr && shows_below addr temps) ≡ true) × (settled (Some 0) ≡ Some x) = picked (is_shape addr && shows_below addr temps) (settled (Some 0)) x h in
-      let q : record { setting = 0; sites = [] } ≡ x = cc in ap (λ (z : MatchModel). z.sites) (sym q)
+      let q : record { setting = 0; leaves = [] } ≡ x = cc in ap (λ (z : MatchModel). z.leaves) (sym q)
   address_none (Some addr) (stored a) x p h = absurd p
   address_none (Some addr) (into id) x p h = absurd (cc)
   address_none (Some addr) filed x p h = absurd (cc)
   address_none (Some addr) tested x p h = absurd (cc)
 
-  kind_moved : (t : ExprModel) (whole : Bool) (f g : MatchModel) → g.sites ≡ f.sites → MatchKind t whole f → MatchKind t whole g
+  kind_moved : (t : ExprModel) (whole : Bool) (f g : MatchModel) → g.leaves ≡ f.leaves → MatchKind t whole f → MatchKind t whole g
   kind_moved t whole f g e (itself id q) = itself id (e ∙ q)
   kind_moved t whole f g e (stored_whole shape q c) = stored_whole shape (e ∙ q) c
   kind_moved t whole f g e (parts h) = parts (subst (λ z. leaves_sum z ≤ wide_below bits t) (sym e) h)
 
-  memory_kind : (rule : FormModel) (destination : DestinationModel) (tree : ExprModel) (whole : Bool) (found : MatchModel) → ReadsWords bits rule.value → IsPlain destination
-      → both (address_match temps rule.addr destination) (matched temps rule.value tree whole) ≡ Some found → MatchKind tree whole found
-  memory_kind rule destination tree whole found o p h =
-      let j : Joined (address_match temps rule.addr destination) (matched temps rule.value tree whole) found = joined _ _ _ h in
-      let e : found.sites ≡ j.second.sites = ap (λ (z : MatchModel). z.sites) (sym j.is) ∙ ap (λ z. z ++ j.second.sites) (address_none rule.addr destination j.first p j.is_first) in
-      kind_moved tree whole j.second found e (matched_kind rule.value o tree whole j.second j.is_second)
+  memory_kind : (form : FormModel) (destination : DestinationModel) (tree : ExprModel) (whole : Bool) (found : MatchModel) → ReadsWords bits form.value → IsPlain destination
+      → both (address_match temps form.addr destination) (matched temps form.value tree whole) ≡ Some found → MatchKind tree whole found
+  memory_kind form destination tree whole found o p h =
+      let j : Joined (address_match temps form.addr destination) (matched temps form.value tree whole) found = joined _ _ _ h in
+      let e : found.leaves ≡ j.second.leaves = ap (λ (z : MatchModel). z.leaves) (sym j.is) ∙ ap (λ z. z ++ j.second.leaves) (address_none form.addr destination j.first p j.is_first) in
+      kind_moved tree whole j.second found e (matched_kind form.value o tree whole j.second j.is_second)
 
-  pub goal_kind : (rule : FormModel) (goal : GoalModel) (destination : DestinationModel) (tree : ExprModel) (whole : Bool) (found : MatchModel) → ReadsWords bits rule.value → IsPlain destination → goal_match temps rule goal destination tree whole ≡ Some found
+  pub goal_kind : (form : FormModel) (goal : GoalModel) (destination : DestinationModel) (tree : ExprModel) (whole : Bool) (found : MatchModel) → ReadsWords bits form.value → IsPlain destination → goal_match temps form goal destination tree whole ≡ Some found
       → MatchKind tree (whole_at destination whole) found
-  goal_kind rule (into_reg q) (into id) tree whole found o p h =
-      let c : ((q == id) ≡ true) × (matched temps rule.value tree whole ≡ Some found) = picked (q == id) (matched temps rule.value tree whole) found h in
-      matched_kind rule.value o tree whole found c.1
-  goal_kind rule into_file filed tree whole found o p h = matched_kind rule.value o tree whole found h
-  goal_kind rule into_memory (cell a) tree whole found o p h = memory_kind rule (cell a) tree true found o p h
-  goal_kind rule into_memory temporary tree whole found o p h = memory_kind rule temporary tree false found o p h
-  goal_kind rule into_memory (stored a) tree whole found o p h = absurd p
-  goal_kind rule (branches when_one to) tested tree whole found o p h = matched_kind rule.value o tree true found h
-  goal_kind rule goal destination tree whole found o p h = absurd (cc)
+  goal_kind form (into_reg q) (into id) tree whole found o p h =
+      let c : ((q == id) ≡ true) × (matched temps form.value tree whole ≡ Some found) = picked (q == id) (matched temps form.value tree whole) found h in
+      matched_kind form.value o tree whole found c.1
+  goal_kind form into_file filed tree whole found o p h = matched_kind form.value o tree whole found h
+  goal_kind form into_memory (cell a) tree whole found o p h = memory_kind form (cell a) tree true found o p h
+  goal_kind form into_memory temporary tree whole found o p h = memory_kind form temporary tree false found o p h
+  goal_kind form into_memory (stored a) tree whole found o p h = absurd p
+  goal_kind form (branches when_one to) tested tree whole found o p h = matched_kind form.value o tree true found h
+  goal_kind form goal destination tree whole found o p h = absurd (cc)
 
-  store_sum : (rule : FormModel) (address tree : ExprModel) (at : Option ExprModel) (found : MatchModel) → AddressReadsWords bits at → ReadsWords bits rule.value
-      → both (address_match temps at (stored address)) (matched temps rule.value tree false) ≡ Some found → leaves_sum found.sites ≤ tree_nodes address false + tree_nodes tree false
-  store_sum rule address tree None found u v h = absurd (cc)
-  store_sum rule address tree (Some addr) found u v h =
-      let j : Joined (matched temps addr address false) (matched temps rule.value tree false) found = joined _ _ _ h in
-      let q : leaves_sum found.sites ≡ leaves_sum (j.first.sites ++ j.second.sites) = ap (λ (z : MatchModel). leaves_sum z.sites) (sym j.is) in
+  store_sum : (form : FormModel) (address tree : ExprModel) (at : Option ExprModel) (found : MatchModel) → AddressReadsWords bits at → ReadsWords bits form.value
+      → both (address_match temps at (stored address)) (matched temps form.value tree false) ≡ Some found → leaves_sum found.leaves ≤ tree_nodes address false + tree_nodes tree false
+  store_sum form address tree None found u v h = absurd (cc)
+  store_sum form address tree (Some addr) found u v h =
+      let j : Joined (matched temps addr address false) (matched temps form.value tree false) found = joined _ _ _ h in
+      let q : leaves_sum found.leaves ≡ leaves_sum (j.first.leaves ++ j.second.leaves) = ap (λ (z : MatchModel). leaves_sum z.leaves) (sym j.is) in
       omega (
         arith,
         q,
-        sum-append j.first.sites j.second.sites,
+        sum-append j.first.leaves j.second.leaves,
         kind_sum address false j.first (matched_kind addr u address false j.first j.is_first),
-        kind_sum tree false j.second (matched_kind rule.value v tree false j.second j.is_second),
+        kind_sum tree false j.second (matched_kind form.value v tree false j.second j.is_second),
       )
 
-  pub goal_sum : (rule : FormModel) (goal : GoalModel) (destination : DestinationModel) (tree : ExprModel) (whole : Bool) (found : MatchModel) → AddressReadsWords bits rule.addr → ReadsWords bits rule.value
-      → goal_match temps rule goal destination tree whole ≡ Some found → leaves_sum found.sites ≤ goal_nodes destination tree whole
-  goal_sum rule (into_reg q) (into id) tree whole found u v h = kind_sum tree whole found (goal_kind rule (into_reg q) (into id) tree whole found v tt h)
-  goal_sum rule into_file filed tree whole found u v h = kind_sum tree whole found (goal_kind rule into_file filed tree whole found v tt h)
-  goal_sum rule into_memory (cell a) tree whole found u v h = kind_sum tree true found (memory_kind rule (cell a) tree true found v tt h)
-  goal_sum rule into_memory temporary tree whole found u v h = kind_sum tree false found (memory_kind rule temporary tree false found v tt h)
-  goal_sum rule into_memory (stored a) tree whole found u v h = store_sum rule a tree rule.addr found u v h
-  goal_sum rule (branches when_one to) tested tree whole found u v h = kind_sum tree true found (matched_kind rule.value v tree true found h)
-  goal_sum rule goal destination tree whole found u v h = absurd (cc)
+  pub goal_sum : (form : FormModel) (goal : GoalModel) (destination : DestinationModel) (tree : ExprModel) (whole : Bool) (found : MatchModel) → AddressReadsWords bits form.addr → ReadsWords bits form.value
+      → goal_match temps form goal destination tree whole ≡ Some found → leaves_sum found.leaves ≤ goal_nodes destination tree whole
+  goal_sum form (into_reg q) (into id) tree whole found u v h = kind_sum tree whole found (goal_kind form (into_reg q) (into id) tree whole found v tt h)
+  goal_sum form into_file filed tree whole found u v h = kind_sum tree whole found (goal_kind form into_file filed tree whole found v tt h)
+  goal_sum form into_memory (cell a) tree whole found u v h = kind_sum tree true found (memory_kind form (cell a) tree true found v tt h)
+  goal_sum form into_memory temporary tree whole found u v h = kind_sum tree false found (memory_kind form temporary tree false found v tt h)
+  goal_sum form into_memory (stored a) tree whole found u v h = store_sum form a tree form.addr found u v h
+  goal_sum form (branches when_one to) tested tree whole found u v h = kind_sum tree true found (matched_kind form.value v tree true found h)
+  goal_sum form goal destination tree whole found u v h = absurd (cc)

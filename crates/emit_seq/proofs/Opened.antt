@@ -17,16 +17,16 @@ use Rattle.emit_seq.specs.Formed.{IsFormed}
 use Rattle.emit_seq.specs.Leaves.{ReadsFrom, DestinationReads}
 use Rattle.form_model.proofs.SettingLaws.{picked}
 use Rattle.emit_seq.proofs.Matched.{Joined, joined, settled_some}
-use Rattle.emit_seq.proofs.Sites.{LeavesRead, read-append, matched_taken}
+use Rattle.emit_seq.proofs.MatchLeaves.{LeavesRead, read-append, matched_taken}
 use Rattle.form_model.proofs.Zips.{get_mapped, length_in, length_out, map-remove, total, total-insert}
 use Rattle.emit_seq.specs.Inner.CellLists.{operands_in}
 use Rattle.emit_seq.proofs.Walks.{past_leaves, past_total}
 
 pub record IsOpened (stock : StockModel) (k : ℕ) (ps : CoverOperandsModel) (cs : CoverCutsModel) (destination : DestinationModel) (tree : ExprModel) (whole : Bool) : Type 0 where
-  pub listed : slice_get stock.rules k ≡ Some (form_at stock k)
+  pub listed : slice_get stock.forms k ≡ Some (form_at stock k)
   pub takes : taken stock.temps (form_at stock k) destination tree whole ≡ Some (match_at stock k destination tree whole)
-  pub operands : AreOrderly stock (operands_of (match_at stock k destination tree whole).sites) ps
-  pub cuts : AreCut stock (cuts_of (match_at stock k destination tree whole).sites) cs
+  pub operands : AreOrderly stock (operands_of (match_at stock k destination tree whole).leaves) ps
+  pub cuts : AreCut stock (cuts_of (match_at stock k destination tree whole).leaves) cs
 
 pub opened_cover : (stock : StockModel) (k : ℕ) (ps : CoverOperandsModel) (cs : CoverCutsModel) (destination : DestinationModel) (tree : ExprModel) (whole : Bool) → IsOrderly stock destination tree whole (use_form k ps cs)
     → IsOpened stock k ps cs destination tree whole
@@ -37,14 +37,14 @@ opened_cover stock k ps cs destination tree whole c =
     record {
       listed = c.1 ∙ ap (λ (r : FormModel). Some r) (sym er);
       takes = et ∙ ap (λ (f : MatchModel). Some f) (sym em);
-      operands = subst (λ (f : MatchModel). AreOrderly stock (operands_of f.sites) ps) (sym em) c.4;
-      cuts = subst (λ (f : MatchModel). AreCut stock (cuts_of f.sites) cs) (sym em) c.5;
+      operands = subst (λ (f : MatchModel). AreOrderly stock (operands_of f.leaves) ps) (sym em) c.4;
+      cuts = subst (λ (f : MatchModel). AreCut stock (cuts_of f.leaves) cs) (sym em) c.5;
     }
 
 pub record IsOpenedOperand (stock : StockModel) (left : List OperandCellsModel) (i : ℕ) (cells : OperandCellsModel) (p : CoverModel) (ps : CoverOperandsModel) : Type 0 where
   pub at : slice_get left i ≡ Some cells
   pub orderly : IsOrderly stock (home_destination cells.operand.home) cells.operand.tree cells.operand.whole p
-  pub apart : (r : ℕ) → cells.operand.home ≡ in_register r → bit_at (all_written stock.rules ps) r ≡ 0
+  pub apart : (r : ℕ) → cells.operand.home ≡ in_register r → bit_at (all_written stock.forms ps) r ≡ 0
   pub rest : AreOrderly stock (operands_in (remove left i)) ps
 
 apart_bit : (n k : ℕ) → bit_and n (2 ^ k) ≡ 0 → bit_at n k ≡ 0
@@ -61,7 +61,7 @@ opened_operand stock left i p ps c =
     record {
       at = e ∙ ap (λ (s : OperandCellsModel). Some s) (sym es);
       orderly = subst (λ (o : Operand). IsOrderly stock (home_destination o.home) o.tree o.whole p) (sym eq) c.2;
-      apart = λ r h. apart_bit (all_written stock.rules ps) r (ap (λ z. bit_and (all_written stock.rules ps) (home_set z)) (sym (ap (λ (o : Operand). o.home) (sym eq) ∙ h)) ∙ c.3);
+      apart = λ r h. apart_bit (all_written stock.forms ps) r (ap (λ z. bit_and (all_written stock.forms ps) (home_set z)) (sym (ap (λ (o : Operand). o.home) (sym eq) ∙ h)) ∙ c.3);
       rest = subst (λ z. AreOrderly stock z ps) (sym (map-remove (λ (s : OperandCellsModel). s.operand) left i)) c.4;
     }
 
@@ -95,62 +95,62 @@ cuts_total : (cs : CoverCutsModel) → total (cut_counts cs) + length (cut_count
 cuts_total no_cuts = refl
 cuts_total (cut_then p cs) = let h = cuts_total cs in omega (arith, h)
 
--- the cell past those of all sites is the one past the cover's
-pub past_cover : (stock : StockModel) (sites : List LeafModel) (ps : CoverOperandsModel) (cs : CoverCutsModel) (n : ℕ) → AreOrderly stock (operands_of sites) ps → AreCut stock (cuts_of sites) cs
-    → past_leaves sites (operand_counts ps) (cut_counts cs) n ≡ n + (operands_count ps + cuts_count cs)
-past_cover stock sites ps cs n o c =
-    omega (arith, past_total sites (operand_counts ps) (cut_counts cs) n (operands_long stock ps (operands_of sites) o) (cuts_long stock cs (cuts_of sites) c), operands_total ps, cuts_total cs)
+-- the cell past those of all leaves is the one past the cover's
+pub past_cover : (stock : StockModel) (leaves : List LeafModel) (ps : CoverOperandsModel) (cs : CoverCutsModel) (n : ℕ) → AreOrderly stock (operands_of leaves) ps → AreCut stock (cuts_of leaves) cs
+    → past_leaves leaves (operand_counts ps) (cut_counts cs) n ≡ n + (operands_count ps + cuts_count cs)
+past_cover stock leaves ps cs n o c =
+    omega (arith, past_total leaves (operand_counts ps) (cut_counts cs) n (operands_long stock ps (operands_of leaves) o) (cuts_long stock cs (cuts_of leaves) c), operands_total ps, cuts_total cs)
 
 -- ---- a form that goes into a register is one of that register
 
-pub into_formed : (temps : ℕ) (file_storage : Option ℕ) (patterns : List Pattern) (count size : ℕ) (rule : FormModel) (goal : GoalModel) (id : ℕ) (tree : ExprModel) (whole : Bool) (found : MatchModel)
-    → IsFormed file_storage patterns count size rule goal → goal_match temps rule goal (into id) tree whole ≡ Some found → (id < count) × (bit_at rule.clobbers id ≡ 1)
-into_formed temps file_storage patterns count size rule (into_reg q) id tree whole found f h =
-    let c : ((q == id) ≡ true) × (matched temps rule.value tree whole ≡ Some found) = picked (q == id) (matched temps rule.value tree whole) found h in
+pub into_formed : (temps : ℕ) (file_storage : Option ℕ) (patterns : List Pattern) (count size : ℕ) (form : FormModel) (goal : GoalModel) (id : ℕ) (tree : ExprModel) (whole : Bool) (found : MatchModel)
+    → IsFormed file_storage patterns count size form goal → goal_match temps form goal (into id) tree whole ≡ Some found → (id < count) × (bit_at form.clobbers id ≡ 1)
+into_formed temps file_storage patterns count size form (into_reg q) id tree whole found f h =
+    let c : ((q == id) ≡ true) × (matched temps form.value tree whole ≡ Some found) = picked (q == id) (matched temps form.value tree whole) found h in
     let e : q ≡ id = eqb-true q id c.0 in
-    (subst (λ z. z < count) e f.below, subst (λ z. bit_at rule.clobbers z ≡ 1) e f.clobbered)
-into_formed temps file_storage patterns count size rule goal id tree whole found f h = absurd (cc)
+    (subst (λ z. z < count) e f.below, subst (λ z. bit_at form.clobbers z ≡ 1) e f.clobbered)
+into_formed temps file_storage patterns count size form goal id tree whole found f h = absurd (cc)
 
-pub writes_own : (rules : List FormModel) (k : ℕ) (rule : FormModel) (ps : CoverOperandsModel) (cs : CoverCutsModel) (id : ℕ) → slice_get rules k ≡ Some rule → bit_at rule.clobbers id ≡ 1
-    → bit_at (written rules (use_form k ps cs)) id ≡ 1
-writes_own rules k rule ps cs id e h =
-    let c : bit_at (form_clobbers (slice_get rules k)) id ≡ 1 = ap (λ z. bit_at (form_clobbers z) id) e ∙ h in
-    omega (arith, bit_at_or (form_clobbers (slice_get rules k)) (all_written rules ps) id, c, bit_at-lt (all_written rules ps) id)
+pub writes_own : (forms : List FormModel) (k : ℕ) (form : FormModel) (ps : CoverOperandsModel) (cs : CoverCutsModel) (id : ℕ) → slice_get forms k ≡ Some form → bit_at form.clobbers id ≡ 1
+    → bit_at (written forms (use_form k ps cs)) id ≡ 1
+writes_own forms k form ps cs id e h =
+    let c : bit_at (form_clobbers (slice_get forms k)) id ≡ 1 = ap (λ z. bit_at (form_clobbers z) id) e ∙ h in
+    omega (arith, bit_at_or (form_clobbers (slice_get forms k)) (all_written forms ps) id, c, bit_at-lt (all_written forms ps) id)
 
--- the trees of all sites of a form read nothing below, those of a store's address among them
-address_sites : (temps : ℕ) (before : State) (o : Option ExprModel) (destination : DestinationModel) (x : MatchModel) → address_match temps o destination ≡ Some x → DestinationReads temps before destination
-    → LeavesRead temps before x.sites
-address_sites temps before None destination x h p = absurd (cc)
-address_sites temps before (Some addr) (cell a) x h p =
+-- the trees of all leaves of a form read nothing below, those of a store's address among them
+address_leaves : (temps : ℕ) (before : State) (o : Option ExprModel) (destination : DestinationModel) (x : MatchModel) → address_match temps o destination ≡ Some x → DestinationReads temps before destination
+    → LeavesRead temps before x.leaves
+address_leaves temps before None destination x h p = absurd (cc)
+address_leaves temps before (Some addr) (cell a) x h p =
     let c : (is_shape addr ≡ true) × (settled (shape_setting addr a) ≡ Some x) = picked (is_shape addr) (settled (shape_setting addr a)) x h in
     let (b, e, q) = settled_some (shape_setting addr a) x c.1 in
-    subst (λ (z : MatchModel). LeavesRead temps before z.sites) q tt
-address_sites temps before (Some addr) (stored address) x h p = (matched_taken temps before addr address false x h).sites p
-address_sites temps before (Some addr) temporary x h p =
+    subst (λ (z : MatchModel). LeavesRead temps before z.leaves) q tt
+address_leaves temps before (Some addr) (stored address) x h p = (matched_taken temps before addr address false x h).leaves p
+address_leaves temps before (Some addr) temporary x h p =
     let c : ((is_shape addr && shows_below addr temps) ≡ true) × (settled (Some 0) ≡ Some x) = picked (is_shape addr && shows_below addr temps) (settled (Some 0)) x h in
-    let q : record { setting = 0; sites = [] } ≡ x = cc in
-    subst (λ (z : MatchModel). LeavesRead temps before z.sites) q tt
-address_sites temps before (Some addr) (into id) x h p = absurd (cc)
-address_sites temps before (Some addr) filed x h p = absurd (cc)
-address_sites temps before (Some addr) tested x h p = absurd (cc)
+    let q : record { setting = 0; leaves = [] } ≡ x = cc in
+    subst (λ (z : MatchModel). LeavesRead temps before z.leaves) q tt
+address_leaves temps before (Some addr) (into id) x h p = absurd (cc)
+address_leaves temps before (Some addr) filed x h p = absurd (cc)
+address_leaves temps before (Some addr) tested x h p = absurd (cc)
 
-memory_sites : (temps : ℕ) (before : State) (rule : FormModel) (destination : DestinationModel) (tree : ExprModel) (whole : Bool) (found : MatchModel)
-    → both (address_match temps rule.addr destination) (matched temps rule.value tree whole) ≡ Some found
-    → ReadsFrom temps before tree → DestinationReads temps before destination → LeavesRead temps before found.sites
-memory_sites temps before rule destination tree whole found h r p =
-    let j : Joined (address_match temps rule.addr destination) (matched temps rule.value tree whole) found = joined _ _ _ h in
-    subst (λ (z : MatchModel). LeavesRead temps before z.sites) j.is
-    (read-append temps before j.first.sites j.second.sites (address_sites temps before rule.addr destination j.first j.is_first p)
-    ((matched_taken temps before rule.value tree whole j.second j.is_second).sites r))
+memory_leaves : (temps : ℕ) (before : State) (form : FormModel) (destination : DestinationModel) (tree : ExprModel) (whole : Bool) (found : MatchModel)
+    → both (address_match temps form.addr destination) (matched temps form.value tree whole) ≡ Some found
+    → ReadsFrom temps before tree → DestinationReads temps before destination → LeavesRead temps before found.leaves
+memory_leaves temps before form destination tree whole found h r p =
+    let j : Joined (address_match temps form.addr destination) (matched temps form.value tree whole) found = joined _ _ _ h in
+    subst (λ (z : MatchModel). LeavesRead temps before z.leaves) j.is
+    (read-append temps before j.first.leaves j.second.leaves (address_leaves temps before form.addr destination j.first j.is_first p)
+    ((matched_taken temps before form.value tree whole j.second j.is_second).leaves r))
 
-pub goal_sites : (temps : ℕ) (before : State) (rule : FormModel) (goal : GoalModel) (destination : DestinationModel) (tree : ExprModel) (whole : Bool) (found : MatchModel)
-    → goal_match temps rule goal destination tree whole ≡ Some found → ReadsFrom temps before tree → DestinationReads temps before destination → LeavesRead temps before found.sites
-goal_sites temps before rule (into_reg q) (into id) tree whole found h r p =
-    let c : ((q == id) ≡ true) × (matched temps rule.value tree whole ≡ Some found) = picked (q == id) (matched temps rule.value tree whole) found h in
-    (matched_taken temps before rule.value tree whole found c.1).sites r
-goal_sites temps before rule into_file filed tree whole found h r p = (matched_taken temps before rule.value tree whole found h).sites r
-goal_sites temps before rule into_memory (cell a) tree whole found h r p = memory_sites temps before rule (cell a) tree true found h r p
-goal_sites temps before rule into_memory (stored a) tree whole found h r p = memory_sites temps before rule (stored a) tree false found h r p
-goal_sites temps before rule into_memory temporary tree whole found h r p = memory_sites temps before rule temporary tree false found h r p
-goal_sites temps before rule (branches when_one to) tested tree whole found h r p = (matched_taken temps before rule.value tree true found h).sites r
-goal_sites temps before rule goal destination tree whole found h r p = absurd (cc)
+pub goal_leaves : (temps : ℕ) (before : State) (form : FormModel) (goal : GoalModel) (destination : DestinationModel) (tree : ExprModel) (whole : Bool) (found : MatchModel)
+    → goal_match temps form goal destination tree whole ≡ Some found → ReadsFrom temps before tree → DestinationReads temps before destination → LeavesRead temps before found.leaves
+goal_leaves temps before form (into_reg q) (into id) tree whole found h r p =
+    let c : ((q == id) ≡ true) × (matched temps form.value tree whole ≡ Some found) = picked (q == id) (matched temps form.value tree whole) found h in
+    (matched_taken temps before form.value tree whole found c.1).leaves r
+goal_leaves temps before form into_file filed tree whole found h r p = (matched_taken temps before form.value tree whole found h).leaves r
+goal_leaves temps before form into_memory (cell a) tree whole found h r p = memory_leaves temps before form (cell a) tree true found h r p
+goal_leaves temps before form into_memory (stored a) tree whole found h r p = memory_leaves temps before form (stored a) tree false found h r p
+goal_leaves temps before form into_memory temporary tree whole found h r p = memory_leaves temps before form temporary tree false found h r p
+goal_leaves temps before form (branches when_one to) tested tree whole found h r p = (matched_taken temps before form.value tree true found h).leaves r
+goal_leaves temps before form goal destination tree whole found h r p = absurd (cc)

@@ -31,7 +31,7 @@ places_of stock (operand_then i p ps) left c =
 mutual
   pub cover_listed : (stock : StockModel) (p : CoverModel) (destination : DestinationModel) (tree : ExprModel) (whole : Bool) → IsOrderly stock destination tree whole p → IsListed stock p
   cover_listed stock (use_form k ps cs) destination tree whole c =
-      (slice_get_within stock.rules k c.0 c.1, operands_listed stock ps _ c.4)
+      (slice_get_within stock.forms k c.0 c.1, operands_listed stock ps _ c.4)
 
   pub operands_listed : (stock : StockModel) (ps : CoverOperandsModel) (left : List Operand) → AreOrderly stock left ps → AreListed stock ps
   operands_listed stock no_operands left c = tt
@@ -49,15 +49,15 @@ within_forms forms k h = let e = length-map forms model_of_form in omega (arith,
 
 module _ (stock : StockModel) (k : ℕ) (ps : CoverOperandsModel) (cs : CoverCutsModel) (destination : DestinationModel) (tree : ExprModel) (whole : Bool)
     (c : IsOrderly stock destination tree whole (use_form k ps cs)) where
-  pub form_within : (forms : List Form) → stock.rules ≡ models_of_forms forms → k < length forms
+  pub form_within : (forms : List Form) → stock.forms ≡ models_of_forms forms → k < length forms
   form_within forms e =
-      let (form, at, is) = get_mapped model_of_form forms k c.0 (sym (ap (λ rules. slice_get rules k) e) ∙ c.1) in
+      let (form, at, is) = get_mapped model_of_form forms k c.0 (sym (ap (λ models. slice_get models k) e) ∙ c.1) in
       slice_get_within forms k form at
 
-  pub form_takes : (rule : FormModel) → slice_get stock.rules k ≡ Some rule → IsSome (taken stock.temps rule destination tree whole)
-  form_takes rule e =
-      let both : Some c.0 ≡ Some rule = sym c.1 ∙ e in
-      let same : c.0 ≡ rule = cc in
+  pub form_takes : (form : FormModel) → slice_get stock.forms k ≡ Some form → IsSome (taken stock.temps form destination tree whole)
+  form_takes form e =
+      let both : Some c.0 ≡ Some form = sym c.1 ∙ e in
+      let same : c.0 ≡ form = cc in
       subst (λ r. IsSome (taken stock.temps r destination tree whole)) same (subst (λ o. IsSome o) (sym c.3) refl)
 
   pub operand_places : ArePlaces ps
@@ -66,14 +66,14 @@ module _ (stock : StockModel) (k : ℕ) (ps : CoverOperandsModel) (cs : CoverCut
   module _ (n held : ℕ) (root : Root) (h : IsFormAtRoot stock k ps cs n held destination tree whole root) where
     pub root_operands : AreOrderly stock (operands_in (models_of_operand_cells root.operands.items)) ps
     root_operands =
-        let sites = (match_at stock k destination tree whole).sites in
-        let e = ap operands_in h.operands ∙ cells_operands sites (operand_counts ps) (cut_counts cs) n in
+        let leaves = (match_at stock k destination tree whole).leaves in
+        let e = ap operands_in h.operands ∙ cells_operands leaves (operand_counts ps) (cut_counts cs) n in
         subst (λ z. AreOrderly stock z ps) (sym e) (opened_cover stock k ps cs destination tree whole c).operands
 
     pub root_cuts : AreCut stock (trees_in (models_of_cut_cells root.cuts.items)) cs
     root_cuts =
-        let sites = (match_at stock k destination tree whole).sites in
-        let e = ap trees_in h.cuts ∙ cells_trees sites (operand_counts ps) (cut_counts cs) n in
+        let leaves = (match_at stock k destination tree whole).leaves in
+        let e = ap trees_in h.cuts ∙ cells_trees leaves (operand_counts ps) (cut_counts cs) n in
         subst (λ z. AreCut stock z cs) (sym e) (opened_cover stock k ps cs destination tree whole c).cuts
 
 -- ---- an operand that is taken out

@@ -21,7 +21,7 @@ use Rattle.emit_seq.specs.Leaves.{IsOfJob}
 use Rattle.emit_seq.specs.Spares.{clobbers_of, step_clobbers, AreShared, ReadsCounter, AreDefined, wanted, AreSpare}
 use Rattle.form_model.proofs.SettingLaws.{picked}
 use Rattle.emit_seq.proofs.Matched.{Joined, joined}
-use Rattle.emit_seq.proofs.Sites.{IsIdOf, operands-append, id_left, id_right, shape_unread, matched_taken}
+use Rattle.emit_seq.proofs.MatchLeaves.{IsIdOf, operands-append, id_left, id_right, shape_unread, matched_taken}
 use Rattle.form_model.proofs.Zips.{Each}
 use Rattle.emit_seq.specs.Inner.CellLists.{operands_in, trees_in}
 use Rattle.emit_seq.proofs.Walks.{cells_operands, cells_trees}
@@ -40,17 +40,17 @@ abbrev pub HasStep : DestinationModel → Type 0
 HasStep tested = ⊥
 HasStep destination = Unit {0}
 
-record IsFormStep (file_storage : Option ℕ) (patterns : List Pattern) (rule : FormModel) (destination : DestinationModel) (found : MatchModel) : Type 0 where
-  read : (i r : ℕ) → reads (operation_of file_storage patterns (record { pattern = rule.pattern; setting = i })) (register r) ≡ true → IsIdOf (operands_of found.sites) r
-  owns : (i r : ℕ) → IsOwn destination r → writes (operation_of file_storage patterns (record { pattern = rule.pattern; setting = i })) r ≡ true
-  owned : (i r : ℕ) → writes (operation_of file_storage patterns (record { pattern = rule.pattern; setting = i })) r ≡ true → IsOwn destination r
+record IsFormStep (file_storage : Option ℕ) (patterns : List Pattern) (form : FormModel) (destination : DestinationModel) (found : MatchModel) : Type 0 where
+  read : (i r : ℕ) → reads (operation_of file_storage patterns (record { pattern = form.pattern; setting = i })) (register r) ≡ true → IsIdOf (operands_of found.leaves) r
+  owns : (i r : ℕ) → IsOwn destination r → writes (operation_of file_storage patterns (record { pattern = form.pattern; setting = i })) r ≡ true
+  owned : (i r : ℕ) → writes (operation_of file_storage patterns (record { pattern = form.pattern; setting = i })) r ≡ true → IsOwn destination r
 
 or_some : (a b : Bool) → (a || b) ≡ true → (a ≡ true) ⊎ (b ≡ true)
 or_some true b h = inl refl
 or_some false b h = inr h
 
 address_given : (temps size : ℕ) (at : ExprModel) (destination : DestinationModel) (x : MatchModel) → CellsShown size at → address_match temps (Some at) destination ≡ Some x → (i r : ℕ) → expr_reads i at (register r) ≡ true
-    → IsIdOf (operands_of x.sites) r
+    → IsIdOf (operands_of x.leaves) r
 address_given temps size at (cell a) x q h i r e =
     let c : (is_shape at ≡ true) × (settled (shape_setting at a) ≡ Some x) = picked (is_shape at) (settled (shape_setting at a)) x h in
     absurd (true≢false (sym e ∙ shape_unread at i r c.0))
@@ -63,78 +63,78 @@ address_given temps size at (into id) x q h i r e = absurd (cc)
 address_given temps size at filed x q h i r e = absurd (cc)
 address_given temps size at tested x q h i r e = absurd (cc)
 
-memory_step : (temps size : ℕ) (file_storage : Option ℕ) (patterns : List Pattern) (rule : FormModel) (destination : DestinationModel) (tree : ExprModel) (whole : Bool) (found : MatchModel) → IsIntoMemory file_storage patterns size rule
-    → both (address_match temps rule.addr destination) (matched temps rule.value tree whole) ≡ Some found → (i r : ℕ)
-    → reads (operation_of file_storage patterns (record { pattern = rule.pattern; setting = i })) (register r) ≡ true → IsIdOf (operands_of found.sites) r
-memory_step temps size file_storage patterns rule destination tree whole found f h i r e =
-    let j : Joined (address_match temps rule.addr destination) (matched temps rule.value tree whole) found = joined _ _ _ h in
+memory_step : (temps size : ℕ) (file_storage : Option ℕ) (patterns : List Pattern) (form : FormModel) (destination : DestinationModel) (tree : ExprModel) (whole : Bool) (found : MatchModel) → IsIntoMemory file_storage patterns size form
+    → both (address_match temps form.addr destination) (matched temps form.value tree whole) ≡ Some found → (i r : ℕ)
+    → reads (operation_of file_storage patterns (record { pattern = form.pattern; setting = i })) (register r) ≡ true → IsIdOf (operands_of found.leaves) r
+memory_step temps size file_storage patterns form destination tree whole found f h i r e =
+    let j : Joined (address_match temps form.addr destination) (matched temps form.value tree whole) found = joined _ _ _ h in
     let e' : (expr_reads i f.addr (register r) || expr_reads i f.value (register r)) ≡ true = sym (ap (λ (p : Option Pattern). reads (operation_or_none file_storage p i) (register r)) f.is) ∙ e in
-    subst (λ (z : MatchModel). IsIdOf (operands_of z.sites) r) j.is
-    (subst (λ z. IsIdOf z r) (sym (operands-append j.first.sites j.second.sites))
-    (elim (or_some (expr_reads i f.addr (register r)) (expr_reads i f.value (register r)) e') as (λ _. IsIdOf (operands_of j.first.sites ++ operands_of j.second.sites) r) [
-      | inl u ↦ id_left (operands_of j.first.sites) (operands_of j.second.sites) r
+    subst (λ (z : MatchModel). IsIdOf (operands_of z.leaves) r) j.is
+    (subst (λ z. IsIdOf z r) (sym (operands-append j.first.leaves j.second.leaves))
+    (elim (or_some (expr_reads i f.addr (register r)) (expr_reads i f.value (register r)) e') as (λ _. IsIdOf (operands_of j.first.leaves ++ operands_of j.second.leaves) r) [
+      | inl u ↦ id_left (operands_of j.first.leaves) (operands_of j.second.leaves) r
           (address_given temps size f.at destination j.first f.shown_addr (ap (λ z. address_match temps z destination) (sym f.has) ∙ j.is_first) i r (f.alike_addr.reads i r ∙ u))
-      | inr u ↦ id_right (operands_of j.first.sites) (operands_of j.second.sites) r
-          ((matched_taken temps no_state rule.value tree whole j.second j.is_second).given size f.shown_value i r (f.alike_value.reads i r ∙ u))
+      | inr u ↦ id_right (operands_of j.first.leaves) (operands_of j.second.leaves) r
+          ((matched_taken temps no_state form.value tree whole j.second j.is_second).given size f.shown_value i r (f.alike_value.reads i r ∙ u))
     ]))
 
-memory_writes : (size : ℕ) (file_storage : Option ℕ) (patterns : List Pattern) (rule : FormModel) → IsIntoMemory file_storage patterns size rule → (i r : ℕ) → writes (operation_of file_storage patterns (record { pattern = rule.pattern; setting = i })) r ≡ true → ⊥
-memory_writes size file_storage patterns rule f i r e = true≢false (sym e ∙ ap (λ (p : Option Pattern). writes (operation_or_none file_storage p i) r) f.is)
+memory_writes : (size : ℕ) (file_storage : Option ℕ) (patterns : List Pattern) (form : FormModel) → IsIntoMemory file_storage patterns size form → (i r : ℕ) → writes (operation_of file_storage patterns (record { pattern = form.pattern; setting = i })) r ≡ true → ⊥
+memory_writes size file_storage patterns form f i r e = true≢false (sym e ∙ ap (λ (p : Option Pattern). writes (operation_or_none file_storage p i) r) f.is)
 
 -- a form that writes the file
-file_read : (temps size : ℕ) (file_storage : Option ℕ) (patterns : List Pattern) (rule : FormModel) (tree : ExprModel) (whole : Bool) (found : MatchModel) → IsIntoFile file_storage patterns size rule
-    → matched temps rule.value tree whole ≡ Some found → (i r : ℕ)
-    → reads (operation_of file_storage patterns (record { pattern = rule.pattern; setting = i })) (register r) ≡ true → IsIdOf (operands_of found.sites) r
-file_read temps size file_storage patterns rule tree whole found f h i r e =
+file_read : (temps size : ℕ) (file_storage : Option ℕ) (patterns : List Pattern) (form : FormModel) (tree : ExprModel) (whole : Bool) (found : MatchModel) → IsIntoFile file_storage patterns size form
+    → matched temps form.value tree whole ≡ Some found → (i r : ℕ)
+    → reads (operation_of file_storage patterns (record { pattern = form.pattern; setting = i })) (register r) ≡ true → IsIdOf (operands_of found.leaves) r
+file_read temps size file_storage patterns form tree whole found f h i r e =
     let e' : (expr_reads i f.addr (register r) || expr_reads i f.value (register r)) ≡ true = sym (ap (λ (p : Option Pattern). reads (operation_or_none file_storage p i) (register r)) f.is) ∙ e in
-    elim (or_some (expr_reads i f.addr (register r)) (expr_reads i f.value (register r)) e') as (λ _. IsIdOf (operands_of found.sites) r) [
+    elim (or_some (expr_reads i f.addr (register r)) (expr_reads i f.value (register r)) e') as (λ _. IsIdOf (operands_of found.leaves) r) [
       | inl u ↦ absurd (true≢false (sym (f.alike_addr.reads i r ∙ u) ∙ shape_unread f.at i r f.shape))
-      | inr u ↦ (matched_taken temps no_state rule.value tree whole found h).given size f.shown_value i r (f.alike_value.reads i r ∙ u)
+      | inr u ↦ (matched_taken temps no_state form.value tree whole found h).given size f.shown_value i r (f.alike_value.reads i r ∙ u)
     ]
 
-file_writes : (size : ℕ) (file_storage : Option ℕ) (patterns : List Pattern) (rule : FormModel) → IsIntoFile file_storage patterns size rule → (i r : ℕ) → writes (operation_of file_storage patterns (record { pattern = rule.pattern; setting = i })) r ≡ true → ⊥
-file_writes size file_storage patterns rule f i r e = true≢false (sym e ∙ ap (λ (p : Option Pattern). writes (operation_or_none file_storage p i) r) f.is)
+file_writes : (size : ℕ) (file_storage : Option ℕ) (patterns : List Pattern) (form : FormModel) → IsIntoFile file_storage patterns size form → (i r : ℕ) → writes (operation_of file_storage patterns (record { pattern = form.pattern; setting = i })) r ≡ true → ⊥
+file_writes size file_storage patterns form f i r e = true≢false (sym e ∙ ap (λ (p : Option Pattern). writes (operation_or_none file_storage p i) r) f.is)
 
-form_step_of : (temps size : ℕ) (file_storage : Option ℕ) (patterns : List Pattern) (count : ℕ) (rule : FormModel) (goal : GoalModel) (destination : DestinationModel) (tree : ExprModel) (whole : Bool) (found : MatchModel)
-    → IsFormed file_storage patterns count size rule goal → HasStep destination → goal_match temps rule goal destination tree whole ≡ Some found → IsFormStep file_storage patterns rule destination found
-form_step_of temps size file_storage patterns count rule (into_reg q) (into id) tree whole found f s h =
-    let c : ((q == id) ≡ true) × (matched temps rule.value tree whole ≡ Some found) = picked (q == id) (matched temps rule.value tree whole) found h in
+form_step_of : (temps size : ℕ) (file_storage : Option ℕ) (patterns : List Pattern) (count : ℕ) (form : FormModel) (goal : GoalModel) (destination : DestinationModel) (tree : ExprModel) (whole : Bool) (found : MatchModel)
+    → IsFormed file_storage patterns count size form goal → HasStep destination → goal_match temps form goal destination tree whole ≡ Some found → IsFormStep file_storage patterns form destination found
+form_step_of temps size file_storage patterns count form (into_reg q) (into id) tree whole found f s h =
+    let c : ((q == id) ≡ true) × (matched temps form.value tree whole ≡ Some found) = picked (q == id) (matched temps form.value tree whole) found h in
     let same : q ≡ id = eqb-true q id c.0 in
     record {
-      read = λ i r e. (matched_taken temps no_state rule.value tree whole found c.1).given size f.shown i r
+      read = λ i r e. (matched_taken temps no_state form.value tree whole found c.1).given size f.shown i r
           (f.alike.reads i r ∙ sym (ap (λ (p : Option Pattern). reads (operation_or_none file_storage p i) (register r)) f.is) ∙ e);
       owns = λ i r e. ap (λ (p : Option Pattern). writes (operation_or_none file_storage p i) r) f.is ∙ eq-eqb q r (same ∙ e);
       owned = λ i r e. sym same ∙ eqb-true q r (sym (ap (λ (p : Option Pattern). writes (operation_or_none file_storage p i) r) f.is) ∙ e);
     }
-form_step_of temps size file_storage patterns count rule into_file filed tree whole found f s h =
-    record { read = file_read temps size file_storage patterns rule tree whole found f h; owns = λ i r e. absurd e; owned = file_writes size file_storage patterns rule f }
-form_step_of temps size file_storage patterns count rule into_memory (cell a) tree whole found f s h =
-    record { read = memory_step temps size file_storage patterns rule (cell a) tree true found f h; owns = λ i r e. absurd e; owned = memory_writes size file_storage patterns rule f }
-form_step_of temps size file_storage patterns count rule into_memory (stored a) tree whole found f s h =
-    record { read = memory_step temps size file_storage patterns rule (stored a) tree false found f h; owns = λ i r e. absurd e; owned = memory_writes size file_storage patterns rule f }
-form_step_of temps size file_storage patterns count rule into_memory temporary tree whole found f s h =
-    record { read = memory_step temps size file_storage patterns rule temporary tree false found f h; owns = λ i r e. absurd e; owned = memory_writes size file_storage patterns rule f }
-form_step_of temps size file_storage patterns count rule (branches when_one to) tested tree whole found f s h = absurd s
-form_step_of temps size file_storage patterns count rule goal destination tree whole found f s h = absurd (cc)
+form_step_of temps size file_storage patterns count form into_file filed tree whole found f s h =
+    record { read = file_read temps size file_storage patterns form tree whole found f h; owns = λ i r e. absurd e; owned = file_writes size file_storage patterns form f }
+form_step_of temps size file_storage patterns count form into_memory (cell a) tree whole found f s h =
+    record { read = memory_step temps size file_storage patterns form (cell a) tree true found f h; owns = λ i r e. absurd e; owned = memory_writes size file_storage patterns form f }
+form_step_of temps size file_storage patterns count form into_memory (stored a) tree whole found f s h =
+    record { read = memory_step temps size file_storage patterns form (stored a) tree false found f h; owns = λ i r e. absurd e; owned = memory_writes size file_storage patterns form f }
+form_step_of temps size file_storage patterns count form into_memory temporary tree whole found f s h =
+    record { read = memory_step temps size file_storage patterns form temporary tree false found f h; owns = λ i r e. absurd e; owned = memory_writes size file_storage patterns form f }
+form_step_of temps size file_storage patterns count form (branches when_one to) tested tree whole found f s h = absurd s
+form_step_of temps size file_storage patterns count form goal destination tree whole found f s h = absurd (cc)
 
 -- the pattern's clobbers are those of each of its forms
-clobbers_first : (rules : List FormModel) (p k : ℕ) (rule : FormModel) → slice_get rules k ≡ Some rule → rule.pattern ≡ p → (j : ℕ) × (a : FormModel) × (slice_get rules j ≡ Some a) × (a.pattern ≡ p) × (clobbers_of rules p ≡ a.clobbers)
-clobbers_first [] p k rule h e = absurd (cc)
-clobbers_first (a ∷ rules) p zero rule h e =
-    let q : a ≡ rule = cc in
+clobbers_first : (forms : List FormModel) (p k : ℕ) (form : FormModel) → slice_get forms k ≡ Some form → form.pattern ≡ p → (j : ℕ) × (a : FormModel) × (slice_get forms j ≡ Some a) × (a.pattern ≡ p) × (clobbers_of forms p ≡ a.clobbers)
+clobbers_first [] p k form h e = absurd (cc)
+clobbers_first (a ∷ forms) p zero form h e =
+    let q : a ≡ form = cc in
     let ep : a.pattern ≡ p = ap (λ (z : FormModel). z.pattern) q ∙ e in
     (0, a, refl, ep, rw (eq-eqb a.pattern p ep) refl)
-clobbers_first (a ∷ rules) p (suc k) rule h e =
+clobbers_first (a ∷ forms) p (suc k) form h e =
     elim (cases_Bool (a.pattern == p))
-    as (λ _. (j : ℕ) × (b : FormModel) × (slice_get (a ∷ rules) j ≡ Some b) × (b.pattern ≡ p) × (clobbers_of (a ∷ rules) p ≡ b.clobbers)) [
+    as (λ _. (j : ℕ) × (b : FormModel) × (slice_get (a ∷ forms) j ≡ Some b) × (b.pattern ≡ p) × (clobbers_of (a ∷ forms) p ≡ b.clobbers)) [
       | inl u ↦ (0, a, refl, eqb-true a.pattern p u, rw u refl)
-      | inr u ↦ let (j, b, eb, ep, ec) = clobbers_first rules p k rule h e in (suc j, b, eb, ep, rw u ec)
+      | inr u ↦ let (j, b, eb, ep, ec) = clobbers_first forms p k form h e in (suc j, b, eb, ep, rw u ec)
     ]
 
-pub clobbers_at : (rules : List FormModel) → AreShared rules → (k : ℕ) (rule : FormModel) → slice_get rules k ≡ Some rule → clobbers_of rules rule.pattern ≡ rule.clobbers
-clobbers_at rules shared k rule h =
-    let (j, a, ea, ep, ec) = clobbers_first rules rule.pattern k rule h refl in
-    ec ∙ shared j k a rule ea h ep
+pub clobbers_at : (forms : List FormModel) → AreShared forms → (k : ℕ) (form : FormModel) → slice_get forms k ≡ Some form → clobbers_of forms form.pattern ≡ form.clobbers
+clobbers_at forms shared k form h =
+    let (j, a, ea, ep, ec) = clobbers_first forms form.pattern k form h refl in
+    ec ∙ shared j k a form ea h ep
 
 -- ---- operands
 
@@ -198,18 +198,18 @@ module _ (m : Step → Operation) (c : Step → Regs) (pc : ℕ) where
             | inr u ↦ u
           ]
 
-module _ (stock : StockModel) (file_storage : Option ℕ) (patterns : List Pattern) (count pc : ℕ) (formed : AreFormed file_storage patterns count stock.file stock.rules) (shared : AreShared stock.rules) (counter : ReadsCounter stock.rules pc) where
+module _ (stock : StockModel) (file_storage : Option ℕ) (patterns : List Pattern) (count pc : ℕ) (formed : AreFormed file_storage patterns count stock.file stock.forms) (shared : AreShared stock.forms) (counter : ReadsCounter stock.forms pc) where
   abbrev m : Step → Operation
   m = operation_of file_storage patterns
 
   abbrev c : Step → Regs
-  c = step_clobbers stock.rules
+  c = step_clobbers stock.forms
 
   -- a clobber of a form's step is written by its cover
-  clobber_written : (k : ℕ) (rule : FormModel) (ps : CoverOperandsModel) (cs : CoverCutsModel) (i r : ℕ) → slice_get stock.rules k ≡ Some rule → c (record { pattern = rule.pattern; setting = i }) r ≡ true
-      → bit_at (written stock.rules (use_form k ps cs)) r ≡ 1
-  clobber_written k rule ps cs i r h e =
-      writes_own stock.rules k rule ps cs r h (ap (λ n. bit_at n r) (sym (clobbers_at stock.rules shared k rule h)) ∙ eqb-true (bit_at (clobbers_of stock.rules rule.pattern) r) 1 e)
+  clobber_written : (k : ℕ) (form : FormModel) (ps : CoverOperandsModel) (cs : CoverCutsModel) (i r : ℕ) → slice_get stock.forms k ≡ Some form → c (record { pattern = form.pattern; setting = i }) r ≡ true
+      → bit_at (written stock.forms (use_form k ps cs)) r ≡ 1
+  clobber_written k form ps cs i r h e =
+      writes_own stock.forms k form ps cs r h (ap (λ n. bit_at n r) (sym (clobbers_at stock.forms shared k form h)) ∙ eqb-true (bit_at (clobbers_of stock.forms form.pattern) r) 1 e)
 
   part_written : (a b r : ℕ) → bit_at b r ≡ 1 → bit_at (bit_or a b) r ≡ 1
   part_written a b r e = omega (arith, bit_at_or a b r, e, bit_at-lt a r)
@@ -225,15 +225,15 @@ module _ (stock : StockModel) (file_storage : Option ℕ) (patterns : List Patte
   record AreNoCounter (ps : CoverOperandsModel) : Type 0 where
     none : (left : List Operand) → AreOrderly stock left ps → IsIdOf left pc → ⊥
 
-  goal_is : (temps : ℕ) (rule : FormModel) (goal : GoalModel) (id : ℕ) (tree : ExprModel) (whole : Bool) (found : MatchModel) → goal_match temps rule goal (into id) tree whole ≡ Some found
-      → (goal ≡ into_reg id) × (matched temps rule.value tree whole ≡ Some found)
-  goal_is temps rule (into_reg q) id tree whole found h =
-      let d : ((q == id) ≡ true) × (matched temps rule.value tree whole ≡ Some found) = picked (q == id) (matched temps rule.value tree whole) found h in
+  goal_is : (temps : ℕ) (form : FormModel) (goal : GoalModel) (id : ℕ) (tree : ExprModel) (whole : Bool) (found : MatchModel) → goal_match temps form goal (into id) tree whole ≡ Some found
+      → (goal ≡ into_reg id) × (matched temps form.value tree whole ≡ Some found)
+  goal_is temps form (into_reg q) id tree whole found h =
+      let d : ((q == id) ≡ true) × (matched temps form.value tree whole ≡ Some found) = picked (q == id) (matched temps form.value tree whole) found h in
       (ap (λ n. into_reg n) (eqb-true q id d.0), d.1)
-  goal_is temps rule goal id tree whole found h = absurd (cc)
+  goal_is temps form goal id tree whole found h = absurd (cc)
 
-  into_shown : (rule : FormModel) (r : ℕ) → rule.goal ≡ into_reg r → IsFormed file_storage patterns count stock.file rule rule.goal → CellsShown stock.file rule.value
-  into_shown rule r e f = (subst (IsFormed file_storage patterns count stock.file rule) e f).shown
+  into_shown : (form : FormModel) (r : ℕ) → form.goal ≡ into_reg r → IsFormed file_storage patterns count stock.file form form.goal → CellsShown stock.file form.value
+  into_shown form r e f = (subst (IsFormed file_storage patterns count stock.file form) e f).shown
 
   form_no_counter : (k : ℕ) (ps : CoverOperandsModel) (cs : CoverCutsModel) → AreNoCounter ps → IsNoCounter (use_form k ps cs)
   form_no_counter k ps cs h = record { none = none' }
@@ -244,7 +244,7 @@ module _ (stock : StockModel) (file_storage : Option ℕ) (patterns : List Patte
           let g : ((form_at stock k).goal ≡ into_reg pc) × (matched stock.temps (form_at stock k).value tree whole ≡ Some (match_at stock k (into pc) tree whole)) =
           goal_is stock.temps (form_at stock k) (form_at stock k).goal pc tree whole (match_at stock k (into pc) tree whole) w.takes in
           let (i, e) = counter k (form_at stock k) w.listed g.0 in
-          h.none (operands_of (match_at stock k (into pc) tree whole).sites) w.operands
+          h.none (operands_of (match_at stock k (into pc) tree whole).leaves) w.operands
           ((matched_taken stock.temps no_state (form_at stock k).value tree whole (match_at stock k (into pc) tree whole) g.1).given stock.file (into_shown (form_at stock k) pc g.0 (formed k (form_at stock k) w.listed)) i pc e)
 
   operand_no_counter : (i : ℕ) (p : CoverModel) (ps : CoverOperandsModel) → IsNoCounter p → AreNoCounter ps → AreNoCounter (operand_then i p ps)
@@ -272,12 +272,12 @@ module _ (stock : StockModel) (file_storage : Option ℕ) (patterns : List Patte
 
   record IsSpared (p : CoverModel) : Type 0 where
     own : (n held : ℕ) (destination : DestinationModel) (tree : ExprModel) (whole : Bool) → IsOrderly stock destination tree whole p → HasStep destination → (after : Regs)
-        → ((r : ℕ) → after r ≡ true → bit_at (written stock.rules p) r ≡ 1 → IsOwn destination r) → IsTidy m c pc (own_steps stock p n held destination tree whole) after (IsOwn destination)
+        → ((r : ℕ) → after r ≡ true → bit_at (written stock.forms p) r ≡ 1 → IsOwn destination r) → IsTidy m c pc (own_steps stock p n held destination tree whole) after (IsOwn destination)
     cuts : (n : ℕ) (destination : DestinationModel) (tree : ExprModel) (whole : Bool) → IsOrderly stock destination tree whole p → IsAlone m c pc (cut_steps stock p n destination tree whole)
 
   record AreSpared (ps : CoverOperandsModel) : Type 0 where
     own : (held : ℕ) (left : List OperandCellsModel) → AreOrderly stock (operands_in left) ps → (after : Regs)
-        → ((r : ℕ) → after r ≡ true → bit_at (all_written stock.rules ps) r ≡ 1 → IsIdOf (operands_in left) r) → IsTidy m c pc (operand_steps stock ps left held) after (IsIdOf (operands_in left))
+        → ((r : ℕ) → after r ≡ true → bit_at (all_written stock.forms ps) r ≡ 1 → IsIdOf (operands_in left) r) → IsTidy m c pc (operand_steps stock ps left held) after (IsIdOf (operands_in left))
     cuts : (left : List OperandCellsModel) → AreOrderly stock (operands_in left) ps → Each (IsAlone m c pc) (inside_operands stock ps left)
 
   record CutsSpared (cs : CoverCutsModel) : Type 0 where
@@ -287,14 +287,14 @@ module _ (stock : StockModel) (file_storage : Option ℕ) (patterns : List Patte
   none_spared = record { own = own'; cuts = λ left o. tt }
     where
       own' : (held : ℕ) (left : List OperandCellsModel) → AreOrderly stock (operands_in left) no_operands → (after : Regs)
-          → ((r : ℕ) → after r ≡ true → bit_at (all_written stock.rules no_operands) r ≡ 1 → IsIdOf (operands_in left) r) → IsTidy m c pc [] after (IsIdOf (operands_in left))
+          → ((r : ℕ) → after r ≡ true → bit_at (all_written stock.forms no_operands) r ≡ 1 → IsIdOf (operands_in left) r) → IsTidy m c pc [] after (IsIdOf (operands_in left))
       own' held left o after f = record { spare = tt; apart = tt; live = λ r h. h; gone = λ r h d. subst (λ z. IsIdOf z r) o d }
 
   operand_spared : (i : ℕ) (p : CoverModel) (ps : CoverOperandsModel) → IsSpared p → AreSpared ps → AreSpared (operand_then i p ps)
   operand_spared i p ps h k = record { own = own'; cuts = cuts' }
     where
       own' : (held : ℕ) (left : List OperandCellsModel) → AreOrderly stock (operands_in left) (operand_then i p ps) → (after : Regs)
-          → ((r : ℕ) → after r ≡ true → bit_at (all_written stock.rules (operand_then i p ps)) r ≡ 1 → IsIdOf (operands_in left) r)
+          → ((r : ℕ) → after r ≡ true → bit_at (all_written stock.forms (operand_then i p ps)) r ≡ 1 → IsIdOf (operands_in left) r)
           → IsTidy m c pc (operand_steps stock (operand_then i p ps) left held) after (IsIdOf (operands_in left))
       own' held left o after f =
           let cells : OperandCellsModel = operand_cells_or_none (slice_get left i) in
@@ -309,16 +309,16 @@ module _ (stock : StockModel) (file_storage : Option ℕ) (patterns : List Patte
           tidy_append m c pc first later after (IsOwn (home_destination cells.operand.home)) (IsIdOf (operands_in (remove left i))) (IsIdOf (operands_in left)) u t
           (λ r d. elim (id_split left i cells r w.at d) as (λ _. IsOwn (home_destination cells.operand.home) r ⊎ IsIdOf (operands_in (remove left i)) r) [ inl e ↦ inl (home_own cells.operand.home r e) | inr e ↦ inr e ])
         where
-          rest_id : (r : ℕ) → after r ≡ true → bit_at (all_written stock.rules ps) r ≡ 1 → (cells : OperandCellsModel) → IsOpenedOperand stock left i cells p ps → IsIdOf (operands_in (remove left i)) r
+          rest_id : (r : ℕ) → after r ≡ true → bit_at (all_written stock.forms ps) r ≡ 1 → (cells : OperandCellsModel) → IsOpenedOperand stock left i cells p ps → IsIdOf (operands_in (remove left i)) r
           rest_id r a b cells w =
-              elim (id_split left i cells r w.at (f r a (part_written (written stock.rules p) (all_written stock.rules ps) r b))) as (λ _. IsIdOf (operands_in (remove left i)) r) [
-                | inl e ↦ absurd (let z : bit_at (all_written stock.rules ps) r ≡ 0 = w.apart r e in omega (arith, z, b))
+              elim (id_split left i cells r w.at (f r a (part_written (written stock.forms p) (all_written stock.forms ps) r b))) as (λ _. IsIdOf (operands_in (remove left i)) r) [
+                | inl e ↦ absurd (let z : bit_at (all_written stock.forms ps) r ≡ 0 = w.apart r e in omega (arith, z, b))
                 | inr d ↦ d
               ]
 
-          own_id : (r : ℕ) (cells : OperandCellsModel) → IsOpenedOperand stock left i cells p ps → after r ≡ true → (IsIdOf (operands_in (remove left i)) r → ⊥) → bit_at (written stock.rules p) r ≡ 1 → cells.operand.home ≡ in_register r
+          own_id : (r : ℕ) (cells : OperandCellsModel) → IsOpenedOperand stock left i cells p ps → after r ≡ true → (IsIdOf (operands_in (remove left i)) r → ⊥) → bit_at (written stock.forms p) r ≡ 1 → cells.operand.home ≡ in_register r
           own_id r cells w a g b =
-              elim (id_split left i cells r w.at (f r a (part_written_left (written stock.rules p) (all_written stock.rules ps) r b))) as (λ _. cells.operand.home ≡ in_register r) [
+              elim (id_split left i cells r w.at (f r a (part_written_left (written stock.forms p) (all_written stock.forms ps) r b))) as (λ _. cells.operand.home ≡ in_register r) [
                 | inl e ↦ e
                 | inr d ↦ absurd (g d)
               ]
@@ -346,13 +346,13 @@ module _ (stock : StockModel) (file_storage : Option ℕ) (patterns : List Patte
             k.cuts cuts (subst (λ ts. AreCut stock ts cs) e' o.5),
           )
 
-  step_of : (rule : FormModel) (destination : DestinationModel) (setting : ℕ) → HasStep destination → form_step rule destination setting ≡ record { pattern = rule.pattern; setting = setting } ∷ []
-  step_of rule (into id) setting h = refl
-  step_of rule filed setting h = refl
-  step_of rule (cell a) setting h = refl
-  step_of rule (stored a) setting h = refl
-  step_of rule temporary setting h = refl
-  step_of rule tested setting h = absurd h
+  step_of : (form : FormModel) (destination : DestinationModel) (setting : ℕ) → HasStep destination → form_step form destination setting ≡ record { pattern = form.pattern; setting = setting } ∷ []
+  step_of form (into id) setting h = refl
+  step_of form filed setting h = refl
+  step_of form (cell a) setting h = refl
+  step_of form (stored a) setting h = refl
+  step_of form temporary setting h = refl
+  step_of form tested setting h = absurd h
 
   -- the program counter is no operand
   no_operand : (ps : CoverOperandsModel) (left : List Operand) → AreOrderly stock left ps → IsIdOf left pc → ⊥
@@ -370,31 +370,31 @@ module _ (stock : StockModel) (file_storage : Option ℕ) (patterns : List Patte
   form_spared k ps cs hp hc = record { own = own'; cuts = cuts' }
     where
       own' : (n held : ℕ) (destination : DestinationModel) (tree : ExprModel) (whole : Bool) → IsOrderly stock destination tree whole (use_form k ps cs) → HasStep destination → (after : Regs)
-          → ((r : ℕ) → after r ≡ true → bit_at (written stock.rules (use_form k ps cs)) r ≡ 1 → IsOwn destination r)
+          → ((r : ℕ) → after r ≡ true → bit_at (written stock.forms (use_form k ps cs)) r ≡ 1 → IsOwn destination r)
           → IsTidy m c pc (own_steps stock (use_form k ps cs) n held destination tree whole) after (IsOwn destination)
       own' n held destination tree whole o s after f =
           let w : IsOpened stock k ps cs destination tree whole = opened_cover stock k ps cs destination tree whole o in
-          let rule : FormModel = form_at stock k in
+          let form : FormModel = form_at stock k in
           let found : MatchModel = match_at stock k destination tree whole in
-          let left : List OperandCellsModel = cover_operand_cells found.sites ps cs n in
-          let e : operands_in left ≡ operands_of found.sites = cells_operands found.sites (operand_counts ps) (cut_counts cs) n in
+          let left : List OperandCellsModel = cover_operand_cells found.leaves ps cs n in
+          let e : operands_in left ≡ operands_of found.leaves = cells_operands found.leaves (operand_counts ps) (cut_counts cs) n in
           let orderly : AreOrderly stock (operands_in left) ps = subst (λ z. AreOrderly stock z ps) (sym e) w.operands in
           let setting : ℕ = cover_setting stock (use_form k ps cs) n held destination tree whole in
-          let step : Step = record { pattern = rule.pattern; setting = setting } in
-          let g : IsFormStep file_storage patterns rule destination found =
-          form_step_of stock.temps stock.file file_storage patterns count rule rule.goal destination tree whole found (formed k rule w.listed) s w.takes in
+          let step : Step = record { pattern = form.pattern; setting = setting } in
+          let g : IsFormStep file_storage patterns form destination found =
+          form_step_of stock.temps stock.file file_storage patterns count form form.goal destination tree whole found (formed k form w.listed) s w.takes in
           let read : (r : ℕ) → reads (m step) (register r) ≡ true → IsIdOf (operands_in left) r = λ r h. subst (λ z. IsIdOf z r) (sym e) (g.read setting r h) in
-          let wrote : (r : ℕ) → after r ≡ true → bit_at (written stock.rules (use_form k ps cs)) r ≡ 1 → writes (m step) r ≡ false → ⊥ =
+          let wrote : (r : ℕ) → after r ≡ true → bit_at (written stock.forms (use_form k ps cs)) r ≡ 1 → writes (m step) r ≡ false → ⊥ =
           λ r a b x. true≢false (sym (g.owns setting r (f r a b)) ∙ x) in
           let t : IsTidy m c pc (operand_steps stock ps left held) (live_before m (singles (step ∷ [])) after) (IsIdOf (operands_in left)) =
           hp.own held left orderly (live_before m (singles (step ∷ [])) after)
           (λ r a b. elim (live_parts (reads (m step) (register r)) (after r) (writes (m step) r) a) as (λ _. IsIdOf (operands_in left) r) [
             | inl u ↦ read r u
-            | inr u ↦ absurd (wrote r u.0 (part_written _ (all_written stock.rules ps) r b) u.1)
+            | inr u ↦ absurd (wrote r u.0 (part_written _ (all_written stock.forms ps) r b) u.1)
           ]) in
-          subst (λ z. IsTidy m c pc (operand_steps stock ps left held ++ z) after (IsOwn destination)) (sym (step_of rule destination setting s))
+          subst (λ z. IsTidy m c pc (operand_steps stock ps left held ++ z) after (IsOwn destination)) (sym (step_of form destination setting s))
           (tidy_form m c pc (operand_steps stock ps left held) step after (IsIdOf (operands_in left)) (IsOwn destination) t
-          (λ r x y. spare_or (after r) (writes (m step) r) (λ a. wrote r a (clobber_written k rule ps cs setting r w.listed x)) y)
+          (λ r x y. spare_or (after r) (writes (m step) r) (λ a. wrote r a (clobber_written k form ps cs setting r w.listed x)) y)
           (not_true (reads (m step) (register pc)) (λ h. no_operand ps (operands_in left) orderly (read pc h)))
           (not_true (writes (m step) pc) (λ h. no_own k ps cs destination tree whole o (g.owned setting pc h)))
           read (λ r h. g.owns setting r h))
@@ -402,13 +402,13 @@ module _ (stock : StockModel) (file_storage : Option ℕ) (patterns : List Patte
       cuts' : (n : ℕ) (destination : DestinationModel) (tree : ExprModel) (whole : Bool) → IsOrderly stock destination tree whole (use_form k ps cs) → IsAlone m c pc (cut_steps stock (use_form k ps cs) n destination tree whole)
       cuts' n destination tree whole o =
           let w : IsOpened stock k ps cs destination tree whole = opened_cover stock k ps cs destination tree whole o in
-          let sites : List LeafModel = (match_at stock k destination tree whole).sites in
-          let orderly : AreOrderly stock (operands_in (cover_operand_cells sites ps cs n)) ps =
-          subst (λ z. AreOrderly stock z ps) (sym (cells_operands sites (operand_counts ps) (cut_counts cs) n)) w.operands in
-          let cut : AreCut stock (trees_in (cover_cut_cells sites ps cs n)) cs =
-          subst (λ z. AreCut stock z cs) (sym (cells_trees sites (operand_counts ps) (cut_counts cs) n)) w.cuts in
-          woven_alone m c pc sites (inside_operands stock ps (cover_operand_cells sites ps cs n)) (into_cells stock cs (cover_cut_cells sites ps cs n))
-          (hp.cuts (cover_operand_cells sites ps cs n) orderly) (hc.cuts (cover_cut_cells sites ps cs n) cut)
+          let leaves : List LeafModel = (match_at stock k destination tree whole).leaves in
+          let orderly : AreOrderly stock (operands_in (cover_operand_cells leaves ps cs n)) ps =
+          subst (λ z. AreOrderly stock z ps) (sym (cells_operands leaves (operand_counts ps) (cut_counts cs) n)) w.operands in
+          let cut : AreCut stock (trees_in (cover_cut_cells leaves ps cs n)) cs =
+          subst (λ z. AreCut stock z cs) (sym (cells_trees leaves (operand_counts ps) (cut_counts cs) n)) w.cuts in
+          woven_alone m c pc leaves (inside_operands stock ps (cover_operand_cells leaves ps cs n)) (into_cells stock cs (cover_cut_cells leaves ps cs n))
+          (hp.cuts (cover_operand_cells leaves ps cs n) orderly) (hc.cuts (cover_cut_cells leaves ps cs n) cut)
 
   mutual
     spared : (p : CoverModel) → IsSpared p
@@ -427,26 +427,26 @@ module _ (stock : StockModel) (file_storage : Option ℕ) (patterns : List Patte
   left_alone : (r : ℕ) → no_regs r ≡ true → ⊥
   left_alone r h = true≢false (sym h)
 
-  stored_spare : (destination : DestinationModel) (tree : ExprModel) (plan : CoverModel) → HasStep destination → (wanted stock destination tree plan ≡ no_regs) → ((r : ℕ) → IsOwn destination r → ⊥) → IsOrderly stock destination tree true plan
-      → AreSpare stock file_storage patterns pc destination tree plan
-  stored_spare destination tree plan s e n o =
-      let t : IsTidy m c pc (own_steps stock plan 0 0 destination tree true) no_regs (IsOwn destination) = (spared plan).own 0 0 destination tree true o s no_regs (λ r a b. absurd (left_alone r a)) in
-      let u : IsTidy m c pc (cut_steps stock plan 0 destination tree true) (live_before m (singles (own_steps stock plan 0 0 destination tree true)) no_regs) (λ r. ⊥) =
-      (spared plan).cuts 0 destination tree true o (live_before m (singles (own_steps stock plan 0 0 destination tree true)) no_regs) (λ r a. left_alone r (t.live r a)) in
-      let w : IsTidy m c pc (cover_steps stock destination tree plan) no_regs (λ r. ⊥) =
-      tidy_append m c pc (cut_steps stock plan 0 destination tree true) (own_steps stock plan 0 0 destination tree true) no_regs (λ r. ⊥) (IsOwn destination) (λ r. ⊥) u t (λ r h. inl h) in
+  stored_spare : (destination : DestinationModel) (tree : ExprModel) (cover : CoverModel) → HasStep destination → (wanted stock destination tree cover ≡ no_regs) → ((r : ℕ) → IsOwn destination r → ⊥) → IsOrderly stock destination tree true cover
+      → AreSpare stock file_storage patterns pc destination tree cover
+  stored_spare destination tree cover s e n o =
+      let t : IsTidy m c pc (own_steps stock cover 0 0 destination tree true) no_regs (IsOwn destination) = (spared cover).own 0 0 destination tree true o s no_regs (λ r a b. absurd (left_alone r a)) in
+      let u : IsTidy m c pc (cut_steps stock cover 0 destination tree true) (live_before m (singles (own_steps stock cover 0 0 destination tree true)) no_regs) (λ r. ⊥) =
+      (spared cover).cuts 0 destination tree true o (live_before m (singles (own_steps stock cover 0 0 destination tree true)) no_regs) (λ r a. left_alone r (t.live r a)) in
+      let w : IsTidy m c pc (cover_steps stock destination tree cover) no_regs (λ r. ⊥) =
+      tidy_append m c pc (cut_steps stock cover 0 destination tree true) (own_steps stock cover 0 0 destination tree true) no_regs (λ r. ⊥) (IsOwn destination) (λ r. ⊥) u t (λ r h. inl h) in
       record {
-        spare = subst (λ (z : Regs). AllSpare m c (cover_steps stock destination tree plan) z) (sym e) w.spare;
-        given = subst (λ (z : Regs). AreDefined m no_regs (cover_steps stock destination tree plan) z) (sym e)
-            (given_of m c pc (cover_steps stock destination tree plan) no_regs no_regs (λ r h. w.live r h));
+        spare = subst (λ (z : Regs). AllSpare m c (cover_steps stock destination tree cover) z) (sym e) w.spare;
+        given = subst (λ (z : Regs). AreDefined m no_regs (cover_steps stock destination tree cover) z) (sym e)
+            (given_of m c pc (cover_steps stock destination tree cover) no_regs no_regs (λ r h. w.live r h));
         apart = w.apart;
         unwanted = ap (λ (z : Regs). z pc) e;
       }
 
-  test_given : (temps : ℕ) (rule : FormModel) (goal : GoalModel) (tree : ExprModel) (whole : Bool) (found : MatchModel) → IsFormed file_storage patterns count stock.file rule goal → goal_match temps rule goal tested tree whole ≡ Some found → (i r : ℕ)
-      → expr_reads i rule.value (register r) ≡ true → IsIdOf (operands_of found.sites) r
-  test_given temps rule (branches when_one to) tree whole found f h i r e = (matched_taken temps no_state rule.value tree true found h).given stock.file f.1 i r e
-  test_given temps rule goal tree whole found f h i r e = absurd (cc)
+  test_given : (temps : ℕ) (form : FormModel) (goal : GoalModel) (tree : ExprModel) (whole : Bool) (found : MatchModel) → IsFormed file_storage patterns count stock.file form goal → goal_match temps form goal tested tree whole ≡ Some found → (i r : ℕ)
+      → expr_reads i form.value (register r) ≡ true → IsIdOf (operands_of found.leaves) r
+  test_given temps form (branches when_one to) tree whole found f h i r e = (matched_taken temps no_state form.value tree true found h).given stock.file f.1 i r e
+  test_given temps form goal tree whole found f h i r e = absurd (cc)
 
   append_none : (xs : List Step) → xs ≡ xs ++ []
   append_none [] = refl
@@ -454,35 +454,35 @@ module _ (stock : StockModel) (file_storage : Option ℕ) (patterns : List Patte
 
   test_spare : (tree : ExprModel) (k : ℕ) (ps : CoverOperandsModel) (cs : CoverCutsModel) → IsOrderly stock tested tree true (use_form k ps cs) → AreSpare stock file_storage patterns pc tested tree (use_form k ps cs)
   test_spare tree k ps cs o =
-      let plan : CoverModel = use_form k ps cs in
-      let after : Regs = wanted stock tested tree plan in
+      let cover : CoverModel = use_form k ps cs in
+      let after : Regs = wanted stock tested tree cover in
       let w : IsOpened stock k ps cs tested tree true = opened_cover stock k ps cs tested tree true o in
       let found : MatchModel = match_at stock k tested tree true in
-      let left : List OperandCellsModel = cover_operand_cells found.sites ps cs 0 in
-      let e : operands_in left ≡ operands_of found.sites = cells_operands found.sites (operand_counts ps) (cut_counts cs) 0 in
+      let left : List OperandCellsModel = cover_operand_cells found.leaves ps cs 0 in
+      let e : operands_in left ≡ operands_of found.leaves = cells_operands found.leaves (operand_counts ps) (cut_counts cs) 0 in
       let orderly : AreOrderly stock (operands_in left) ps = subst (λ z. AreOrderly stock z ps) (sym e) w.operands in
       let read : (r : ℕ) → after r ≡ true → IsIdOf (operands_in left) r =
-      λ r h. subst (λ z. IsIdOf z r) (sym e) (test_given stock.temps (form_at stock k) (form_at stock k).goal tree true found (formed k (form_at stock k) w.listed) w.takes (branch_setting stock tree plan) r h) in
+      λ r h. subst (λ z. IsIdOf z r) (sym e) (test_given stock.temps (form_at stock k) (form_at stock k).goal tree true found (formed k (form_at stock k) w.listed) w.takes (branch_setting stock tree cover) r h) in
       let t' : IsTidy m c pc (operand_steps stock ps left 0) after (IsIdOf (operands_in left)) = (spared_operands ps).own 0 left orderly after (λ r a b. read r a) in
-      let t : IsTidy m c pc (own_steps stock plan 0 0 tested tree true) after (IsIdOf (operands_in left)) =
+      let t : IsTidy m c pc (own_steps stock cover 0 0 tested tree true) after (IsIdOf (operands_in left)) =
       subst (λ z. IsTidy m c pc z after (IsIdOf (operands_in left))) (append_none (operand_steps stock ps left 0)) t' in
-      let none : (r : ℕ) → live_before m (singles (own_steps stock plan 0 0 tested tree true)) after r ≡ true → ⊥ = λ r a. t.gone r a (read r (t.live r a)) in
-      let u : IsTidy m c pc (cut_steps stock plan 0 tested tree true) (live_before m (singles (own_steps stock plan 0 0 tested tree true)) after) (λ r. ⊥) =
-      (spared plan).cuts 0 tested tree true o (live_before m (singles (own_steps stock plan 0 0 tested tree true)) after) none in
-      let all : IsTidy m c pc (cover_steps stock tested tree plan) after (IsIdOf (operands_in left)) =
-      tidy_append m c pc (cut_steps stock plan 0 tested tree true) (own_steps stock plan 0 0 tested tree true) after (λ r. ⊥) (IsIdOf (operands_in left)) (IsIdOf (operands_in left)) u t (λ r h. inr h) in
+      let none : (r : ℕ) → live_before m (singles (own_steps stock cover 0 0 tested tree true)) after r ≡ true → ⊥ = λ r a. t.gone r a (read r (t.live r a)) in
+      let u : IsTidy m c pc (cut_steps stock cover 0 tested tree true) (live_before m (singles (own_steps stock cover 0 0 tested tree true)) after) (λ r. ⊥) =
+      (spared cover).cuts 0 tested tree true o (live_before m (singles (own_steps stock cover 0 0 tested tree true)) after) none in
+      let all : IsTidy m c pc (cover_steps stock tested tree cover) after (IsIdOf (operands_in left)) =
+      tidy_append m c pc (cut_steps stock cover 0 tested tree true) (own_steps stock cover 0 0 tested tree true) after (λ r. ⊥) (IsIdOf (operands_in left)) (IsIdOf (operands_in left)) u t (λ r h. inr h) in
       record {
         spare = all.spare;
-        given = given_of m c pc (cover_steps stock tested tree plan) no_regs after (λ r h. absurd (all.gone r h (read r (all.live r h))));
+        given = given_of m c pc (cover_steps stock tested tree cover) no_regs after (λ r h. absurd (all.gone r h (read r (all.live r h))));
         apart = all.apart;
         unwanted = not_true (after pc) (λ h. no_operand ps (operands_in left) orderly (read pc h));
       }
 
   -- the second half of what the steps of an orderly cover promise
-  pub steps_spare : (destination : DestinationModel) (tree : ExprModel) (plan : CoverModel) → IsOfJob destination → IsOrderly stock destination tree true plan → AreSpare stock file_storage patterns pc destination tree plan
-  steps_spare (cell a) tree plan j o = stored_spare (cell a) tree plan tt refl (λ r h. h) o
-  steps_spare (stored a) tree plan j o = stored_spare (stored a) tree plan tt refl (λ r h. h) o
+  pub steps_spare : (destination : DestinationModel) (tree : ExprModel) (cover : CoverModel) → IsOfJob destination → IsOrderly stock destination tree true cover → AreSpare stock file_storage patterns pc destination tree cover
+  steps_spare (cell a) tree cover j o = stored_spare (cell a) tree cover tt refl (λ r h. h) o
+  steps_spare (stored a) tree cover j o = stored_spare (stored a) tree cover tt refl (λ r h. h) o
   steps_spare tested tree (use_form k ps cs) j o = test_spare tree k ps cs o
-  steps_spare (into id) tree plan j o = absurd j
-  steps_spare filed tree plan j o = absurd j
-  steps_spare temporary tree plan j o = absurd j
+  steps_spare (into id) tree cover j o = absurd j
+  steps_spare filed tree cover j o = absurd j
+  steps_spare temporary tree cover j o = absurd j

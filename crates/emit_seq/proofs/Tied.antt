@@ -167,28 +167,28 @@ same_homes e e' f cuts homes same h = record {
 }
 
 module _ (temps size : ℕ) (before now : State) (same : (c : ℕ) → temps ≤ c → slice_index now.cells c ≡ slice_index before.cells c) where
-  shape_homes : (e shape t : ExprModel) (f : MatchModel) (cuts : List CutCellsModel) (homes : List (Option ℕ)) → homes_in e ≡ [] → shape_match shape t ≡ Some f → Holds temps size before now f.sites cuts homes → HasHomes e f cuts homes
+  shape_homes : (e shape t : ExprModel) (f : MatchModel) (cuts : List CutCellsModel) (homes : List (Option ℕ)) → homes_in e ≡ [] → shape_match shape t ≡ Some f → Holds temps size before now f.leaves cuts homes → HasHomes e f cuts homes
   shape_homes e shape t f cuts homes n h k =
       let l : Literal shape t f = literal shape t f h in
-      let none : (cuts ≡ []) × (homes ≡ []) = subst (λ (z : MatchModel). Holds temps size before now z.sites cuts homes) (sym l.is) k in
+      let none : (cuts ≡ []) × (homes ≡ []) = subst (λ (z : MatchModel). Holds temps size before now z.leaves cuts homes) (sym l.is) k in
       none_homes e f cuts homes n none.1
 
   cut_homes : (e : ExprModel) (b : Bool) (shape t : ExprModel) (f : MatchModel) (cuts : List CutCellsModel) (homes : List (Option ℕ)) → homes_in e ≡ [] → open_if b (cut shape t) ≡ Some f
-      → Holds temps size before now f.sites cuts homes → HasHomes e f cuts homes
+      → Holds temps size before now f.leaves cuts homes → HasHomes e f cuts homes
   cut_homes e b shape t f cuts homes n h k =
-      let p : (b ≡ true) × (record { setting = 0; sites = cut shape t ∷ [] } ≡ f) = opened _ _ _ h in
-      go cuts (subst (λ (z : MatchModel). Holds temps size before now z.sites cuts homes) (sym p.1) k)
+      let p : (b ≡ true) × (record { setting = 0; leaves = cut shape t ∷ [] } ≡ f) = opened _ _ _ h in
+      go cuts (subst (λ (z : MatchModel). Holds temps size before now z.leaves cuts homes) (sym p.1) k)
     where
       go : (cs : List CutCellsModel) → Holds temps size before now (cut shape t ∷ []) cs homes → HasHomes e f cuts homes
       go [] held = absurd held
       go (c ∷ cs) held = none_homes e f cuts homes n held.3.1
 
-  literal_homes : (e shape t : ExprModel) (f : MatchModel) (cuts : List CutCellsModel) (homes : List (Option ℕ)) → homes_in e ≡ [] → literal_match shape t ≡ Some f → Holds temps size before now f.sites cuts homes → HasHomes e f cuts homes
+  literal_homes : (e shape t : ExprModel) (f : MatchModel) (cuts : List CutCellsModel) (homes : List (Option ℕ)) → homes_in e ≡ [] → literal_match shape t ≡ Some f → Holds temps size before now f.leaves cuts homes → HasHomes e f cuts homes
   literal_homes e shape (read InMemory b w) f cuts homes n h k = shape_homes e shape b f cuts homes n h k
   literal_homes e shape t f cuts homes n h k = absurd (cc)
 
   cell_homes : (e : ExprModel) (shape : ExprModel) (w : ℕ) (t : ExprModel) (whole : Bool) (f : MatchModel) (cuts : List CutCellsModel) (homes : List (Option ℕ)) → homes_in e ≡ [] → cell_match temps shape w t whole ≡ Some f
-      → Holds temps size before now f.sites cuts homes → HasHomes e f cuts homes
+      → Holds temps size before now f.leaves cuts homes → HasHomes e f cuts homes
   cell_homes e shape w t whole f cuts homes n h k =
       let p : ((w == expr_width t) ≡ true)
       × ((if is_cell t then literal_match shape t else open_if (not whole && shows_below shape temps) (cut shape t)) ≡ Some f) = picked _ _ _ h in
@@ -199,12 +199,12 @@ module _ (temps size : ℕ) (before now : State) (same : (c : ℕ) → temps ≤
 
   abbrev Homed : ExprModel → Type 0
   Homed e = (t : ExprModel) (whole : Bool) (f : MatchModel) (cuts : List CutCellsModel) (homes : List (Option ℕ)) → matched temps e t whole ≡ Some f → ReadsFrom temps before t
-      → Holds temps size before now f.sites cuts homes → HasHomes e f cuts homes
+      → Holds temps size before now f.leaves cuts homes → HasHomes e f cuts homes
 
   reg_homes : (id w : ℕ) → Homed (reg id w)
   reg_homes id w t whole f cuts homes h r k =
-      let p : ((w == expr_width t) ≡ true) × (record { setting = 0; sites = operand (in_register id) t whole ∷ [] } ≡ f) = opened _ _ _ h in
-      record { long = long homes (subst (λ (z : MatchModel). Holds temps size before now z.sites cuts homes) (sym p.1) k); filed = λ place a x. absurd (other place a x); bits = λ place a c x y j u. absurd (other place a x) }
+      let p : ((w == expr_width t) ≡ true) × (record { setting = 0; leaves = operand (in_register id) t whole ∷ [] } ≡ f) = opened _ _ _ h in
+      record { long = long homes (subst (λ (z : MatchModel). Holds temps size before now z.leaves cuts homes) (sym p.1) k); filed = λ place a x. absurd (other place a x); bits = λ place a c x y j u. absurd (other place a x) }
     where
       long : (hs : List (Option ℕ)) → Holds temps size before now (operand (in_register id) t whole ∷ []) cuts hs → length hs ≡ 1
       long [] held = absurd held
@@ -216,8 +216,8 @@ module _ (temps size : ℕ) (before now : State) (same : (c : ℕ) → temps ≤
 
   file_homes : (b : ExprModel) (w : ℕ) → Homed (read InFile b w)
   file_homes b w t whole f cuts homes h r k =
-      let p : ((w == expr_width t) ≡ true) × (record { setting = 0; sites = operand (in_file b) t whole ∷ [] } ≡ f) = opened _ _ _ h in
-      let held : Holds temps size before now (operand (in_file b) t whole ∷ []) cuts homes = subst (λ (z : MatchModel). Holds temps size before now z.sites cuts homes) (sym p.1) k in
+      let p : ((w == expr_width t) ≡ true) × (record { setting = 0; leaves = operand (in_file b) t whole ∷ [] } ≡ f) = opened _ _ _ h in
+      let held : Holds temps size before now (operand (in_file b) t whole ∷ []) cuts homes = subst (λ (z : MatchModel). Holds temps size before now z.leaves cuts homes) (sym p.1) k in
       record {
         long = long homes held;
         filed = λ place a x. filed place a homes x held;
@@ -244,12 +244,12 @@ module _ (temps size : ℕ) (before now : State) (same : (c : ℕ) → temps ≤
       first (suc place) a c hs x y held = absurd (cc)
 
   bin_homes : (a b : ExprModel) (op : Op2) → Homed a → Homed b → IsOnce a → IsOnce b → CellsShown size a → CellsShown size b → BitsApart a b → BitsApart b a → (t : ExprModel) (f : MatchModel) (cuts : List CutCellsModel) (homes : List (Option ℕ))
-      → bin_match (matched temps a) (matched temps b) op t ≡ Some f → ReadsFrom temps before t → Holds temps size before now f.sites cuts homes → HasHomes (bin op a b) f cuts homes
+      → bin_match (matched temps a) (matched temps b) op t ≡ Some f → ReadsFrom temps before t → Holds temps size before now f.leaves cuts homes → HasHomes (bin op a b) f cuts homes
   bin_homes a b op iha ihb oa ob qa qb ab ba (bin o c d) f cuts homes h r k =
       let p : (same_op2 o op ≡ true) × (both (matched temps a c false) (matched temps b d false) ≡ Some f) = picked _ _ _ h in
       let j : Joined (matched temps a c false) (matched temps b d false) f = joined _ _ _ p.1 in
-      let s : Split temps size before now j.first.sites j.second.sites cuts homes =
-      split temps size before now j.first.sites j.second.sites cuts homes (subst (λ (z : MatchModel). Holds temps size before now z.sites cuts homes) (sym j.is) k) in
+      let s : Split temps size before now j.first.leaves j.second.leaves cuts homes =
+      split temps size before now j.first.leaves j.second.leaves cuts homes (subst (λ (z : MatchModel). Holds temps size before now z.leaves cuts homes) (sym j.is) k) in
       let x : HasHomes a j.first s.front s.fronts = iha c false j.first s.front s.fronts j.is_first r.0 s.first in
       let y : HasHomes b j.second s.back s.backs = ihb d false j.second s.back s.backs j.is_second r.1 s.second in
       let m : IsMeant temps size before now a c j.first s.front s.fronts = matched_meant temps size before now same a oa qa c false j.first s.front s.fronts j.is_first r.0 s.first in
@@ -290,7 +290,7 @@ module _ (temps size : ℕ) (before now : State) (same : (c : ℕ) → temps ≤
   bin_homes a b op iha ihb oa ob qa qb ab ba t f cuts homes h r k = absurd (cc)
 
   un_homes : (a : ExprModel) (op : Op1) → Homed a → (t : ExprModel) (f : MatchModel) (cuts : List CutCellsModel) (homes : List (Option ℕ)) → un_match (matched temps a) op t ≡ Some f → ReadsFrom temps before t
-      → Holds temps size before now f.sites cuts homes → HasHomes (un op a) f cuts homes
+      → Holds temps size before now f.leaves cuts homes → HasHomes (un op a) f cuts homes
   un_homes a op ih (un o b) f cuts homes h r k =
       let p : (same_op1 o op ≡ true) × (matched temps a b false ≡ Some f) = picked _ _ _ h in
       let x : HasHomes a f cuts homes = ih b false f cuts homes p.1 r k in
@@ -298,28 +298,28 @@ module _ (temps size : ℕ) (before now : State) (same : (c : ℕ) → temps ≤
   un_homes a op ih t f cuts homes h r k = absurd (cc)
 
   read_homes : (a : ExprModel) (w : ℕ) → Homed a → (t : ExprModel) (f : MatchModel) (cuts : List CutCellsModel) (homes : List (Option ℕ)) → read_match (matched temps a) w t ≡ Some f → ReadsFrom temps before t
-      → Holds temps size before now f.sites cuts homes → HasHomes a f cuts homes
+      → Holds temps size before now f.leaves cuts homes → HasHomes a f cuts homes
   read_homes a w ih (read InMemory b v) f cuts homes h r k =
       let p : ((v == w) ≡ true) × (matched temps a b (is_number b) ≡ Some f) = picked _ _ _ h in
       ih b (is_number b) f cuts homes p.1 r.1 k
   read_homes a w ih t f cuts homes h r k = absurd (cc)
 
   slice_homes : (a : ExprModel) (hi lo : ℕ) → Homed a → (t : ExprModel) (f : MatchModel) (cuts : List CutCellsModel) (homes : List (Option ℕ)) → slice_match (matched temps a) (expr_width a) hi lo t ≡ Some f → ReadsFrom temps before t
-      → Holds temps size before now f.sites cuts homes → HasHomes a f cuts homes
+      → Holds temps size before now f.leaves cuts homes → HasHomes a f cuts homes
   slice_homes a hi lo ih (slice b i l) f cuts homes h r k =
       let p : (((expr_width b == expr_width a) && ((i == hi) && (l == lo))) ≡ true) × (matched temps a b false ≡ Some f) = picked _ _ _ h in
       ih b false f cuts homes p.1 r k
   slice_homes a hi lo ih t f cuts homes h r k = absurd (cc)
 
   zext_homes : (a : ExprModel) (w : ℕ) → Homed a → (t : ExprModel) (f : MatchModel) (cuts : List CutCellsModel) (homes : List (Option ℕ)) → zext_match (matched temps a) (expr_width a) w t ≡ Some f → ReadsFrom temps before t
-      → Holds temps size before now f.sites cuts homes → HasHomes a f cuts homes
+      → Holds temps size before now f.leaves cuts homes → HasHomes a f cuts homes
   zext_homes a w ih (zext b v) f cuts homes h r k =
       let p : (((expr_width b == expr_width a) && (v == w)) ≡ true) × (matched temps a b false ≡ Some f) = picked _ _ _ h in
       ih b false f cuts homes p.1 r k
   zext_homes a w ih t f cuts homes h r k = absurd (cc)
 
   sext_homes : (a : ExprModel) (w : ℕ) → Homed a → (t : ExprModel) (f : MatchModel) (cuts : List CutCellsModel) (homes : List (Option ℕ)) → sext_match (matched temps a) (expr_width a) w t ≡ Some f → ReadsFrom temps before t
-      → Holds temps size before now f.sites cuts homes → HasHomes a f cuts homes
+      → Holds temps size before now f.leaves cuts homes → HasHomes a f cuts homes
   sext_homes a w ih (sext b v) f cuts homes h r k =
       let p : (((expr_width b == expr_width a) && (v == w)) ≡ true) × (matched temps a b false ≡ Some f) = picked _ _ _ h in
       ih b false f cuts homes p.1 r k

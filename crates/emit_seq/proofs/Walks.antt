@@ -1,4 +1,4 @@
--- The steps that put the cuts of a form's sites into their cells, from left to right.
+-- The steps that put the cuts of a form's leaves into their cells, from left to right.
 use Rattle.std.proofs.Common.{◌≡◌, ℕ, ◌+◌, ◌<◌, ◌≤◌, ◌⊎◌, inl, inr, List, [], ◌∷◌, ◌++◌, Option, length, drop, slice_index, refl, sym, ap, ◌∙◌, subst, arith}
 use Rattle.std.specs.List.{AllZip}
 use Rattle.net_model.specs.declared.states.State.{State}
@@ -11,45 +11,45 @@ use Rattle.form_model.specs.Steps.{OperandCellsModel, CutCellsModel, operand_cel
 use Rattle.emit_seq.specs.Inner.CellLists.{operands_in, trees_in}
 use Rattle.emit_seq.specs.Leaves.{ReadsFrom}
 use Rattle.emit_seq.proofs.Matched.{AtHome, Holds}
-use Rattle.emit_seq.proofs.Sites.{LeavesRead}
+use Rattle.emit_seq.proofs.MatchLeaves.{LeavesRead}
 use Rattle.form_model.proofs.Zips.{Each, total}
 
 pub effect-steps : {A : Type 0} (m : A → Operation) (xs ys : List A) (s : State) → steps_effect m (xs ++ ys) s ≡ steps_effect m ys (steps_effect m xs s)
 effect-steps m [] ys s = refl
 effect-steps m (x ∷ xs) ys s = effect-steps m xs ys (apply_operation (m x) s s)
 
--- ---- the operands and cuts of sites, with their cells
+-- ---- the operands and cuts of leaves, with their cells
 
-pub cells_operands : (sites : List LeafModel) (ks ls : List ℕ) (n : ℕ) → operands_in (operand_cells sites ks ls n) ≡ operands_of sites
+pub cells_operands : (leaves : List LeafModel) (ks ls : List ℕ) (n : ℕ) → operands_in (operand_cells leaves ks ls n) ≡ operands_of leaves
 cells_operands [] ks ls n = refl
-cells_operands (operand id tree whole ∷ sites) ks ls n = ap (λ (z : List Operand). record { home = id; tree = tree; whole = whole } ∷ z) (cells_operands sites (drop 1 ks) ls (n + slice_index ks 0))
-cells_operands (cut shape tree ∷ sites) ks ls n = cells_operands sites ks (drop 1 ls) (n + slice_index ls 0 + 1)
+cells_operands (operand id tree whole ∷ leaves) ks ls n = ap (λ (z : List Operand). record { home = id; tree = tree; whole = whole } ∷ z) (cells_operands leaves (drop 1 ks) ls (n + slice_index ks 0))
+cells_operands (cut shape tree ∷ leaves) ks ls n = cells_operands leaves ks (drop 1 ls) (n + slice_index ls 0 + 1)
 
-pub cells_trees : (sites : List LeafModel) (ks ls : List ℕ) (n : ℕ) → trees_in (cut_cells sites ks ls n) ≡ cuts_of sites
+pub cells_trees : (leaves : List LeafModel) (ks ls : List ℕ) (n : ℕ) → trees_in (cut_cells leaves ks ls n) ≡ cuts_of leaves
 cells_trees [] ks ls n = refl
-cells_trees (operand id tree whole ∷ sites) ks ls n = cells_trees sites (drop 1 ks) ls (n + slice_index ks 0)
-cells_trees (cut shape tree ∷ sites) ks ls n = ap (λ z. tree ∷ z) (cells_trees sites ks (drop 1 ls) (n + slice_index ls 0 + 1))
+cells_trees (operand id tree whole ∷ leaves) ks ls n = cells_trees leaves (drop 1 ks) ls (n + slice_index ks 0)
+cells_trees (cut shape tree ∷ leaves) ks ls n = ap (λ z. tree ∷ z) (cells_trees leaves ks (drop 1 ls) (n + slice_index ls 0 + 1))
 
--- the cell past those of all sites
+-- the cell past those of all leaves
 abbrev pub past_leaves : List LeafModel → List ℕ → List ℕ → ℕ → ℕ
 past_leaves [] ks ls n = n
-past_leaves (operand id tree whole ∷ sites) ks ls n = past_leaves sites (drop 1 ks) ls (n + slice_index ks 0)
-past_leaves (cut shape tree ∷ sites) ks ls n = past_leaves sites ks (drop 1 ls) (n + slice_index ls 0 + 1)
+past_leaves (operand id tree whole ∷ leaves) ks ls n = past_leaves leaves (drop 1 ks) ls (n + slice_index ks 0)
+past_leaves (cut shape tree ∷ leaves) ks ls n = past_leaves leaves ks (drop 1 ls) (n + slice_index ls 0 + 1)
 
-pub past_more : (sites : List LeafModel) (ks ls : List ℕ) (n : ℕ) → n ≤ past_leaves sites ks ls n
+pub past_more : (leaves : List LeafModel) (ks ls : List ℕ) (n : ℕ) → n ≤ past_leaves leaves ks ls n
 past_more [] ks ls n = omega arith
-past_more (operand id tree whole ∷ sites) ks ls n = let h = past_more sites (drop 1 ks) ls (n + slice_index ks 0) in omega (arith, h)
-past_more (cut shape tree ∷ sites) ks ls n = let h = past_more sites ks (drop 1 ls) (n + slice_index ls 0 + 1) in omega (arith, h)
+past_more (operand id tree whole ∷ leaves) ks ls n = let h = past_more leaves (drop 1 ks) ls (n + slice_index ks 0) in omega (arith, h)
+past_more (cut shape tree ∷ leaves) ks ls n = let h = past_more leaves ks (drop 1 ls) (n + slice_index ls 0 + 1) in omega (arith, h)
 
-pub past_total : (sites : List LeafModel) (ks ls : List ℕ) (n : ℕ) → length ks ≡ length (operands_of sites) → length ls ≡ length (cuts_of sites)
-    → past_leaves sites ks ls n ≡ n + total ks + (total ls + length ls)
+pub past_total : (leaves : List LeafModel) (ks ls : List ℕ) (n : ℕ) → length ks ≡ length (operands_of leaves) → length ls ≡ length (cuts_of leaves)
+    → past_leaves leaves ks ls n ≡ n + total ks + (total ls + length ls)
 past_total [] [] [] n p q = omega arith
 past_total [] [] (l ∷ ls) n p q = absurd (omega arith)
 past_total [] (k ∷ ks) ls n p q = absurd (omega arith)
-past_total (operand id tree whole ∷ sites) [] ls n p q = absurd (omega arith)
-past_total (operand id tree whole ∷ sites) (k ∷ ks) ls n p q = let h = past_total sites ks ls (n + k) (omega arith) q in omega (arith, h)
-past_total (cut shape tree ∷ sites) ks [] n p q = absurd (omega arith)
-past_total (cut shape tree ∷ sites) ks (l ∷ ls) n p q = let h = past_total sites ks ls (n + l + 1) p (omega arith) in omega (arith, h)
+past_total (operand id tree whole ∷ leaves) [] ls n p q = absurd (omega arith)
+past_total (operand id tree whole ∷ leaves) (k ∷ ks) ls n p q = let h = past_total leaves ks ls (n + k) (omega arith) q in omega (arith, h)
+past_total (cut shape tree ∷ leaves) ks [] n p q = absurd (omega arith)
+past_total (cut shape tree ∷ leaves) ks (l ∷ ls) n p q = let h = past_total leaves ks ls (n + l + 1) p (omega arith) in omega (arith, h)
 
 abbrev pub OperandCount : OperandCellsModel → ℕ → Type 0
 OperandCount cells k = cells.past ≡ cells.first + k
@@ -57,52 +57,52 @@ OperandCount cells k = cells.past ≡ cells.first + k
 abbrev pub CutCount : CutCellsModel → ℕ → Type 0
 CutCount cells l = cells.cell ≡ cells.first + l
 
-pub operands_counted : (sites : List LeafModel) (ks ls : List ℕ) (n : ℕ) → length ks ≡ length (operands_of sites) → AllZip OperandCount (operand_cells sites ks ls n) ks
+pub operands_counted : (leaves : List LeafModel) (ks ls : List ℕ) (n : ℕ) → length ks ≡ length (operands_of leaves) → AllZip OperandCount (operand_cells leaves ks ls n) ks
 operands_counted [] [] ls n p = tt
 operands_counted [] (k ∷ ks) ls n p = absurd (omega arith)
-operands_counted (operand id tree whole ∷ sites) [] ls n p = absurd (omega arith)
-operands_counted (operand id tree whole ∷ sites) (k ∷ ks) ls n p = (refl, operands_counted sites ks ls (n + k) (omega arith))
-operands_counted (cut shape tree ∷ sites) ks ls n p = operands_counted sites ks (drop 1 ls) (n + slice_index ls 0 + 1) p
+operands_counted (operand id tree whole ∷ leaves) [] ls n p = absurd (omega arith)
+operands_counted (operand id tree whole ∷ leaves) (k ∷ ks) ls n p = (refl, operands_counted leaves ks ls (n + k) (omega arith))
+operands_counted (cut shape tree ∷ leaves) ks ls n p = operands_counted leaves ks (drop 1 ls) (n + slice_index ls 0 + 1) p
 
-pub cuts_counted : (sites : List LeafModel) (ks ls : List ℕ) (n : ℕ) → length ls ≡ length (cuts_of sites) → AllZip CutCount (cut_cells sites ks ls n) ls
+pub cuts_counted : (leaves : List LeafModel) (ks ls : List ℕ) (n : ℕ) → length ls ≡ length (cuts_of leaves) → AllZip CutCount (cut_cells leaves ks ls n) ls
 cuts_counted [] ks [] n p = tt
 cuts_counted [] ks (l ∷ ls) n p = absurd (omega arith)
-cuts_counted (operand id tree whole ∷ sites) ks ls n p = cuts_counted sites (drop 1 ks) ls (n + slice_index ks 0) p
-cuts_counted (cut shape tree ∷ sites) ks [] n p = absurd (omega arith)
-cuts_counted (cut shape tree ∷ sites) ks (l ∷ ls) n p = (refl, cuts_counted sites ks ls (n + l + 1) (omega arith))
+cuts_counted (operand id tree whole ∷ leaves) ks ls n p = cuts_counted leaves (drop 1 ks) ls (n + slice_index ks 0) p
+cuts_counted (cut shape tree ∷ leaves) ks [] n p = absurd (omega arith)
+cuts_counted (cut shape tree ∷ leaves) ks (l ∷ ls) n p = (refl, cuts_counted leaves ks ls (n + l + 1) (omega arith))
 
-pub operands_below : (sites : List LeafModel) (ks ls : List ℕ) (n low : ℕ) → past_leaves sites ks ls n ≤ low → Each (λ (cells : OperandCellsModel). cells.past ≤ low) (operand_cells sites ks ls n)
+pub operands_below : (leaves : List LeafModel) (ks ls : List ℕ) (n low : ℕ) → past_leaves leaves ks ls n ≤ low → Each (λ (cells : OperandCellsModel). cells.past ≤ low) (operand_cells leaves ks ls n)
 operands_below [] ks ls n low p = tt
-operands_below (operand id tree whole ∷ sites) ks ls n low p =
-    let h = past_more sites (drop 1 ks) ls (n + slice_index ks 0) in (omega (arith, h, p), operands_below sites (drop 1 ks) ls (n + slice_index ks 0) low p)
-operands_below (cut shape tree ∷ sites) ks ls n low p = operands_below sites ks (drop 1 ls) (n + slice_index ls 0 + 1) low p
+operands_below (operand id tree whole ∷ leaves) ks ls n low p =
+    let h = past_more leaves (drop 1 ks) ls (n + slice_index ks 0) in (omega (arith, h, p), operands_below leaves (drop 1 ks) ls (n + slice_index ks 0) low p)
+operands_below (cut shape tree ∷ leaves) ks ls n low p = operands_below leaves ks (drop 1 ls) (n + slice_index ls 0 + 1) low p
 
-pub cuts_below : (sites : List LeafModel) (ks ls : List ℕ) (n low : ℕ) → past_leaves sites ks ls n ≤ low → Each (λ (cells : CutCellsModel). cells.cell < low) (cut_cells sites ks ls n)
+pub cuts_below : (leaves : List LeafModel) (ks ls : List ℕ) (n low : ℕ) → past_leaves leaves ks ls n ≤ low → Each (λ (cells : CutCellsModel). cells.cell < low) (cut_cells leaves ks ls n)
 cuts_below [] ks ls n low p = tt
-cuts_below (operand id tree whole ∷ sites) ks ls n low p = cuts_below sites (drop 1 ks) ls (n + slice_index ks 0) low p
-cuts_below (cut shape tree ∷ sites) ks ls n low p =
-    let h = past_more sites ks (drop 1 ls) (n + slice_index ls 0 + 1) in (omega (arith, h, p), cuts_below sites ks (drop 1 ls) (n + slice_index ls 0 + 1) low p)
+cuts_below (operand id tree whole ∷ leaves) ks ls n low p = cuts_below leaves (drop 1 ks) ls (n + slice_index ks 0) low p
+cuts_below (cut shape tree ∷ leaves) ks ls n low p =
+    let h = past_more leaves ks (drop 1 ls) (n + slice_index ls 0 + 1) in (omega (arith, h, p), cuts_below leaves ks (drop 1 ls) (n + slice_index ls 0 + 1) low p)
 
-pub operands_read : (temps : ℕ) (before : State) (sites : List LeafModel) (ks ls : List ℕ) (n : ℕ) → LeavesRead temps before sites → Each (λ (cells : OperandCellsModel). ReadsFrom temps before cells.operand.tree) (operand_cells sites ks ls n)
+pub operands_read : (temps : ℕ) (before : State) (leaves : List LeafModel) (ks ls : List ℕ) (n : ℕ) → LeavesRead temps before leaves → Each (λ (cells : OperandCellsModel). ReadsFrom temps before cells.operand.tree) (operand_cells leaves ks ls n)
 operands_read temps before [] ks ls n h = tt
-operands_read temps before (operand id tree whole ∷ sites) ks ls n h = (h.0, operands_read temps before sites (drop 1 ks) ls (n + slice_index ks 0) h.1)
-operands_read temps before (cut shape tree ∷ sites) ks ls n h = operands_read temps before sites ks (drop 1 ls) (n + slice_index ls 0 + 1) h.1
+operands_read temps before (operand id tree whole ∷ leaves) ks ls n h = (h.0, operands_read temps before leaves (drop 1 ks) ls (n + slice_index ks 0) h.1)
+operands_read temps before (cut shape tree ∷ leaves) ks ls n h = operands_read temps before leaves ks (drop 1 ls) (n + slice_index ls 0 + 1) h.1
 
-pub cuts_read : (temps : ℕ) (before : State) (sites : List LeafModel) (ks ls : List ℕ) (n : ℕ) → LeavesRead temps before sites → Each (λ (cells : CutCellsModel). ReadsFrom temps before cells.tree) (cut_cells sites ks ls n)
+pub cuts_read : (temps : ℕ) (before : State) (leaves : List LeafModel) (ks ls : List ℕ) (n : ℕ) → LeavesRead temps before leaves → Each (λ (cells : CutCellsModel). ReadsFrom temps before cells.tree) (cut_cells leaves ks ls n)
 cuts_read temps before [] ks ls n h = tt
-cuts_read temps before (operand id tree whole ∷ sites) ks ls n h = cuts_read temps before sites (drop 1 ks) ls (n + slice_index ks 0) h.1
-cuts_read temps before (cut shape tree ∷ sites) ks ls n h = (h.0, cuts_read temps before sites ks (drop 1 ls) (n + slice_index ls 0 + 1) h.1)
+cuts_read temps before (operand id tree whole ∷ leaves) ks ls n h = cuts_read temps before leaves (drop 1 ks) ls (n + slice_index ks 0) h.1
+cuts_read temps before (cut shape tree ∷ leaves) ks ls n h = (h.0, cuts_read temps before leaves ks (drop 1 ls) (n + slice_index ls 0 + 1) h.1)
 
 -- operands in their homes and cuts in their cells
-pub holds_of : (temps size : ℕ) (before now : State) (sites : List LeafModel) (ks ls : List ℕ) (n : ℕ) (homes : List (Option ℕ))
-    → AllZip (λ (cells : OperandCellsModel) (h : Option ℕ). AtHome temps size before now cells.operand.home h cells.operand.tree) (operand_cells sites ks ls n) homes
-    → Each (λ (cells : CutCellsModel). (cells.cell < temps) × (slice_index now.cells cells.cell ≡ mean cells.tree before 0)) (cut_cells sites ks ls n)
-    → Holds temps size before now sites (cut_cells sites ks ls n) homes
+pub holds_of : (temps size : ℕ) (before now : State) (leaves : List LeafModel) (ks ls : List ℕ) (n : ℕ) (homes : List (Option ℕ))
+    → AllZip (λ (cells : OperandCellsModel) (h : Option ℕ). AtHome temps size before now cells.operand.home h cells.operand.tree) (operand_cells leaves ks ls n) homes
+    → Each (λ (cells : CutCellsModel). (cells.cell < temps) × (slice_index now.cells cells.cell ≡ mean cells.tree before 0)) (cut_cells leaves ks ls n)
+    → Holds temps size before now leaves (cut_cells leaves ks ls n) homes
 holds_of temps size before now [] ks ls n [] h k = (refl, refl)
 holds_of temps size before now [] ks ls n (c ∷ homes) h k = absurd h
-holds_of temps size before now (operand home tree whole ∷ sites) ks ls n [] h k = absurd h
-holds_of temps size before now (operand home tree whole ∷ sites) ks ls n (c ∷ homes) h k = (h.0, holds_of temps size before now sites (drop 1 ks) ls (n + slice_index ks 0) homes h.1 k)
-holds_of temps size before now (cut shape tree ∷ sites) ks ls n homes h k = (refl, k.0.0, k.0.1, holds_of temps size before now sites ks (drop 1 ls) (n + slice_index ls 0 + 1) homes h k.1)
+holds_of temps size before now (operand home tree whole ∷ leaves) ks ls n [] h k = absurd h
+holds_of temps size before now (operand home tree whole ∷ leaves) ks ls n (c ∷ homes) h k = (h.0, holds_of temps size before now leaves (drop 1 ks) ls (n + slice_index ks 0) homes h.1 k)
+holds_of temps size before now (cut shape tree ∷ leaves) ks ls n homes h k = (refl, k.0.0, k.0.1, holds_of temps size before now leaves ks (drop 1 ls) (n + slice_index ls 0 + 1) homes h k.1)
 
 -- ---- the walk
 
@@ -166,47 +166,47 @@ module _ {A : Type 0} (m : A → Operation) (temps : ℕ) (before : State) where
     pub same : (c : ℕ) → cells.first ≤ c → c < cells.past → slice_index now.cells c ≡ slice_index (steps_effect m xs from).cells c
 
 -- after the walk from s, where `now` has the cells that it leaves
-pub record IsWalked (temps : ℕ) (before : State) (m : Step → Operation) (sites : List LeafModel) (ks ls : List ℕ) (n : ℕ) (xs ys : List (List Step)) (s now : State) : Type 0 where
-  pub local : IsLocal n (past_leaves sites ks ls n) s (steps_effect m (woven sites xs ys) s)
-  pub filled : AllZip (IsFilled m temps before now) (operand_cells sites ks ls n) xs
-  pub stored : Each (λ (cells : CutCellsModel). slice_index now.cells cells.cell ≡ mean cells.tree before 0) (cut_cells sites ks ls n)
+pub record IsWalked (temps : ℕ) (before : State) (m : Step → Operation) (leaves : List LeafModel) (ks ls : List ℕ) (n : ℕ) (xs ys : List (List Step)) (s now : State) : Type 0 where
+  pub local : IsLocal n (past_leaves leaves ks ls n) s (steps_effect m (woven leaves xs ys) s)
+  pub filled : AllZip (IsFilled m temps before now) (operand_cells leaves ks ls n) xs
+  pub stored : Each (λ (cells : CutCellsModel). slice_index now.cells cells.cell ≡ mean cells.tree before 0) (cut_cells leaves ks ls n)
 
-pub walk : (temps : ℕ) (before : State) (m : Step → Operation) (sites : List LeafModel) (ks ls : List ℕ) (n : ℕ) (xs ys : List (List Step)) → past_leaves sites ks ls n ≤ temps
-    → AllZip (Fills m temps before) (operand_cells sites ks ls n) xs → AllZip (Stores m temps before) (cut_cells sites ks ls n) ys
+pub walk : (temps : ℕ) (before : State) (m : Step → Operation) (leaves : List LeafModel) (ks ls : List ℕ) (n : ℕ) (xs ys : List (List Step)) → past_leaves leaves ks ls n ≤ temps
+    → AllZip (Fills m temps before) (operand_cells leaves ks ls n) xs → AllZip (Stores m temps before) (cut_cells leaves ks ls n) ys
     → (s now : State) → IsKept temps before s
-    → ((c : ℕ) → n ≤ c → c < past_leaves sites ks ls n → slice_index now.cells c ≡ slice_index (steps_effect m (woven sites xs ys) s).cells c)
-    → IsWalked temps before m sites ks ls n xs ys s now
+    → ((c : ℕ) → n ≤ c → c < past_leaves leaves ks ls n → slice_index now.cells c ≡ slice_index (steps_effect m (woven leaves xs ys) s).cells c)
+    → IsWalked temps before m leaves ks ls n xs ys s now
 walk temps before m [] ks ls n [] ys p f g s now k a = record { local = local_refl n n s; filled = tt; stored = tt }
 walk temps before m [] ks ls n (x ∷ xs) ys p f g s now k a = absurd f
-walk temps before m (operand id tree whole ∷ sites) ks ls n [] ys p f g s now k a = absurd f
-walk temps before m (operand id tree whole ∷ sites) ks ls n (x ∷ xs) ys p f g s now k a =
+walk temps before m (operand id tree whole ∷ leaves) ks ls n [] ys p f g s now k a = absurd f
+walk temps before m (operand id tree whole ∷ leaves) ks ls n (x ∷ xs) ys p f g s now k a =
     let mid : ℕ = n + slice_index ks 0 in
-    let high : mid ≤ past_leaves sites (drop 1 ks) ls mid = past_more sites (drop 1 ks) ls mid in
+    let high : mid ≤ past_leaves leaves (drop 1 ks) ls mid = past_more leaves (drop 1 ks) ls mid in
     let t : State = steps_effect m x s in
     let l : IsLocal n mid s t = f.0 s k in
     let kt : IsKept temps before t = kept_local temps before n mid s t (omega (arith, high, p)) k l in
-    let e : steps_effect m (x ++ woven sites xs ys) s ≡ steps_effect m (woven sites xs ys) t = effect-steps m x (woven sites xs ys) s in
-    let w : IsWalked temps before m sites (drop 1 ks) ls mid xs ys t now =
-    walk temps before m sites (drop 1 ks) ls mid xs ys p f.1 g t now kt (λ c lo hi. a c (omega (arith, lo)) hi ∙ ap (λ (z : State). slice_index z.cells c) e) in
+    let e : steps_effect m (x ++ woven leaves xs ys) s ≡ steps_effect m (woven leaves xs ys) t = effect-steps m x (woven leaves xs ys) s in
+    let w : IsWalked temps before m leaves (drop 1 ks) ls mid xs ys t now =
+    walk temps before m leaves (drop 1 ks) ls mid xs ys p f.1 g t now kt (λ c lo hi. a c (omega (arith, lo)) hi ∙ ap (λ (z : State). slice_index z.cells c) e) in
     record {
-      local = subst (λ z. IsLocal n (past_leaves sites (drop 1 ks) ls mid) s z) (sym e)
-          (local_trans n mid mid (past_leaves sites (drop 1 ks) ls mid) s t (steps_effect m (woven sites xs ys) t) (omega arith) (omega arith) high l w.local);
+      local = subst (λ z. IsLocal n (past_leaves leaves (drop 1 ks) ls mid) s z) (sym e)
+          (local_trans n mid mid (past_leaves leaves (drop 1 ks) ls mid) s t (steps_effect m (woven leaves xs ys) t) (omega arith) (omega arith) high l w.local);
       filled = (record { from = s; kept = k; same = λ c lo hi. a c lo (omega (arith, hi, high)) ∙ ap (λ (z : State). slice_index z.cells c) e ∙ w.local.same c (inl hi) }, w.filled);
       stored = w.stored;
     }
-walk temps before m (cut shape tree ∷ sites) ks ls n xs [] p f g s now k a = absurd g
-walk temps before m (cut shape tree ∷ sites) ks ls n xs (y ∷ ys) p f g s now k a =
+walk temps before m (cut shape tree ∷ leaves) ks ls n xs [] p f g s now k a = absurd g
+walk temps before m (cut shape tree ∷ leaves) ks ls n xs (y ∷ ys) p f g s now k a =
     let mid : ℕ = n + slice_index ls 0 + 1 in
-    let high : mid ≤ past_leaves sites ks (drop 1 ls) mid = past_more sites ks (drop 1 ls) mid in
+    let high : mid ≤ past_leaves leaves ks (drop 1 ls) mid = past_more leaves ks (drop 1 ls) mid in
     let t : State = steps_effect m y s in
     let both : IsLocal n mid s t × (slice_index t.cells (n + slice_index ls 0) ≡ mean tree before 0) = g.0 s k in
     let kt : IsKept temps before t = kept_local temps before n mid s t (omega (arith, high, p)) k both.0 in
-    let e : steps_effect m (y ++ woven sites xs ys) s ≡ steps_effect m (woven sites xs ys) t = effect-steps m y (woven sites xs ys) s in
-    let w : IsWalked temps before m sites ks (drop 1 ls) mid xs ys t now =
-    walk temps before m sites ks (drop 1 ls) mid xs ys p f g.1 t now kt (λ c lo hi. a c (omega (arith, lo)) hi ∙ ap (λ (z : State). slice_index z.cells c) e) in
+    let e : steps_effect m (y ++ woven leaves xs ys) s ≡ steps_effect m (woven leaves xs ys) t = effect-steps m y (woven leaves xs ys) s in
+    let w : IsWalked temps before m leaves ks (drop 1 ls) mid xs ys t now =
+    walk temps before m leaves ks (drop 1 ls) mid xs ys p f g.1 t now kt (λ c lo hi. a c (omega (arith, lo)) hi ∙ ap (λ (z : State). slice_index z.cells c) e) in
     record {
-      local = subst (λ z. IsLocal n (past_leaves sites ks (drop 1 ls) mid) s z) (sym e)
-          (local_trans n mid mid (past_leaves sites ks (drop 1 ls) mid) s t (steps_effect m (woven sites xs ys) t) (omega arith) (omega arith) high both.0 w.local);
+      local = subst (λ z. IsLocal n (past_leaves leaves ks (drop 1 ls) mid) s z) (sym e)
+          (local_trans n mid mid (past_leaves leaves ks (drop 1 ls) mid) s t (steps_effect m (woven leaves xs ys) t) (omega arith) (omega arith) high both.0 w.local);
       filled = w.filled;
       stored = (
         a (n + slice_index ls 0) (omega arith) (omega (arith, high)) ∙ ap (λ (z : State). slice_index z.cells (n + slice_index ls 0)) e

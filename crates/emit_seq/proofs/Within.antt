@@ -88,20 +88,20 @@ none_within (Some b) k f = f b refl
 
 -- ---- matches
 
--- the cuts are those of the sites' cuts
+-- the cuts are those of the leaves' cuts
 abbrev pub Named : List LeafModel → List CutCellsModel → List (Option ℕ) → Type 0
 Named [] cuts homes = (cuts ≡ []) × (homes ≡ [])
-Named (operand id tree whole ∷ sites) cuts [] = ⊥
-Named (operand id tree whole ∷ sites) cuts (h ∷ homes) = Named sites cuts homes
-Named (cut shape tree ∷ sites) [] homes = ⊥
-Named (cut shape tree ∷ sites) (cells ∷ cuts) homes = (cells.shape ≡ shape) × Named sites cuts homes
+Named (operand id tree whole ∷ leaves) cuts [] = ⊥
+Named (operand id tree whole ∷ leaves) cuts (h ∷ homes) = Named leaves cuts homes
+Named (cut shape tree ∷ leaves) [] homes = ⊥
+Named (cut shape tree ∷ leaves) (cells ∷ cuts) homes = (cells.shape ≡ shape) × Named leaves cuts homes
 
-pub cuts_named : (sites : List LeafModel) (ks ls : List ℕ) (n : ℕ) (homes : List (Option ℕ)) → length homes ≡ length (operands_of sites) → Named sites (cut_cells sites ks ls n) homes
+pub cuts_named : (leaves : List LeafModel) (ks ls : List ℕ) (n : ℕ) (homes : List (Option ℕ)) → length homes ≡ length (operands_of leaves) → Named leaves (cut_cells leaves ks ls n) homes
 cuts_named [] ks ls n [] e = (refl, refl)
 cuts_named [] ks ls n (h ∷ homes) e = absurd (omega (arith, e))
-cuts_named (operand id tree whole ∷ sites) ks ls n [] e = absurd (omega (arith, e))
-cuts_named (operand id tree whole ∷ sites) ks ls n (h ∷ homes) e = cuts_named sites (drop 1 ks) ls (n + slice_index ks 0) homes (omega (arith, e))
-cuts_named (cut shape tree ∷ sites) ks ls n homes e = (refl, cuts_named sites ks (drop 1 ls) (n + slice_index ls 0 + 1) homes e)
+cuts_named (operand id tree whole ∷ leaves) ks ls n [] e = absurd (omega (arith, e))
+cuts_named (operand id tree whole ∷ leaves) ks ls n (h ∷ homes) e = cuts_named leaves (drop 1 ks) ls (n + slice_index ks 0) homes (omega (arith, e))
+cuts_named (cut shape tree ∷ leaves) ks ls n homes e = (refl, cuts_named leaves ks (drop 1 ls) (n + slice_index ls 0 + 1) homes e)
 
 pub record NamedSplit (xs ys : List LeafModel) (cuts : List CutCellsModel) (homes : List (Option ℕ)) : Type 0 where
   pub front : List CutCellsModel
@@ -175,22 +175,22 @@ named_split (cut shape tree ∷ xs) ys (cells ∷ cuts) homes h =
 abbrev pub IsIn : ℕ → MatchModel → List CutCellsModel → List (Option ℕ) → Type 0
 IsIn mask f cuts homes = (k : ℕ) → bit_at mask k ≡ 0 → bit_at (bits_in f cuts homes) k ≡ 0
 
-pub pair_in : (x y f : MatchModel) (cuts front back : List CutCellsModel) (homes fronts backs : List (Option ℕ)) (a b : ℕ) → record { setting = bit_or x.setting y.setting; sites = x.sites ++ y.sites } ≡ f
-    → ((k : ℕ) → bit_at (open_bits (x.sites ++ y.sites) cuts homes) k ≡ max (bit_at (open_bits x.sites front fronts) k) (bit_at (open_bits y.sites back backs) k)) → IsIn a x front fronts → IsIn b y back backs → IsIn (bit_or a b) f cuts homes
+pub pair_in : (x y f : MatchModel) (cuts front back : List CutCellsModel) (homes fronts backs : List (Option ℕ)) (a b : ℕ) → record { setting = bit_or x.setting y.setting; leaves = x.leaves ++ y.leaves } ≡ f
+    → ((k : ℕ) → bit_at (open_bits (x.leaves ++ y.leaves) cuts homes) k ≡ max (bit_at (open_bits x.leaves front fronts) k) (bit_at (open_bits y.leaves back backs) k)) → IsIn a x front fronts → IsIn b y back backs → IsIn (bit_or a b) f cuts homes
 pair_in x y f cuts front back homes fronts backs a b e g p q k z =
     omega (arith, pair_bits x y f cuts front back homes fronts backs e g k, p k (zero_left a b k z), q k (zero_right a b k z))
 
-shape_in : (e t : ExprModel) (f : MatchModel) (cuts : List CutCellsModel) (homes : List (Option ℕ)) → shape_match e t ≡ Some f → Named f.sites cuts homes → IsIn (fields e) f cuts homes
+shape_in : (e t : ExprModel) (f : MatchModel) (cuts : List CutCellsModel) (homes : List (Option ℕ)) → shape_match e t ≡ Some f → Named f.leaves cuts homes → IsIn (fields e) f cuts homes
 shape_in e t f cuts homes h n k z =
     let l : Literal e t f = literal e t f h in
-    let none : (cuts ≡ []) × (homes ≡ []) = subst (λ (y : MatchModel). Named y.sites cuts homes) (sym l.is) n in
+    let none : (cuts ≡ []) × (homes ≡ []) = subst (λ (y : MatchModel). Named y.leaves cuts homes) (sym l.is) n in
     ap (λ (y : MatchModel). bit_at (bits_in y cuts homes) k) (sym l.is) ∙ ap (λ y. bit_at (bit_or l.bits (open_bits [] y homes)) k) none.0
     ∙ ap (λ y. bit_at (bit_or l.bits (open_bits [] [] y)) k) none.1 ∙ none_open l.bits k
     ∙ shape_within e l.value l.bits l.shown k z
 
 module _ (temps : ℕ) where
   abbrev IsKept : ExprModel → Type 0
-  IsKept a = (t : ExprModel) (whole : Bool) (f : MatchModel) (cuts : List CutCellsModel) (homes : List (Option ℕ)) → matched temps a t whole ≡ Some f → Named f.sites cuts homes → IsIn (fields a) f cuts homes
+  IsKept a = (t : ExprModel) (whole : Bool) (f : MatchModel) (cuts : List CutCellsModel) (homes : List (Option ℕ)) → matched temps a t whole ≡ Some f → Named f.leaves cuts homes → IsIn (fields a) f cuts homes
 
   -- the bits of one operand
   home_in : (home : HomeModel) (mask : ℕ) (t : ExprModel) (whole : Bool) (cuts : List CutCellsModel) (homes : List (Option ℕ)) → ((h : Option ℕ) (k : ℕ) → bit_at mask k ≡ 0 → bit_at (home_setting home h) k ≡ 0)
@@ -203,50 +203,50 @@ module _ (temps : ℕ) where
 
   reg_in : (id w : ℕ) → IsKept (reg id w)
   reg_in id w t whole f cuts homes h n k z =
-      let p : ((w == expr_width t) ≡ true) × (record { setting = 0; sites = operand (in_register id) t whole ∷ [] } ≡ f) = opened _ _ _ h in
+      let p : ((w == expr_width t) ≡ true) × (record { setting = 0; leaves = operand (in_register id) t whole ∷ [] } ≡ f) = opened _ _ _ h in
       ap (λ (y : MatchModel). bit_at (bits_in y cuts homes) k) (sym p.1)
-      ∙ home_in (in_register id) 0 t whole cuts homes (λ c j q. bit_at-zero j) (subst (λ (y : MatchModel). Named y.sites cuts homes) (sym p.1) n) k (bit_at-zero k)
+      ∙ home_in (in_register id) 0 t whole cuts homes (λ c j q. bit_at-zero j) (subst (λ (y : MatchModel). Named y.leaves cuts homes) (sym p.1) n) k (bit_at-zero k)
 
   file_in : (a : ExprModel) (w : ℕ) → IsKept (read InFile a w)
   file_in a w t whole f cuts homes h n k z =
-      let p : ((w == expr_width t) ≡ true) × (record { setting = 0; sites = operand (in_file a) t whole ∷ [] } ≡ f) = opened _ _ _ h in
+      let p : ((w == expr_width t) ≡ true) × (record { setting = 0; leaves = operand (in_file a) t whole ∷ [] } ≡ f) = opened _ _ _ h in
       ap (λ (y : MatchModel). bit_at (bits_in y cuts homes) k) (sym p.1)
-      ∙ home_in (in_file a) (fields a) t whole cuts homes named (subst (λ (y : MatchModel). Named y.sites cuts homes) (sym p.1) n) k z
+      ∙ home_in (in_file a) (fields a) t whole cuts homes named (subst (λ (y : MatchModel). Named y.leaves cuts homes) (sym p.1) n) k z
     where
       named : (c : Option ℕ) (j : ℕ) → bit_at (fields a) j ≡ 0 → bit_at (home_setting (in_file a) c) j ≡ 0
       named None j q = bit_at-zero j
       named (Some c) j q = none_within (shape_setting a c) j (λ b e. shape_within a c b e j q)
 
-  un_in : (a : ExprModel) (op : Op1) → IsKept a → (t : ExprModel) (f : MatchModel) (cuts : List CutCellsModel) (homes : List (Option ℕ)) → un_match (matched temps a) op t ≡ Some f → Named f.sites cuts homes → IsIn (fields a) f cuts homes
+  un_in : (a : ExprModel) (op : Op1) → IsKept a → (t : ExprModel) (f : MatchModel) (cuts : List CutCellsModel) (homes : List (Option ℕ)) → un_match (matched temps a) op t ≡ Some f → Named f.leaves cuts homes → IsIn (fields a) f cuts homes
   un_in a op ih (un o b) f cuts homes h n =
       let p : (same_op1 o op ≡ true) × (matched temps a b false ≡ Some f) = picked _ _ _ h in ih b false f cuts homes p.1 n
   un_in a op ih t f cuts homes h n = absurd (cc)
 
   bin_in : (a b : ExprModel) (op : Op2) → IsKept a → IsKept b → (t : ExprModel) (f : MatchModel) (cuts : List CutCellsModel) (homes : List (Option ℕ)) → bin_match (matched temps a) (matched temps b) op t ≡ Some f
-      → Named f.sites cuts homes → IsIn (bit_or (fields a) (fields b)) f cuts homes
+      → Named f.leaves cuts homes → IsIn (bit_or (fields a) (fields b)) f cuts homes
   bin_in a b op iha ihb (bin o c d) f cuts homes h n =
       let p : (same_op2 o op ≡ true) × (both (matched temps a c false) (matched temps b d false) ≡ Some f) = picked _ _ _ h in
       let j : Joined (matched temps a c false) (matched temps b d false) f = joined _ _ _ p.1 in
-      let s : NamedSplit j.first.sites j.second.sites cuts homes = named_split j.first.sites j.second.sites cuts homes (subst (λ (y : MatchModel). Named y.sites cuts homes) (sym j.is) n) in
+      let s : NamedSplit j.first.leaves j.second.leaves cuts homes = named_split j.first.leaves j.second.leaves cuts homes (subst (λ (y : MatchModel). Named y.leaves cuts homes) (sym j.is) n) in
       pair_in j.first j.second f cuts s.front s.back homes s.fronts s.backs (fields a) (fields b) j.is s.bits_of (iha c false j.first s.front s.fronts j.is_first s.first) (ihb d false j.second s.back s.backs j.is_second s.second)
   bin_in a b op iha ihb t f cuts homes h n = absurd (cc)
 
-  read_in : (a : ExprModel) (w : ℕ) → IsKept a → (t : ExprModel) (f : MatchModel) (cuts : List CutCellsModel) (homes : List (Option ℕ)) → read_match (matched temps a) w t ≡ Some f → Named f.sites cuts homes → IsIn (fields a) f cuts homes
+  read_in : (a : ExprModel) (w : ℕ) → IsKept a → (t : ExprModel) (f : MatchModel) (cuts : List CutCellsModel) (homes : List (Option ℕ)) → read_match (matched temps a) w t ≡ Some f → Named f.leaves cuts homes → IsIn (fields a) f cuts homes
   read_in a w ih (read InMemory b v) f cuts homes h n =
       let p : ((v == w) ≡ true) × (matched temps a b (is_number b) ≡ Some f) = picked _ _ _ h in ih b (is_number b) f cuts homes p.1 n
   read_in a w ih t f cuts homes h n = absurd (cc)
 
-  number_in : (a t : ExprModel) (f : MatchModel) (cuts : List CutCellsModel) (homes : List (Option ℕ)) → literal_match a t ≡ Some f → Named f.sites cuts homes → IsIn (fields a) f cuts homes
+  number_in : (a t : ExprModel) (f : MatchModel) (cuts : List CutCellsModel) (homes : List (Option ℕ)) → literal_match a t ≡ Some f → Named f.leaves cuts homes → IsIn (fields a) f cuts homes
   number_in a (read InMemory b v) f cuts homes h n = shape_in a b f cuts homes h n
   number_in a t f cuts homes h n = absurd (cc)
 
-  cut_in : (a t : ExprModel) (b : Bool) (f : MatchModel) (cuts : List CutCellsModel) (homes : List (Option ℕ)) → open_if b (cut a t) ≡ Some f → Named f.sites cuts homes → IsIn (fields a) f cuts homes
+  cut_in : (a t : ExprModel) (b : Bool) (f : MatchModel) (cuts : List CutCellsModel) (homes : List (Option ℕ)) → open_if b (cut a t) ≡ Some f → Named f.leaves cuts homes → IsIn (fields a) f cuts homes
   cut_in a t b f [] homes h n k z =
-      let p : (b ≡ true) × (record { setting = 0; sites = cut a t ∷ [] } ≡ f) = opened _ _ _ h in
-      absurd (subst (λ (y : MatchModel). Named y.sites [] homes) (sym p.1) n)
+      let p : (b ≡ true) × (record { setting = 0; leaves = cut a t ∷ [] } ≡ f) = opened _ _ _ h in
+      absurd (subst (λ (y : MatchModel). Named y.leaves [] homes) (sym p.1) n)
   cut_in a t b f (cells ∷ cuts) homes h n k z =
-      let p : (b ≡ true) × (record { setting = 0; sites = cut a t ∷ [] } ≡ f) = opened _ _ _ h in
-      let held : (cells.shape ≡ a) × ((cuts ≡ []) × (homes ≡ [])) = subst (λ (y : MatchModel). Named y.sites (cells ∷ cuts) homes) (sym p.1) n in
+      let p : (b ≡ true) × (record { setting = 0; leaves = cut a t ∷ [] } ≡ f) = opened _ _ _ h in
+      let held : (cells.shape ≡ a) × ((cuts ≡ []) × (homes ≡ [])) = subst (λ (y : MatchModel). Named y.leaves (cells ∷ cuts) homes) (sym p.1) n in
       let there : ℕ = bits_or_none (shape_setting cells.shape cells.cell) in
       ap (λ (y : MatchModel). bit_at (bits_in y (cells ∷ cuts) homes) k) (sym p.1)
       ∙ ap (λ y. bit_at (bit_or 0 (bit_or (bit_or there (cells_setting y)) (homes_setting [] homes))) k) held.1.0
@@ -254,7 +254,7 @@ module _ (temps : ℕ) where
       ∙ ap (λ y. bit_at (bits_or_none (shape_setting y cells.cell)) k) held.0
       ∙ none_within (shape_setting a cells.cell) k (λ c e. shape_within a cells.cell c e k z)
 
-  cell_in : (a : ExprModel) (w : ℕ) (t : ExprModel) (whole : Bool) (f : MatchModel) (cuts : List CutCellsModel) (homes : List (Option ℕ)) → cell_match temps a w t whole ≡ Some f → Named f.sites cuts homes → IsIn (fields a) f cuts homes
+  cell_in : (a : ExprModel) (w : ℕ) (t : ExprModel) (whole : Bool) (f : MatchModel) (cuts : List CutCellsModel) (homes : List (Option ℕ)) → cell_match temps a w t whole ≡ Some f → Named f.leaves cuts homes → IsIn (fields a) f cuts homes
   cell_in a w t whole f cuts homes h n =
       let p : ((w == expr_width t) ≡ true)
       × ((if is_cell t then literal_match a t else open_if (not whole && shows_below a temps) (cut a t)) ≡ Some f) = picked _ _ _ h in
@@ -263,17 +263,17 @@ module _ (temps : ℕ) where
         | inr l ↦ cut_in a t _ f cuts homes l n
       ]
 
-  slice_in : (a : ExprModel) (hi lo : ℕ) → IsKept a → (t : ExprModel) (f : MatchModel) (cuts : List CutCellsModel) (homes : List (Option ℕ)) → slice_match (matched temps a) (expr_width a) hi lo t ≡ Some f → Named f.sites cuts homes → IsIn (fields a) f cuts homes
+  slice_in : (a : ExprModel) (hi lo : ℕ) → IsKept a → (t : ExprModel) (f : MatchModel) (cuts : List CutCellsModel) (homes : List (Option ℕ)) → slice_match (matched temps a) (expr_width a) hi lo t ≡ Some f → Named f.leaves cuts homes → IsIn (fields a) f cuts homes
   slice_in a hi lo ih (slice b h' l') f cuts homes h n =
       let p : (((expr_width b == expr_width a) && ((h' == hi) && (l' == lo))) ≡ true) × (matched temps a b false ≡ Some f) = picked _ _ _ h in ih b false f cuts homes p.1 n
   slice_in a hi lo ih t f cuts homes h n = absurd (cc)
 
-  zext_in : (a : ExprModel) (w : ℕ) → IsKept a → (t : ExprModel) (f : MatchModel) (cuts : List CutCellsModel) (homes : List (Option ℕ)) → zext_match (matched temps a) (expr_width a) w t ≡ Some f → Named f.sites cuts homes → IsIn (fields a) f cuts homes
+  zext_in : (a : ExprModel) (w : ℕ) → IsKept a → (t : ExprModel) (f : MatchModel) (cuts : List CutCellsModel) (homes : List (Option ℕ)) → zext_match (matched temps a) (expr_width a) w t ≡ Some f → Named f.leaves cuts homes → IsIn (fields a) f cuts homes
   zext_in a w ih (zext b v) f cuts homes h n =
       let p : (((expr_width b == expr_width a) && (v == w)) ≡ true) × (matched temps a b false ≡ Some f) = picked _ _ _ h in ih b false f cuts homes p.1 n
   zext_in a w ih t f cuts homes h n = absurd (cc)
 
-  sext_in : (a : ExprModel) (w : ℕ) → IsKept a → (t : ExprModel) (f : MatchModel) (cuts : List CutCellsModel) (homes : List (Option ℕ)) → sext_match (matched temps a) (expr_width a) w t ≡ Some f → Named f.sites cuts homes → IsIn (fields a) f cuts homes
+  sext_in : (a : ExprModel) (w : ℕ) → IsKept a → (t : ExprModel) (f : MatchModel) (cuts : List CutCellsModel) (homes : List (Option ℕ)) → sext_match (matched temps a) (expr_width a) w t ≡ Some f → Named f.leaves cuts homes → IsIn (fields a) f cuts homes
   sext_in a w ih (sext b v) f cuts homes h n =
       let p : (((expr_width b == expr_width a) && (v == w)) ≡ true) × (matched temps a b false ≡ Some f) = picked _ _ _ h in ih b false f cuts homes p.1 n
   sext_in a w ih t f cuts homes h n = absurd (cc)

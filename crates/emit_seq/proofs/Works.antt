@@ -20,12 +20,12 @@ use Rattle.emit_seq.specs.Formed.{AreFormed}
 use Rattle.emit_seq.specs.Leaves.{ReadsFrom, placed, DestinationReads}
 use Rattle.emit_seq.proofs.BitUnions.{zero_left, zero_right}
 use Rattle.emit_seq.proofs.Matched.{AtHome, Holds}
-use Rattle.emit_seq.proofs.Sites.{LeavesRead}
+use Rattle.emit_seq.proofs.MatchLeaves.{LeavesRead}
 use Rattle.form_model.proofs.NeedLaws.{goal_cells, cells_left}
 use Rattle.form_model.proofs.Zips.{Each, each_at, each_weaker, each_both, zip_put, zip_at}
 use Rattle.emit_seq.specs.Inner.CellLists.{operands_in, trees_in}
 use Rattle.emit_seq.proofs.Walks.{effect-steps, cells_operands, cells_trees, past_leaves, OperandCount, CutCount, operands_counted, cuts_counted, operands_below, cuts_below, operands_read, cuts_read, holds_of, IsLocal, IsKept, kept_local, Fills, Stores, IsFilled, IsWalked, walk}
-use Rattle.emit_seq.proofs.Opened.{IsOpened, opened_cover, IsOpenedOperand, opened_operand, operands_long, cuts_long, past_cover, into_formed, writes_own, goal_sites}
+use Rattle.emit_seq.proofs.Opened.{IsOpened, opened_cover, IsOpenedOperand, opened_operand, operands_long, cuts_long, past_cover, into_formed, writes_own, goal_leaves}
 use Rattle.emit_seq.proofs.Forms.{OwnBelow, OwnIn, form_done}
 use Rattle.emit_seq.proofs.FreeCells.{free_count, all_free, held_same, held_more, IsFree, left_some, left_none, room_left, cell_free, tied_is}
 
@@ -42,7 +42,7 @@ module _ (stock : StockModel) (file_storage : Option ℕ) (patterns : List Patte
   -- operands in their homes and cuts in their cells, for the form at the root
   abbrev pub CoverHolds : CoverModel → ℕ → ℕ → DestinationModel → ExprModel → Bool → State → Type 0
   CoverHolds (use_form k ps cs) n held destination tree whole mid =
-      Holds low size before mid (match_at stock k destination tree whole).sites (cover_cut_cells (match_at stock k destination tree whole).sites ps cs n) (operand_homes stock ps held)
+      Holds low size before mid (match_at stock k destination tree whole).leaves (cover_cut_cells (match_at stock k destination tree whole).leaves ps cs n) (operand_homes stock ps held)
 
   -- from s the cover's own steps lead to a state in which its operands stand, and put the value of
   -- the tree into its destination; the cells of the file that are held stay
@@ -52,7 +52,7 @@ module _ (stock : StockModel) (file_storage : Option ℕ) (patterns : List Patte
     pub regs : length mid.regs ≡ length s.regs
     pub file : length mid.file ≡ length s.file
     pub stay : (c : ℕ) → bit_at held c ≡ 1 → slice_index mid.file c ≡ slice_index s.file c
-    pub kept : (r : ℕ) → bit_at (written stock.rules p) r ≡ 0 → slice_index mid.regs r ≡ slice_index s.regs r
+    pub kept : (r : ℕ) → bit_at (written stock.forms p) r ≡ 0 → slice_index mid.regs r ≡ slice_index s.regs r
     pub holds : CoverHolds p n held destination tree whole mid
     pub ends : steps_effect m (own_steps stock p n held destination tree whole) s ≡ placed before mid destination (n + cut_count p) (cell_of stock p held) (mean tree before 0)
 
@@ -61,7 +61,7 @@ module _ (stock : StockModel) (file_storage : Option ℕ) (patterns : List Patte
   pub record IsGood (p : CoverModel) : Type 0 where
     pub quiet : (n : ℕ) (destination : DestinationModel) (tree : ExprModel) (whole : Bool) → IsOrderly stock destination tree whole p → ReadsFrom low before tree → DestinationReads low before destination
         → n + cut_count p ≤ low → (s : State) → IsKept low before s → IsLocal n (n + cut_count p) s (steps_effect m (cut_steps stock p n destination tree whole) s)
-    pub works : (n held : ℕ) (destination : DestinationModel) (tree : ExprModel) (whole : Bool) → IsOrderly stock destination tree whole p → need stock.rules p ≤ free_count held size → ReadsFrom low before tree → DestinationReads low before destination
+    pub works : (n held : ℕ) (destination : DestinationModel) (tree : ExprModel) (whole : Bool) → IsOrderly stock destination tree whole p → need stock.forms p ≤ free_count held size → ReadsFrom low before tree → DestinationReads low before destination
         → n + cut_count p ≤ low → OwnBelow destination (n + cut_count p) low → (s : State) → IsKept low before s → (from : State) → IsKept low before from
         → ((c : ℕ) → n ≤ c → c < n + cut_count p → slice_index s.cells c ≡ slice_index (steps_effect m (cut_steps stock p n destination tree whole) from).cells c)
         → IsDone p n held destination tree whole s
@@ -83,13 +83,13 @@ module _ (stock : StockModel) (file_storage : Option ℕ) (patterns : List Patte
     regs : length t.regs ≡ length s.regs
     file : length t.file ≡ length s.file
     stay : (c : ℕ) → bit_at held c ≡ 1 → slice_index t.file c ≡ slice_index s.file c
-    kept : (r : ℕ) → bit_at (all_written stock.rules ps) r ≡ 0 → slice_index t.regs r ≡ slice_index s.regs r
+    kept : (r : ℕ) → bit_at (all_written stock.forms ps) r ≡ 0 → slice_index t.regs r ≡ slice_index s.regs r
     homes : AllZip (IsHeld t) left (operand_homes stock ps held)
 
   record AreGood (ps : CoverOperandsModel) : Type 0 where
     fills : (left : List OperandCellsModel) → AreOrderly stock (operands_in left) ps → Each OperandFits left → AllZip OperandCount left (operand_counts ps)
         → AllZip (Fills m low before) left (inside_operands stock ps left)
-    evaluates : (held : ℕ) (left : List OperandCellsModel) → AreOrderly stock (operands_in left) ps → operands_need stock.rules ps ≤ free_count held size → Each OperandFits left → AllZip OperandCount left (operand_counts ps)
+    evaluates : (held : ℕ) (left : List OperandCellsModel) → AreOrderly stock (operands_in left) ps → operands_need stock.forms ps ≤ free_count held size → Each OperandFits left → AllZip OperandCount left (operand_counts ps)
         → (s : State) → IsKept low before s → AllZip (IsFilled m low before s) left (inside_operands stock ps left)
         → IsEvaluated ps held left s (steps_effect m (operand_steps stock ps left held) s)
 
@@ -105,15 +105,15 @@ module _ (stock : StockModel) (file_storage : Option ℕ) (patterns : List Patte
       let f : IsFilled m low before now cells x = h.0 in
       (record { from = f.from; kept = f.kept; same = λ c lo hi. ap (λ z. slice_index z c) e ∙ f.same c lo hi }, filled_same now next e left xs h.1)
 
-  module _ (count : ℕ) (formed : AreFormed file_storage patterns count stock.file stock.rules) (wide : count ≡ length before.regs) (large : low ≤ length before.cells) (roomy : stock.file ≤ length before.file) where
+  module _ (count : ℕ) (formed : AreFormed file_storage patterns count stock.file stock.forms) (wide : count ≡ length before.regs) (large : low ≤ length before.cells) (roomy : stock.file ≤ length before.file) where
     -- a cover into a register writes it
-    cover_into : (p : CoverModel) (id : ℕ) (tree : ExprModel) (whole : Bool) → IsOrderly stock (into id) tree whole p → (id < count) × (bit_at (written stock.rules p) id ≡ 1)
+    cover_into : (p : CoverModel) (id : ℕ) (tree : ExprModel) (whole : Bool) → IsOrderly stock (into id) tree whole p → (id < count) × (bit_at (written stock.forms p) id ≡ 1)
     cover_into (use_form k ps cs) id tree whole c =
         let w : IsOpened stock k ps cs (into id) tree whole = opened_cover stock k ps cs (into id) tree whole c in
         let f : (id < count) × (bit_at (form_at stock k).clobbers id ≡ 1) =
         into_formed stock.temps file_storage patterns count stock.file (form_at stock k) (form_at stock k).goal id tree whole (match_at stock k (into id) tree whole)
         (formed k (form_at stock k) w.listed) w.takes in
-        (f.0, writes_own stock.rules k (form_at stock k) ps cs id w.listed f.1)
+        (f.0, writes_own stock.forms k (form_at stock k) ps cs id w.listed f.1)
 
     -- a value put into its home: it is there, and no other register and no other cell has changed
     record IsHomed (home : HomeModel) (own_cell : Option ℕ) (v : ℕ) (mid t : State) : Type 0 where
@@ -167,7 +167,7 @@ module _ (stock : StockModel) (file_storage : Option ℕ) (patterns : List Patte
     home_reads (in_file shape) = tt
 
     -- one operand's own steps
-    operand_done : (held i : ℕ) (p : CoverModel) (ps : CoverOperandsModel) → IsGood p → (left : List OperandCellsModel) → AreOrderly stock (operands_in left) (operand_then i p ps) → need stock.rules p ≤ free_count held size → Each OperandFits left
+    operand_done : (held i : ℕ) (p : CoverModel) (ps : CoverOperandsModel) → IsGood p → (left : List OperandCellsModel) → AreOrderly stock (operands_in left) (operand_then i p ps) → need stock.forms p ≤ free_count held size → Each OperandFits left
         → AllZip OperandCount left (operand_counts (operand_then i p ps)) → (s : State) → IsKept low before s
         → AllZip (IsFilled m low before s) left (inside_operands stock (operand_then i p ps) left)
         → IsDone p (operand_cells_or_none (slice_get left i)).first held (home_destination (operand_cells_or_none (slice_get left i)).operand.home) (operand_cells_or_none (slice_get left i)).operand.tree
@@ -202,7 +202,7 @@ module _ (stock : StockModel) (file_storage : Option ℕ) (patterns : List Patte
             zip_put (Fills m low before) left (inside_operands stock ps (remove left i)) i cells seg w.at head
             (rest.fills (remove left i) w.rest fits.1 long.1)
 
-        evaluates' : (held : ℕ) (left : List OperandCellsModel) → AreOrderly stock (operands_in left) (operand_then i p ps) → operands_need stock.rules (operand_then i p ps) ≤ free_count held size → Each OperandFits left → AllZip OperandCount left (operand_counts (operand_then i p ps))
+        evaluates' : (held : ℕ) (left : List OperandCellsModel) → AreOrderly stock (operands_in left) (operand_then i p ps) → operands_need stock.forms (operand_then i p ps) ≤ free_count held size → Each OperandFits left → AllZip OperandCount left (operand_counts (operand_then i p ps))
             → (s : State) → IsKept low before s → AllZip (IsFilled m low before s) left (inside_operands stock (operand_then i p ps) left)
             → IsEvaluated (operand_then i p ps) held left s (steps_effect m (operand_steps stock (operand_then i p ps) left held) s)
         evaluates' held left c room f z s k y =
@@ -215,15 +215,15 @@ module _ (stock : StockModel) (file_storage : Option ℕ) (patterns : List Patte
             let w : IsOpenedOperand stock left i cells p ps = opened_operand stock left i p ps c in
             let own : List Step = own_steps stock p cells.first held into_home cells.operand.tree cells.operand.whole in
             let later : List Step = operand_steps stock ps (remove left i) more in
-            let needs : need stock.rules p ≤ free_count held size = omega (arith, room) in
+            let needs : need stock.forms p ≤ free_count held size = omega (arith, room) in
             let free : IsFree size held cell = cell_free stock p held needs in
-            let left_more : operands_need stock.rules ps ≤ free_count more size = room_left stock p held (operands_need stock.rules ps) free (omega (arith, room)) in
-            let takes : left_cells stock.rules p ≡ home_cells home = cells_left stock p home cells.operand.tree cells.operand.whole w.orderly in
+            let left_more : operands_need stock.forms ps ≤ free_count more size = room_left stock p held (operands_need stock.forms ps) free (omega (arith, room)) in
+            let takes : left_cells stock.forms p ≡ home_cells home = cells_left stock p home cells.operand.tree cells.operand.whole w.orderly in
             let given : home_cells home ≡ 1 → (d : ℕ) × (cell ≡ Some d) = λ one. left_some stock p held (takes ∙ one) in
             let none : home_cells home ≡ 0 → cell ≡ None = λ no. left_none stock p held (takes ∙ no) in
             let d : IsDone p cells.first held into_home cells.operand.tree cells.operand.whole s = operand_done held i p ps good left c needs f z s k y in
             let t : State = placed before d.mid into_home (cells.first + cut_count p) cell v in
-            let at : (r : ℕ) → home ≡ in_register r → (r < count) × (bit_at (written stock.rules p) r ≡ 1) =
+            let at : (r : ℕ) → home ≡ in_register r → (r < count) × (bit_at (written stock.forms p) r ≡ 1) =
             λ r e. cover_into p r cells.operand.tree cells.operand.whole (subst (λ q. IsOrderly stock (home_destination q) cells.operand.tree cells.operand.whole p) e w.orderly) in
             let h : IsHomed home cell v d.mid t =
             homed home cell (cells.first + cut_count p) v d.mid (λ r e. (let a = (at r e).0 in omega (arith, a, wide, d.regs, k.regs)))
@@ -242,7 +242,7 @@ module _ (stock : StockModel) (file_storage : Option ℕ) (patterns : List Patte
             let e : IsEvaluated ps more (remove left i) t (steps_effect m later t) =
             rest.evaluates more (remove left i) w.rest left_more fits.1 counts.1 t kt (filled_same s t (h.cells ∙ d.cells) (remove left i) (inside_operands stock ps (remove left i)) filled) in
             let all : steps_effect m (own ++ later) s ≡ steps_effect m later t = effect-steps m own later s ∙ ap (λ q. steps_effect m later q) d.ends in
-            let apart : (r : ℕ) → bit_at (written stock.rules p) r ≡ 0 → home ≡ in_register r → ⊥ = λ r b q. (let a = (at r q).1 in omega (arith, a, b)) in
+            let apart : (r : ℕ) → bit_at (written stock.forms p) r ≡ 0 → home ≡ in_register r → ⊥ = λ r b q. (let a = (at r q).1 in omega (arith, a, b)) in
             let away : (q : ℕ) → bit_at held q ≡ 1 → (x : ℕ) → home_cells home ≡ 1 → cell ≡ Some x → q ≢ x =
             λ q b x one ex same_cell. (let a = (subst (IsFree size held) ex free).1 in let b' : bit_at held x ≡ 1 = ap (bit_at held) (sym same_cell) ∙ b in omega (arith, a, b')) in
             let end : State = steps_effect m later t in
@@ -256,8 +256,8 @@ module _ (stock : StockModel) (file_storage : Option ℕ) (patterns : List Patte
               file = e.file ∙ h.file ∙ d.file;
               stay = λ q b. e.stay q (more_held cell q b) ∙ h.stay q (away q b) ∙ d.stay q b;
               kept = λ r b.
-                  let hp : bit_at (written stock.rules p) r ≡ 0 = zero_left (written stock.rules p) (all_written stock.rules ps) r b in
-                  e.kept r (zero_right (written stock.rules p) (all_written stock.rules ps) r b)
+                  let hp : bit_at (written stock.forms p) r ≡ 0 = zero_left (written stock.forms p) (all_written stock.forms ps) r b in
+                  e.kept r (zero_right (written stock.forms p) (all_written stock.forms ps) r b)
                   ∙ h.others r (apart r hp) ∙ d.kept r hp;
               homes = zip_put (IsHeld end) left (operand_homes stock ps more) i cells cell w.at waits e.homes;
             })
@@ -277,7 +277,7 @@ module _ (stock : StockModel) (file_storage : Option ℕ) (patterns : List Patte
         fills' [] c f z = tt
         fills' (cells ∷ left) c f z = absurd (cc)
 
-        evaluates' : (held : ℕ) (left : List OperandCellsModel) → AreOrderly stock (operands_in left) no_operands → operands_need stock.rules no_operands ≤ free_count held size → Each OperandFits left → AllZip OperandCount left []
+        evaluates' : (held : ℕ) (left : List OperandCellsModel) → AreOrderly stock (operands_in left) no_operands → operands_need stock.forms no_operands ≤ free_count held size → Each OperandFits left → AllZip OperandCount left []
             → (s : State) → IsKept low before s → AllZip (IsFilled m low before s) left [] → IsEvaluated no_operands held left s s
         evaluates' held [] c room f z s k y = record { cells = refl; regs = refl; file = refl; stay = λ q h. refl; kept = λ r h. refl; homes = tt }
         evaluates' held (cells ∷ left) c room f z s k y = absurd (cc)
@@ -290,7 +290,7 @@ module _ (stock : StockModel) (file_storage : Option ℕ) (patterns : List Patte
         stores' (cells ∷ cuts) c f z = absurd (cc)
 
     -- a cut's steps put its value into its cell
-    cut_stored : (p : CoverModel) → IsGood p → (cells : CutCellsModel) → IsOrderly stock temporary cells.tree false p → need stock.rules p ≤ size → CutFits cells → CutCount cells (cut_count p)
+    cut_stored : (p : CoverModel) → IsGood p → (cells : CutCellsModel) → IsOrderly stock temporary cells.tree false p → need stock.forms p ≤ size → CutFits cells → CutCount cells (cut_count p)
         → Stores m low before cells (cut_steps stock p cells.first temporary cells.tree false ++ own_steps stock p cells.first 0 temporary cells.tree false)
     cut_stored p good cells c room f z s k =
         let inside : List Step = cut_steps stock p cells.first temporary cells.tree false in
@@ -341,54 +341,54 @@ module _ (stock : StockModel) (file_storage : Option ℕ) (patterns : List Patte
     -- what the parts of a form's cover give
     record IsReady (k : ℕ) (ps : CoverOperandsModel) (cs : CoverCutsModel) (n : ℕ) (destination : DestinationModel) (tree : ExprModel) (whole : Bool) : Type 0 where
       opened : IsOpened stock k ps cs destination tree whole
-      past : past_leaves (match_at stock k destination tree whole).sites (operand_counts ps) (cut_counts cs) n ≡ n + cut_count (use_form k ps cs)
-      orderly : AreOrderly stock (operands_in (cover_operand_cells (match_at stock k destination tree whole).sites ps cs n)) ps
-      fits : Each OperandFits (cover_operand_cells (match_at stock k destination tree whole).sites ps cs n)
-      counts : AllZip OperandCount (cover_operand_cells (match_at stock k destination tree whole).sites ps cs n) (operand_counts ps)
-      fills : AllZip (Fills m low before) (cover_operand_cells (match_at stock k destination tree whole).sites ps cs n) (inside_operands stock ps (cover_operand_cells (match_at stock k destination tree whole).sites ps cs n))
-      stores : AllZip (Stores m low before) (cover_cut_cells (match_at stock k destination tree whole).sites ps cs n) (into_cells stock cs (cover_cut_cells (match_at stock k destination tree whole).sites ps cs n))
+      past : past_leaves (match_at stock k destination tree whole).leaves (operand_counts ps) (cut_counts cs) n ≡ n + cut_count (use_form k ps cs)
+      orderly : AreOrderly stock (operands_in (cover_operand_cells (match_at stock k destination tree whole).leaves ps cs n)) ps
+      fits : Each OperandFits (cover_operand_cells (match_at stock k destination tree whole).leaves ps cs n)
+      counts : AllZip OperandCount (cover_operand_cells (match_at stock k destination tree whole).leaves ps cs n) (operand_counts ps)
+      fills : AllZip (Fills m low before) (cover_operand_cells (match_at stock k destination tree whole).leaves ps cs n) (inside_operands stock ps (cover_operand_cells (match_at stock k destination tree whole).leaves ps cs n))
+      stores : AllZip (Stores m low before) (cover_cut_cells (match_at stock k destination tree whole).leaves ps cs n) (into_cells stock cs (cover_cut_cells (match_at stock k destination tree whole).leaves ps cs n))
 
     ready : (k : ℕ) (ps : CoverOperandsModel) (cs : CoverCutsModel) → AreGood ps → AreStored cs → (n : ℕ) (destination : DestinationModel) (tree : ExprModel) (whole : Bool) → IsOrderly stock destination tree whole (use_form k ps cs)
         → ReadsFrom low before tree → DestinationReads low before destination → n + cut_count (use_form k ps cs) ≤ low → IsReady k ps cs n destination tree whole
     ready k ps cs gs gc n destination tree whole c r pr b =
         let w : IsOpened stock k ps cs destination tree whole = opened_cover stock k ps cs destination tree whole c in
-        let sites : List LeafModel = (match_at stock k destination tree whole).sites in
-        let read : LeavesRead low before sites = goal_sites low before (form_at stock k) (form_at stock k).goal destination tree whole (match_at stock k destination tree whole) w.takes r pr in
-        let past : past_leaves sites (operand_counts ps) (cut_counts cs) n ≡ n + cut_count (use_form k ps cs) = past_cover stock sites ps cs n w.operands w.cuts in
-        let below : past_leaves sites (operand_counts ps) (cut_counts cs) n ≤ low = omega (arith, past, b) in
-        let orderly : AreOrderly stock (operands_in (cover_operand_cells sites ps cs n)) ps =
-        subst (λ z. AreOrderly stock z ps) (sym (cells_operands sites (operand_counts ps) (cut_counts cs) n)) w.operands in
-        let cuts : AreCut stock (trees_in (cover_cut_cells sites ps cs n)) cs =
-        subst (λ z. AreCut stock z cs) (sym (cells_trees sites (operand_counts ps) (cut_counts cs) n)) w.cuts in
-        let fits : Each OperandFits (cover_operand_cells sites ps cs n) =
-        each_both (λ (cells : OperandCellsModel). ReadsFrom low before cells.operand.tree) (λ (cells : OperandCellsModel). cells.past ≤ low) (cover_operand_cells sites ps cs n)
-        (operands_read low before sites (operand_counts ps) (cut_counts cs) n read) (operands_below sites (operand_counts ps) (cut_counts cs) n low below) in
-        let cut_fits : Each CutFits (cover_cut_cells sites ps cs n) =
-        each_both (λ (cells : CutCellsModel). ReadsFrom low before cells.tree) (λ (cells : CutCellsModel). cells.cell < low) (cover_cut_cells sites ps cs n)
-        (cuts_read low before sites (operand_counts ps) (cut_counts cs) n read) (cuts_below sites (operand_counts ps) (cut_counts cs) n low below) in
-        let counts : AllZip OperandCount (cover_operand_cells sites ps cs n) (operand_counts ps) =
-        operands_counted sites (operand_counts ps) (cut_counts cs) n (operands_long stock ps (operands_of sites) w.operands) in
-        let cut_counted : AllZip CutCount (cover_cut_cells sites ps cs n) (cut_counts cs) =
-        cuts_counted sites (operand_counts ps) (cut_counts cs) n (cuts_long stock cs (cuts_of sites) w.cuts) in
+        let leaves : List LeafModel = (match_at stock k destination tree whole).leaves in
+        let read : LeavesRead low before leaves = goal_leaves low before (form_at stock k) (form_at stock k).goal destination tree whole (match_at stock k destination tree whole) w.takes r pr in
+        let past : past_leaves leaves (operand_counts ps) (cut_counts cs) n ≡ n + cut_count (use_form k ps cs) = past_cover stock leaves ps cs n w.operands w.cuts in
+        let below : past_leaves leaves (operand_counts ps) (cut_counts cs) n ≤ low = omega (arith, past, b) in
+        let orderly : AreOrderly stock (operands_in (cover_operand_cells leaves ps cs n)) ps =
+        subst (λ z. AreOrderly stock z ps) (sym (cells_operands leaves (operand_counts ps) (cut_counts cs) n)) w.operands in
+        let cuts : AreCut stock (trees_in (cover_cut_cells leaves ps cs n)) cs =
+        subst (λ z. AreCut stock z cs) (sym (cells_trees leaves (operand_counts ps) (cut_counts cs) n)) w.cuts in
+        let fits : Each OperandFits (cover_operand_cells leaves ps cs n) =
+        each_both (λ (cells : OperandCellsModel). ReadsFrom low before cells.operand.tree) (λ (cells : OperandCellsModel). cells.past ≤ low) (cover_operand_cells leaves ps cs n)
+        (operands_read low before leaves (operand_counts ps) (cut_counts cs) n read) (operands_below leaves (operand_counts ps) (cut_counts cs) n low below) in
+        let cut_fits : Each CutFits (cover_cut_cells leaves ps cs n) =
+        each_both (λ (cells : CutCellsModel). ReadsFrom low before cells.tree) (λ (cells : CutCellsModel). cells.cell < low) (cover_cut_cells leaves ps cs n)
+        (cuts_read low before leaves (operand_counts ps) (cut_counts cs) n read) (cuts_below leaves (operand_counts ps) (cut_counts cs) n low below) in
+        let counts : AllZip OperandCount (cover_operand_cells leaves ps cs n) (operand_counts ps) =
+        operands_counted leaves (operand_counts ps) (cut_counts cs) n (operands_long stock ps (operands_of leaves) w.operands) in
+        let cut_counted : AllZip CutCount (cover_cut_cells leaves ps cs n) (cut_counts cs) =
+        cuts_counted leaves (operand_counts ps) (cut_counts cs) n (cuts_long stock cs (cuts_of leaves) w.cuts) in
         record {
           opened = w;
           past = past;
           orderly = orderly;
           fits = fits;
           counts = counts;
-          fills = gs.fills (cover_operand_cells sites ps cs n) orderly fits counts;
-          stores = gc.stores (cover_cut_cells sites ps cs n) cuts cut_fits cut_counted;
+          fills = gs.fills (cover_operand_cells leaves ps cs n) orderly fits counts;
+          stores = gc.stores (cover_cut_cells leaves ps cs n) cuts cut_fits cut_counted;
         }
 
     -- the cell that a form writes is one of the file's, and that of its tied operand
-    own_in : (k : ℕ) (ps : CoverOperandsModel) (cs : CoverCutsModel) (held : ℕ) (destination : DestinationModel) (tree : ExprModel) (whole : Bool) → IsOpened stock k ps cs destination tree whole → need stock.rules (use_form k ps cs) ≤ free_count held size
+    own_in : (k : ℕ) (ps : CoverOperandsModel) (cs : CoverCutsModel) (held : ℕ) (destination : DestinationModel) (tree : ExprModel) (whole : Bool) → IsOpened stock k ps cs destination tree whole → need stock.forms (use_form k ps cs) ≤ free_count held size
         → OwnIn destination (form_at stock k) (operand_homes stock ps held) (cell_of stock (use_form k ps cs) held) size
     own_in k ps cs held (into id) tree whole w room = tt
     own_in k ps cs held filed tree whole w room =
-        let takes : form_cells (slice_get stock.rules k) ≡ 1 = ap form_cells w.listed ∙ goal_cells stock.temps (form_at stock k) (form_at stock k).goal (in_file tree) tree whole (match_at stock k filed tree whole) w.takes in
+        let takes : form_cells (slice_get stock.forms k) ≡ 1 = ap form_cells w.listed ∙ goal_cells stock.temps (form_at stock k) (form_at stock k).goal (in_file tree) tree whole (match_at stock k filed tree whole) w.takes in
         let (c, e) = left_some stock (use_form k ps cs) held takes in
         let free : IsFree size held (Some c) = subst (IsFree size held) e (cell_free stock (use_form k ps cs) held room) in
-        (c, e, free.0, λ d t. tied_is (slice_get stock.rules k) (form_at stock k) w.listed (operand_homes stock ps held) (first_home stock ps held) (free_cell held stock.file) c d e t)
+        (c, e, free.0, λ d t. tied_is (slice_get stock.forms k) (form_at stock k) w.listed (operand_homes stock ps held) (first_home stock ps held) (free_cell held stock.file) c d e t)
     own_in k ps cs held (cell a) tree whole w room = tt
     own_in k ps cs held (stored a) tree whole w room = tt
     own_in k ps cs held temporary tree whole w room = tt
@@ -402,44 +402,44 @@ module _ (stock : StockModel) (file_storage : Option ℕ) (patterns : List Patte
             → IsLocal n (n + cut_count (use_form k ps cs)) s (steps_effect m (cut_steps stock (use_form k ps cs) n destination tree whole) s)
         quiet' n destination tree whole c r pr b s h =
             let y : IsReady k ps cs n destination tree whole = ready k ps cs gs gc n destination tree whole c r pr b in
-            let sites : List LeafModel = (match_at stock k destination tree whole).sites in
-            let segs : List (List Step) = inside_operands stock ps (cover_operand_cells sites ps cs n) in
-            let cuts : List (List Step) = into_cells stock cs (cover_cut_cells sites ps cs n) in
-            let w : IsWalked low before m sites (operand_counts ps) (cut_counts cs) n segs cuts s (steps_effect m (woven sites segs cuts) s) =
-            walk low before m sites (operand_counts ps) (cut_counts cs) n segs cuts (omega (arith, y.past, b)) y.fills y.stores s (steps_effect m (woven sites segs cuts) s) h (λ e lo hi. refl) in
-            subst (λ q. IsLocal n q s (steps_effect m (woven sites segs cuts) s)) y.past w.local
+            let leaves : List LeafModel = (match_at stock k destination tree whole).leaves in
+            let segs : List (List Step) = inside_operands stock ps (cover_operand_cells leaves ps cs n) in
+            let cuts : List (List Step) = into_cells stock cs (cover_cut_cells leaves ps cs n) in
+            let w : IsWalked low before m leaves (operand_counts ps) (cut_counts cs) n segs cuts s (steps_effect m (woven leaves segs cuts) s) =
+            walk low before m leaves (operand_counts ps) (cut_counts cs) n segs cuts (omega (arith, y.past, b)) y.fills y.stores s (steps_effect m (woven leaves segs cuts) s) h (λ e lo hi. refl) in
+            subst (λ q. IsLocal n q s (steps_effect m (woven leaves segs cuts) s)) y.past w.local
 
-        works' : (n held : ℕ) (destination : DestinationModel) (tree : ExprModel) (whole : Bool) → IsOrderly stock destination tree whole (use_form k ps cs) → need stock.rules (use_form k ps cs) ≤ free_count held size → ReadsFrom low before tree → DestinationReads low before destination
+        works' : (n held : ℕ) (destination : DestinationModel) (tree : ExprModel) (whole : Bool) → IsOrderly stock destination tree whole (use_form k ps cs) → need stock.forms (use_form k ps cs) ≤ free_count held size → ReadsFrom low before tree → DestinationReads low before destination
             → n + cut_count (use_form k ps cs) ≤ low → OwnBelow destination (n + cut_count (use_form k ps cs)) low → (s : State) → IsKept low before s → (from : State) → IsKept low before from
             → ((e : ℕ) → n ≤ e → e < n + cut_count (use_form k ps cs) → slice_index s.cells e ≡ slice_index (steps_effect m (cut_steps stock (use_form k ps cs) n destination tree whole) from).cells e)
             → IsDone (use_form k ps cs) n held destination tree whole s
         works' n held destination tree whole c room r pr b o s hs from hf a =
             let y : IsReady k ps cs n destination tree whole = ready k ps cs gs gc n destination tree whole c r pr b in
             let found : MatchModel = match_at stock k destination tree whole in
-            let sites : List LeafModel = found.sites in
-            let left : List OperandCellsModel = cover_operand_cells sites ps cs n in
-            let own_rooms : List CutCellsModel = cover_cut_cells sites ps cs n in
+            let leaves : List LeafModel = found.leaves in
+            let left : List OperandCellsModel = cover_operand_cells leaves ps cs n in
+            let own_rooms : List CutCellsModel = cover_cut_cells leaves ps cs n in
             let segs : List (List Step) = inside_operands stock ps left in
             let cuts : List (List Step) = into_cells stock cs own_rooms in
-            let below : past_leaves sites (operand_counts ps) (cut_counts cs) n ≤ low = omega (arith, y.past, b) in
-            let w : IsWalked low before m sites (operand_counts ps) (cut_counts cs) n segs cuts from s =
-            walk low before m sites (operand_counts ps) (cut_counts cs) n segs cuts below y.fills y.stores from s hf (λ e lo hi. a e lo (omega (arith, hi, y.past))) in
+            let below : past_leaves leaves (operand_counts ps) (cut_counts cs) n ≤ low = omega (arith, y.past, b) in
+            let w : IsWalked low before m leaves (operand_counts ps) (cut_counts cs) n segs cuts from s =
+            walk low before m leaves (operand_counts ps) (cut_counts cs) n segs cuts below y.fills y.stores from s hf (λ e lo hi. a e lo (omega (arith, hi, y.past))) in
             let homes : List (Option ℕ) = operand_homes stock ps held in
             let e : IsEvaluated ps held left s (steps_effect m (operand_steps stock ps left held) s) = gs.evaluates held left y.orderly (omega (arith, room)) y.fits y.counts s hs w.filled in
             let mid : State = steps_effect m (operand_steps stock ps left held) s in
             let stored : Each (λ (cells : CutCellsModel). (cells.cell < low) × (slice_index mid.cells cells.cell ≡ mean cells.tree before 0)) own_rooms =
             each_both (λ (cells : CutCellsModel). cells.cell < low) (λ (cells : CutCellsModel). slice_index mid.cells cells.cell ≡ mean cells.tree before 0) own_rooms
-            (cuts_below sites (operand_counts ps) (cut_counts cs) n low below)
+            (cuts_below leaves (operand_counts ps) (cut_counts cs) n low below)
             (each_weaker (λ (cells : CutCellsModel). slice_index s.cells cells.cell ≡ mean cells.tree before 0) (λ (cells : CutCellsModel). slice_index mid.cells cells.cell ≡ mean cells.tree before 0)
             (λ cells h. ap (λ q. slice_index q cells.cell) e.cells ∙ h) own_rooms w.stored) in
-            let holds : Holds low size before mid sites own_rooms homes = holds_of low size before mid sites (operand_counts ps) (cut_counts cs) n homes e.homes stored in
+            let holds : Holds low size before mid leaves own_rooms homes = holds_of low size before mid leaves (operand_counts ps) (cut_counts cs) n homes e.homes stored in
             record {
               mid = mid;
               cells = e.cells;
               regs = e.regs;
               file = e.file;
               stay = e.stay;
-              kept = λ q h. e.kept q (zero_right _ (all_written stock.rules ps) q h);
+              kept = λ q h. e.kept q (zero_right _ (all_written stock.forms ps) q h);
               holds = holds;
               ends = effect-steps m (operand_steps stock ps left held) (form_step (form_at stock k) destination (cover_setting stock (use_form k ps cs) n held destination tree whole)) s
                   ∙ form_done low size before mid (λ q h. ap (λ z. slice_index z q) e.cells ∙ hs.same q h) file_storage patterns count (form_at stock k) (form_at stock k).goal destination tree whole

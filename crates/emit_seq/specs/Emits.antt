@@ -15,10 +15,10 @@ use Rattle.emit_seq.specs.Models.{models_of_operand_cells, models_of_cut_cells}
 -- cuts, and its step
 pub record IsFormAtRoot (stock : StockModel) (k : ℕ) (ps : CoverOperandsModel) (cs : CoverCutsModel) (n held : ℕ)
     (destination : DestinationModel) (tree : ExprModel) (whole : Bool) (root : Root) : Type 0 where
-  pub parts : models_of_leaves root.parts.items ≡ (match_at stock k destination tree whole).sites
+  pub parts : models_of_leaves root.parts.items ≡ (match_at stock k destination tree whole).leaves
   pub operands : models_of_operand_cells root.operands.items
-      ≡ cover_operand_cells (match_at stock k destination tree whole).sites ps cs n
-  pub cuts : models_of_cut_cells root.cuts.items ≡ cover_cut_cells (match_at stock k destination tree whole).sites ps cs n
+      ≡ cover_operand_cells (match_at stock k destination tree whole).leaves ps cs n
+  pub cuts : models_of_cut_cells root.cuts.items ≡ cover_cut_cells (match_at stock k destination tree whole).leaves ps cs n
   pub pattern : root.step.pattern ≡ (form_at stock k).pattern
   pub setting : root.step.setting ≡ cover_setting stock (use_form k ps cs) n held destination tree whole
 
@@ -37,7 +37,7 @@ setting_of_test tested setting = Some setting
 setting_of_test destination setting = None
 
 abbrev pub branch_of : StockModel → DestinationModel → ExprModel → CoverModel → Option ℕ
-branch_of stock destination tree plan = setting_of_test destination (cover_setting stock plan 0 0 destination tree true)
+branch_of stock destination tree cover = setting_of_test destination (cover_setting stock cover 0 0 destination tree true)
 
 -- the steps of the tree that the cover names, and for a test the setting of the bits of its
 -- branch's condition
@@ -45,5 +45,5 @@ pub record IsEmitted (stock : StockModel) (destination : DestinationModel) (tree
     (choice : JobCoverModel) (e : Emitted) : Type 0 where
   pub tree : ExprModel
   pub used : slice_get trees choice.which ≡ Some tree
-  pub steps : e.steps ≡ cover_steps stock destination tree choice.plan
-  pub branch : e.branch ≡ branch_of stock destination tree choice.plan
+  pub steps : e.steps ≡ cover_steps stock destination tree choice.cover
+  pub branch : e.branch ≡ branch_of stock destination tree choice.cover

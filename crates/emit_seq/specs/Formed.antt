@@ -77,32 +77,32 @@ pub record MeansAlike (a b : ExprModel) : Type 0 where
   pub reads : (i r : ℕ) → expr_reads i a (register r) ≡ expr_reads i b (register r)
 
 -- a form that writes a register, one of so many, beside a file of so many cells
-pub record IsIntoReg (patterns : List Pattern) (count size : ℕ) (rule : FormModel) (r : ℕ) : Type 0 where
+pub record IsIntoReg (patterns : List Pattern) (count size : ℕ) (form : FormModel) (r : ℕ) : Type 0 where
   pub value : ExprModel
-  pub is : slice_get patterns rule.pattern ≡ Some (record { storage = r; move = write value })
-  pub alike : MeansAlike rule.value value
-  pub once : IsOnce rule.value
-  pub shown : CellsShown size rule.value
-  pub clobbered : bit_at rule.clobbers r ≡ 1
+  pub is : slice_get patterns form.pattern ≡ Some (record { storage = r; move = write value })
+  pub alike : MeansAlike form.value value
+  pub once : IsOnce form.value
+  pub shown : CellsShown size form.value
+  pub clobbered : bit_at form.clobbers r ≡ 1
   pub below : r < count
 
 -- a form that writes the memory
-pub record IsIntoMemory (file : Option ℕ) (patterns : List Pattern) (size : ℕ) (rule : FormModel) : Type 0 where
+pub record IsIntoMemory (file : Option ℕ) (patterns : List Pattern) (size : ℕ) (form : FormModel) : Type 0 where
   pub storage : ℕ
   pub addr : ExprModel
   pub value : ExprModel
-  pub is : slice_get patterns rule.pattern ≡ Some (record { storage = storage; move = write_at addr value })
+  pub is : slice_get patterns form.pattern ≡ Some (record { storage = storage; move = write_at addr value })
   pub other : space_in file storage ≡ InMemory
   pub at : ExprModel
-  pub has : rule.addr ≡ Some at
+  pub has : form.addr ≡ Some at
   pub alike_addr : MeansAlike at addr
-  pub alike_value : MeansAlike rule.value value
+  pub alike_value : MeansAlike form.value value
   pub once_addr : IsOnce at
-  pub once_value : IsOnce rule.value
+  pub once_value : IsOnce form.value
   pub shown_addr : CellsShown size at
-  pub shown_value : CellsShown size rule.value
-  pub apart : BitsApart at rule.value
-  pub apart_back : BitsApart rule.value at
+  pub shown_value : CellsShown size form.value
+  pub apart : BitsApart at form.value
+  pub apart_back : BitsApart form.value at
 
 -- the form has no tied operand, and no bit of its address occurs in its value, or the tied operand is
 -- read at this address
@@ -111,31 +111,31 @@ IsTied None at value = BitsApart at value × BitsApart value at
 IsTied (Some place) at value = slice_get (homes_in value) place ≡ Some (in_file at)
 
 -- a form that writes the file
-pub record IsIntoFile (file : Option ℕ) (patterns : List Pattern) (size : ℕ) (rule : FormModel) : Type 0 where
+pub record IsIntoFile (file : Option ℕ) (patterns : List Pattern) (size : ℕ) (form : FormModel) : Type 0 where
   pub storage : ℕ
   pub addr : ExprModel
   pub value : ExprModel
-  pub is : slice_get patterns rule.pattern ≡ Some (record { storage = storage; move = write_at addr value })
+  pub is : slice_get patterns form.pattern ≡ Some (record { storage = storage; move = write_at addr value })
   pub own : space_in file storage ≡ InFile
   pub at : ExprModel
-  pub has : rule.addr ≡ Some at
+  pub has : form.addr ≡ Some at
   pub alike_addr : MeansAlike at addr
-  pub alike_value : MeansAlike rule.value value
+  pub alike_value : MeansAlike form.value value
   pub shape : is_shape at ≡ true
   pub shown_addr : shows_below at size ≡ true
-  pub once_value : IsOnce rule.value
-  pub shown_value : CellsShown size rule.value
-  pub tied : IsTied rule.tied at rule.value
+  pub once_value : IsOnce form.value
+  pub shown_value : CellsShown size form.value
+  pub tied : IsTied form.tied at form.value
 
 abbrev pub IsFormed : Option ℕ → List Pattern → ℕ → ℕ → FormModel → GoalModel → Type 0
-IsFormed file patterns count size rule (into_reg r) = IsIntoReg patterns count size rule r
-IsFormed file patterns count size rule into_memory = IsIntoMemory file patterns size rule
-IsFormed file patterns count size rule into_file = IsIntoFile file patterns size rule
-IsFormed file patterns count size rule (jumps reach) = Unit {0}
-IsFormed file patterns count size rule (branches when_one to) = IsOnce rule.value × CellsShown size rule.value
+IsFormed file patterns count size form (into_reg r) = IsIntoReg patterns count size form r
+IsFormed file patterns count size form into_memory = IsIntoMemory file patterns size form
+IsFormed file patterns count size form into_file = IsIntoFile file patterns size form
+IsFormed file patterns count size form (jumps reach) = Unit {0}
+IsFormed file patterns count size form (branches when_one to) = IsOnce form.value × CellsShown size form.value
 
 -- each form of the list is made of the pattern that it names, where the file, if there is one, has
 -- this number and so many cells
 abbrev pub AreFormed : Option ℕ → List Pattern → ℕ → ℕ → List FormModel → Type 0
-AreFormed file patterns count size rules =
-    (k : ℕ) (rule : FormModel) → slice_get rules k ≡ Some rule → IsFormed file patterns count size rule rule.goal
+AreFormed file patterns count size forms =
+    (k : ℕ) (form : FormModel) → slice_get forms k ≡ Some form → IsFormed file patterns count size form form.goal

@@ -90,23 +90,23 @@ condition_of stock (use_form k ps cs) = (form_at stock k).value
 
 -- after the steps from s, in the state t, the aim has the value
 abbrev pub HasValue : StockModel → DestinationModel → ExprModel → CoverModel → State → State → Type 0
-HasValue stock (cell address) tree plan s t = slice_index t.cells address ≡ mean tree s 0
-HasValue stock (stored address) tree plan s t = slice_index t.cells (mean address s 0) ≡ mean tree s 0
-HasValue stock tested tree plan s t = mean (condition_of stock plan) t (branch_setting stock tree plan) ≡ mean tree s 0
-HasValue stock destination tree plan s t = Unit {0}
+HasValue stock (cell address) tree cover s t = slice_index t.cells address ≡ mean tree s 0
+HasValue stock (stored address) tree cover s t = slice_index t.cells (mean address s 0) ≡ mean tree s 0
+HasValue stock tested tree cover s t = mean (condition_of stock cover) t (branch_setting stock tree cover) ≡ mean tree s 0
+HasValue stock destination tree cover s t = Unit {0}
 
 -- the steps, done one after the other from s, leave the tree's value at its aim, and change no
 -- other cell from the temporary ones on
 pub record LeaveValue (stock : StockModel) (file_storage : Option ℕ) (patterns : List Pattern) (destination : DestinationModel)
-    (tree : ExprModel) (plan : CoverModel) (s : State) : Type 0 where
-  pub value : HasValue stock destination tree plan s
-      (steps_effect (operation_of file_storage patterns) (cover_steps stock destination tree plan) s)
+    (tree : ExprModel) (cover : CoverModel) (s : State) : Type 0 where
+  pub value : HasValue stock destination tree cover s
+      (steps_effect (operation_of file_storage patterns) (cover_steps stock destination tree cover) s)
   pub others : (c : ℕ) → stock.temps ≤ c → (IsAim destination s c → ⊥)
-      → slice_index (steps_effect (operation_of file_storage patterns) (cover_steps stock destination tree plan) s).cells c
+      → slice_index (steps_effect (operation_of file_storage patterns) (cover_steps stock destination tree cover) s).cells c
       ≡ slice_index s.cells c
-  pub regs : length (steps_effect (operation_of file_storage patterns) (cover_steps stock destination tree plan) s).regs
+  pub regs : length (steps_effect (operation_of file_storage patterns) (cover_steps stock destination tree cover) s).regs
       ≡ length s.regs
-  pub cells : length (steps_effect (operation_of file_storage patterns) (cover_steps stock destination tree plan) s).cells
+  pub cells : length (steps_effect (operation_of file_storage patterns) (cover_steps stock destination tree cover) s).cells
       ≡ length s.cells
-  pub file : length (steps_effect (operation_of file_storage patterns) (cover_steps stock destination tree plan) s).file
+  pub file : length (steps_effect (operation_of file_storage patterns) (cover_steps stock destination tree cover) s).file
       ≡ length s.file

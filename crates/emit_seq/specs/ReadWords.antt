@@ -24,6 +24,6 @@ AddressReadsWords bits (Some addr) = ReadsWords bits addr
 
 -- each form of the list reads such words, in its address and in its value
 abbrev pub AllReadWords : ℕ → List FormModel → Type 0
-AllReadWords bits rules =
-    (k : ℕ) (rule : FormModel) → slice_get rules k ≡ Some rule →
-    AddressReadsWords bits rule.addr × ReadsWords bits rule.value
+AllReadWords bits forms =
+    (k : ℕ) (form : FormModel) → slice_get forms k ≡ Some form →
+    AddressReadsWords bits form.addr × ReadsWords bits form.value

@@ -11,7 +11,7 @@ addr_fields None = 0
 addr_fields (Some a) = fields a
 
 abbrev pub form_fields : FormModel → ℕ
-form_fields rule = bit_or (addr_fields rule.addr) (fields rule.value)
+form_fields form = bit_or (addr_fields form.addr) (fields form.value)
 
 -- a form that has steps
 abbrev pub IsStepping : GoalModel → Type 0
@@ -22,14 +22,14 @@ IsStepping (jumps reach) = ⊥
 IsStepping (branches when_one to) = ⊥
 
 -- the step is one of a form of the list, with values for its bits and 0 for all others
-pub record IsOfForm (rules : List FormModel) (x : Step) : Type 0 where
+pub record IsOfForm (forms : List FormModel) (x : Step) : Type 0 where
   pub destination : ℕ
-  pub rule : FormModel
-  pub listed : slice_get rules destination ≡ Some rule
-  pub goal : IsStepping rule.goal
-  pub pattern : x.pattern ≡ rule.pattern
-  pub within : bit_and x.setting (form_fields rule) ≡ x.setting
+  pub form : FormModel
+  pub listed : slice_get forms destination ≡ Some form
+  pub goal : IsStepping form.goal
+  pub pattern : x.pattern ≡ form.pattern
+  pub within : bit_and x.setting (form_fields form) ≡ x.setting
 
 abbrev pub AreOfForms : List FormModel → List Step → Type 0
-AreOfForms rules [] = Unit {0}
-AreOfForms rules (x ∷ xs) = IsOfForm rules x × AreOfForms rules xs
+AreOfForms forms [] = Unit {0}
+AreOfForms forms (x ∷ xs) = IsOfForm forms x × AreOfForms forms xs

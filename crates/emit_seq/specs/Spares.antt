@@ -17,24 +17,24 @@ use Rattle.emit_seq.specs.Leaves.{condition_of}
 -- the clobbers of a pattern's forms, which all have the same
 abbrev pub clobbers_of : List FormModel → ℕ → ℕ
 clobbers_of [] pattern = 0
-clobbers_of (rule ∷ rules) pattern = if rule.pattern == pattern then rule.clobbers else clobbers_of rules pattern
+clobbers_of (form ∷ forms) pattern = if form.pattern == pattern then form.clobbers else clobbers_of forms pattern
 
 -- the registers that a step may change, its own among them
 abbrev pub step_clobbers : List FormModel → Step → Regs
-step_clobbers rules step = regs_of (clobbers_of rules step.pattern)
+step_clobbers forms step = regs_of (clobbers_of forms step.pattern)
 
 -- forms of one pattern have the same clobbers
 abbrev pub AreShared : List FormModel → Type 0
-AreShared rules =
-    (j k : ℕ) (a b : FormModel) → slice_get rules j ≡ Some a → slice_get rules k ≡ Some b →
+AreShared forms =
+    (j k : ℕ) (a b : FormModel) → slice_get forms j ≡ Some a → slice_get forms k ≡ Some b →
     a.pattern ≡ b.pattern → a.clobbers ≡ b.clobbers
 
 -- a form that puts something into this register, the program counter, reads it: what it puts there
 -- is the next address
 abbrev pub ReadsCounter : List FormModel → ℕ → Type 0
-ReadsCounter rules pc =
-    (k : ℕ) (rule : FormModel) → slice_get rules k ≡ Some rule → rule.goal ≡ into_reg pc →
-    (i : ℕ) × (expr_reads i rule.value (register pc) ≡ true)
+ReadsCounter forms pc =
+    (k : ℕ) (form : FormModel) → slice_get forms k ≡ Some form → form.goal ≡ into_reg pc →
+    (i : ℕ) × (expr_reads i form.value (register pc) ≡ true)
 
 -- each register that a step reads is known or the destination of an earlier step, and so is each
 -- that is wanted after the last
@@ -52,16 +52,16 @@ AreApart m pc (x ∷ xs) = (reads (m x) (register pc) ≡ false) × (writes (m x
 -- the registers that are wanted after the steps: those that a test's condition reads, and otherwise
 -- none
 abbrev pub wanted : StockModel → DestinationModel → ExprModel → CoverModel → Regs
-wanted stock tested tree plan = λ r. expr_reads (branch_setting stock tree plan) (condition_of stock plan) (register r)
-wanted stock destination tree plan = no_regs
+wanted stock tested tree cover = λ r. expr_reads (branch_setting stock tree cover) (condition_of stock cover) (register r)
+wanted stock destination tree cover = no_regs
 
 -- apart from its own destination, a step's clobbers hold no register whose value is still needed;
 -- all that is read was put there by an earlier step; and the program counter takes no part
 pub record AreSpare (stock : StockModel) (file : Option ℕ) (patterns : List Pattern) (pc : ℕ) (destination : DestinationModel)
-    (tree : ExprModel) (plan : CoverModel) : Type 0 where
-  pub spare : AllSpare (operation_of file patterns) (step_clobbers stock.rules)
-      (cover_steps stock destination tree plan) (wanted stock destination tree plan)
-  pub given : AreDefined (operation_of file patterns) no_regs (cover_steps stock destination tree plan)
-      (wanted stock destination tree plan)
-  pub apart : AreApart (operation_of file patterns) pc (cover_steps stock destination tree plan)
-  pub unwanted : wanted stock destination tree plan pc ≡ false
+    (tree : ExprModel) (cover : CoverModel) : Type 0 where
+  pub spare : AllSpare (operation_of file patterns) (step_clobbers stock.forms)
+      (cover_steps stock destination tree cover) (wanted stock destination tree cover)
+  pub given : AreDefined (operation_of file patterns) no_regs (cover_steps stock destination tree cover)
+      (wanted stock destination tree cover)
+  pub apart : AreApart (operation_of file patterns) pc (cover_steps stock destination tree cover)
+  pub unwanted : wanted stock destination tree cover pc ≡ false

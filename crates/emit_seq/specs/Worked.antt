@@ -16,8 +16,8 @@ use Rattle.form_model.specs.Steps.{cover_steps, branch_setting}
 abbrev pub field : ExprModel
 field = slice (word 12) 7 0
 
-abbrev rule : ℕ → ℕ → ExprModel → ℕ → FormModel
-rule p r value clobbers =
+abbrev worked_form : ℕ → ℕ → ExprModel → ℕ → FormModel
+worked_form p r value clobbers =
     record { pattern = p; goal = into_reg r; addr = None; value = value; fields = 255; clobbers = clobbers; tied = None }
 
 abbrev store : ℕ → ExprModel → ℕ → FormModel
@@ -50,15 +50,15 @@ branch value = record {
 }
 
 abbrev pub acc_forms : List FormModel
-acc_forms = rule 0 0 (bin Add (reg 0 8) (const 8 1)) 1 ∷ rule 0 0 (bin Add (const 8 1) (reg 0 8)) 1
+acc_forms = worked_form 0 0 (bin Add (reg 0 8) (const 8 1)) 1 ∷ worked_form 0 0 (bin Add (const 8 1) (reg 0 8)) 1
     ∷ branch (bin Eq acc (const 16 0)) ∷ branch (bin Eq (const 16 0) acc)
     ∷ record { pattern = 2; goal = jumps 256; addr = None; value = field; fields = 255; clobbers = 3; tied = None }
-    ∷ rule 3 1 (bin Add acc mem) 3 ∷ rule 3 1 (bin Add mem acc) 3 ∷ rule 4 1 mem 3
-    ∷ rule 5 1 (bin Sub acc mem) 3 ∷ rule 6 1 (zext field 16) 3
+    ∷ worked_form 3 1 (bin Add acc mem) 3 ∷ worked_form 3 1 (bin Add mem acc) 3 ∷ worked_form 4 1 mem 3
+    ∷ worked_form 5 1 (bin Sub acc mem) 3 ∷ worked_form 6 1 (zext field 16) 3
     ∷ store 7 acc 5 ∷ []
 
 abbrev pub acc_stock : ℕ → StockModel
-acc_stock temps = record { rules = acc_forms; temps = temps; file = 0 }
+acc_stock temps = record { forms = acc_forms; temps = temps; file = 0 }
 
 -- a variable's cell
 abbrev pub at : ℕ → ExprModel
@@ -163,13 +163,13 @@ abbrev x_reg : ExprModel
 x_reg = reg 2 16
 
 abbrev two_forms : List FormModel
-two_forms = rule 0 0 (bin Add (reg 0 8) (const 8 1)) 1 ∷ rule 0 0 (bin Add (const 8 1) (reg 0 8)) 1
+two_forms = worked_form 0 0 (bin Add (reg 0 8) (const 8 1)) 1 ∷ worked_form 0 0 (bin Add (const 8 1) (reg 0 8)) 1
     ∷ record { pattern = 1; goal = jumps 256; addr = None; value = field; fields = 255; clobbers = 7; tied = None }
-    ∷ rule 2 1 x_reg 3 ∷ rule 3 1 (bin Add a_reg x_reg) 3 ∷ rule 3 1 (bin Add x_reg a_reg) 3
-    ∷ rule 4 2 mem 5 ∷ store 5 a_reg 9 ∷ []
+    ∷ worked_form 2 1 x_reg 3 ∷ worked_form 3 1 (bin Add a_reg x_reg) 3 ∷ worked_form 3 1 (bin Add x_reg a_reg) 3
+    ∷ worked_form 4 2 mem 5 ∷ store 5 a_reg 9 ∷ []
 
 abbrev two_stock : StockModel
-two_stock = record { rules = two_forms; temps = 0; file = 0 }
+two_stock = record { forms = two_forms; temps = 0; file = 0 }
 
 two_steps : cover_steps two_stock (cell 2) (bin Add (at 0) (at 1))
     (with_one 7 (use_form 4 (operand_then 0 (with_one 3 (leaf 6)) (operand_then 0 (leaf 6) no_operands)) no_cuts))

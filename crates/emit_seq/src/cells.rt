@@ -54,10 +54,10 @@ fn add_part<'a>(
     own: &[u64],
     first: u64,
 ) -> Result<u64, NoMemory>
-    ensures { IfOk result (λ past. (sites rest : List LeafModel) (start : ℕ) →
-        HaveCells sites inside.now own.now start (models_of_operand_cells cells.old.operands.items)
+    ensures { IfOk result (λ past. (leaves rest : List LeafModel) (start : ℕ) →
+        HaveCells leaves inside.now own.now start (models_of_operand_cells cells.old.operands.items)
         (models_of_cut_cells cells.old.cuts.items) (model_of_leaf part.entry ∷ rest) first →
-        HaveCells sites inside.now own.now start (models_of_operand_cells cells.new.operands.items)
+        HaveCells leaves inside.now own.now start (models_of_operand_cells cells.new.operands.items)
         (models_of_cut_cells cells.new.cuts.items) rest past) }
 {
     match part {

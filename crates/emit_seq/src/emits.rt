@@ -90,9 +90,9 @@ pub fn emit(
     temps: u32,
 ) -> Result<Emitted, NoMemory>
     requires { Covers (stock_with forms.now.list.items temps forms.now.file) (aim_destination job.now.aim)
-        (map model_of_tree job.now.trees.items) (record { which = which; plan = model_of_cover cover.now }) }
+        (map model_of_tree job.now.trees.items) (record { which = which; cover = model_of_cover cover.now }) }
     ensures { IfOk result (λ e. IsEmitted (stock_with forms.now.list.items temps forms.now.file) (aim_destination job.now.aim)
-        (map model_of_tree job.now.trees.items) (record { which = which; plan = model_of_cover cover.now }) e) }
+        (map model_of_tree job.now.trees.items) (record { which = which; cover = model_of_cover cover.now }) e) }
 {
     let stock = Stock {
         forms: forms.list.as_slice(),

@@ -22,46 +22,46 @@ ghost use Rattle.emit_seq.specs.Spares.{AreShared, ReadsCounter, AreSpare};
 /// has the tree's value after them.
 pub fn law_of_values()
     ensures { (stock : StockModel) (file : Option ℕ) (patterns : List Pattern) (count : ℕ) →
-        AreFormed file patterns count stock.file stock.rules →
-        (destination : DestinationModel) (tree : ExprModel) (plan : CoverModel) (s : State) → IsOfJob destination →
-        IsOrderly stock destination tree true plan → need stock.rules plan ≤ stock.file →
-        cut_count plan ≤ stock.temps →
+        AreFormed file patterns count stock.file stock.forms →
+        (destination : DestinationModel) (tree : ExprModel) (cover : CoverModel) (s : State) → IsOfJob destination →
+        IsOrderly stock destination tree true cover → need stock.forms cover ≤ stock.file →
+        cut_count cover ≤ stock.temps →
         IsCoverStart stock count destination tree s →
-        LeaveValue stock file patterns destination tree plan s }
+        LeaveValue stock file patterns destination tree cover s }
 {}
 
 /// The steps spare what is still needed, read only what an earlier step put into a register, and
 /// leave the program counter alone.
 pub fn law_of_registers()
     ensures { (stock : StockModel) (file : Option ℕ) (patterns : List Pattern) (count pc : ℕ) →
-        AreFormed file patterns count stock.file stock.rules → AreShared stock.rules → ReadsCounter stock.rules pc →
-        (destination : DestinationModel) (tree : ExprModel) (plan : CoverModel) → IsOfJob destination →
-        IsOrderly stock destination tree true plan →
-        AreSpare stock file patterns pc destination tree plan }
+        AreFormed file patterns count stock.file stock.forms → AreShared stock.forms → ReadsCounter stock.forms pc →
+        (destination : DestinationModel) (tree : ExprModel) (cover : CoverModel) → IsOfJob destination →
+        IsOrderly stock destination tree true cover →
+        AreSpare stock file patterns pc destination tree cover }
 {}
 
 /// There are as many steps as the cover costs.
 pub fn law_of_costs()
-    ensures { (stock : StockModel) (destination : DestinationModel) (tree : ExprModel) (plan : CoverModel) →
-        IsOfJob destination → IsOrderly stock destination tree true plan →
-        length (cover_steps stock destination tree plan) ≡ job_cost destination plan }
+    ensures { (stock : StockModel) (destination : DestinationModel) (tree : ExprModel) (cover : CoverModel) →
+        IsOfJob destination → IsOrderly stock destination tree true cover →
+        length (cover_steps stock destination tree cover) ≡ job_cost destination cover }
 {}
 
 /// Each step is one of a form of the list, with values for the bits of its transfer, and 0 for all
 /// others. The setting of a test's branch has no bits but those of its condition.
 pub fn law_of_settings()
-    ensures steps { (stock : StockModel) (destination : DestinationModel) (tree : ExprModel) (plan : CoverModel) →
-        IsOrderly stock destination tree true plan →
-        AreOfForms stock.rules (cover_steps stock destination tree plan) }
-    ensures branch { (stock : StockModel) (tree : ExprModel) (plan : CoverModel) → IsOrderly stock tested tree true plan →
-        bit_and (branch_setting stock tree plan) (fields (condition_of stock plan)) ≡ branch_setting stock tree plan }
+    ensures steps { (stock : StockModel) (destination : DestinationModel) (tree : ExprModel) (cover : CoverModel) →
+        IsOrderly stock destination tree true cover →
+        AreOfForms stock.forms (cover_steps stock destination tree cover) }
+    ensures branch { (stock : StockModel) (tree : ExprModel) (cover : CoverModel) → IsOrderly stock tested tree true cover →
+        bit_and (branch_setting stock tree cover) (fields (condition_of stock cover)) ≡ branch_setting stock tree cover }
 {}
 
 /// Where the forms read words of so many bits, a chosen cover has at most as many cuts, inner ones
 /// among them, as its tree has nodes of a word's width below its root.
 pub fn law_of_cells()
-    ensures { (bits : ℕ) (stock : StockModel) → AllReadWords bits stock.rules →
+    ensures { (bits : ℕ) (stock : StockModel) → AllReadWords bits stock.forms →
         (destination : DestinationModel) (trees : List ExprModel) (choice : JobCoverModel) →
         (c : IsChosen stock destination trees choice) →
-        cut_count choice.plan ≤ tree_temps bits destination c.covers.tree }
+        cut_count choice.cover ≤ tree_temps bits destination c.covers.tree }
 {}

@@ -24,8 +24,8 @@ fn put_form_step(
     destination: Destination,
     step: Step,
 ) -> Result<(), NoMemory>
-    ensures { OnOk result ((rule : FormModel) → step.pattern ≡ rule.pattern →
-        out.new ≡ out.old ++ form_step rule (model_of_destination destination.entry) step.setting) }
+    ensures { OnOk result ((form : FormModel) → step.pattern ≡ form.pattern →
+        out.new ≡ out.old ++ form_step form (model_of_destination destination.entry) step.setting) }
 {
     match destination {
         Destination::Test => Ok(()),

@@ -21,7 +21,7 @@ use crate::settings::{cells_setting, homes_setting, own_setting};
 use form_model::{Cover, Form, Step, Tree};
 use rec_bits::NoMemory;
 use std::alloc::Global;
-use tree_grammar::{Destination, Home, Leaf, Match, match_at, plus};
+use tree_grammar::{Destination, Home, Leaf, Match, Subgoal, match_at, plus};
 
 /// What covers are made of: the forms, the number of temporary cells, and that of the file's cells.
 #[derive(Clone, Copy)]
@@ -53,7 +53,7 @@ pub struct Root<'a> {
 
 pub(crate) fn form_at<'a>(stock: Stock<'a>, place: usize) -> &'a Form
     requires { place < length stock.forms.now }
-    ensures { slice_get (model_of_stock stock.entry).rules place ≡ Some (model_of_form result.now) }
+    ensures { slice_get (model_of_stock stock.entry).forms place ≡ Some (model_of_form result.now) }
 {
     &stock.forms[place]
 }
@@ -71,16 +71,13 @@ fn found_at<'a>(
         covered.entry.whole
         ≡ Some (model_of_match found)) }
 {
-    let found = match_at(
-        alloc,
-        form,
-        covered.destination,
-        covered.tree,
-        covered.whole,
-        stock.temps,
-        0,
-    )?;
-    match found {
+    let goal = Subgoal {
+        destination: covered.destination,
+        tree: covered.tree,
+        whole: covered.whole,
+        at: 0,
+    };
+    match match_at(alloc, form, goal, stock.temps)? {
         Some(found) => Ok(found),
         None => unreachable!(),
     }
@@ -104,32 +101,41 @@ fn cells_from<'a>(
     Ok(cells)
 }
 
-// The bits that are settled, with those that name the cells of a form's cuts and operands and its
-// own.
-fn setting_with(
+// The bits that name the cells of the cuts and the operands among a match's parts.
+fn open_bits(
     alloc: Global,
     stock: Stock<'_>,
-    settled: u64,
-    form: &Form,
     cover: &Cover,
-    covered: Covered<'_>,
+    held: u64,
     parts: &[Leaf],
     cuts: &[CutCells],
 ) -> Result<u64, NoMemory>
     requires { IsListed (model_of_stock stock) (model_of_cover cover.now) }
     ensures { IfOk result (λ n.
-        n ≡ bit_or (bit_or settled (open_setting (operands_of (models_of_leaves parts.now)) (models_of_cut_cells cuts.now)
-        (operand_homes (model_of_stock stock.entry) (model_of_cover_operands cover.now.operands) covered.entry.held)))
-        (own_setting_of (model_of_destination covered.entry.destination) (model_of_form form.now).addr
-        (covered.entry.first + cut_count_of (model_of_cover cover.now))
-        (cell_of_plan (model_of_stock stock.entry) (model_of_cover cover.now) covered.entry.held))) }
+        n ≡ open_setting (operands_of (models_of_leaves parts.now)) (models_of_cut_cells cuts.now)
+        (operand_homes (model_of_stock stock.entry) (model_of_cover_operands cover.now.operands) held)) }
 {
-    let homes = homes_of(alloc, stock, &cover.operands, covered.held)?;
+    let homes = homes_of(alloc, stock, &cover.operands, held)?;
+    Ok(cells_setting(cuts)? | homes_setting(parts, homes.cells.as_slice())?)
+}
+
+// The bits that name the cell in which the form at the root leaves its value.
+fn own_bits(
+    alloc: Global,
+    stock: Stock<'_>,
+    form: &Form,
+    cover: &Cover,
+    covered: Covered<'_>,
+) -> Result<u64, NoMemory>
+    requires { IsListed (model_of_stock stock) (model_of_cover cover.now) }
+    ensures { IfOk result (λ n.
+        n ≡ own_setting_of (model_of_destination covered.entry.destination) (model_of_form form.now).addr
+        (covered.entry.first + cut_count_of (model_of_cover cover.now))
+        (cell_of_plan (model_of_stock stock.entry) (model_of_cover cover.now) covered.entry.held)) }
+{
     let cell = cell_of(alloc, stock, cover, covered.held)?;
     let last = plus(covered.first, cut_count(cover)?)?;
-    let open = cells_setting(cuts)? | homes_setting(parts, homes.cells.as_slice())?;
-    let written = own_setting(form, covered.destination, last, cell)?;
-    Ok((settled | open) | written)
+    own_setting(form, covered.destination, last, cell)
 }
 
 /// The form at the root of an orderly cover.
@@ -146,21 +152,20 @@ pub fn root_of<'a>(
         (model_of_tree covered.entry.tree.now) covered.entry.whole root) }
 {
     let form = form_at(stock, cover.form);
+    let own = own_bits(alloc, stock, form, cover, covered)?;
     let found = found_at(alloc, stock, form, covered)?;
     let cells = cells_from(alloc, found.parts.as_slice(), cover, covered.first)?;
-    let setting = setting_with(
+    let open = open_bits(
         alloc,
         stock,
-        found.setting,
-        form,
         cover,
-        covered,
+        covered.held,
         found.parts.as_slice(),
         cells.cuts.as_slice(),
     )?;
     let step = Step {
         pattern: form.pattern,
-        setting,
+        setting: (found.setting | open) | own,
     };
     Ok(Root {
         parts: found.parts,

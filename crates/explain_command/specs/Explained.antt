@@ -21,7 +21,7 @@ use Rattle.cover_lacks.specs.Lacks.{AreLacking}
 use Rattle.respell.specs.Respelled.{IsRespelled}
 use Rattle.right_code.specs.Forms.{AreFormsOf}
 use Rattle.right_code.specs.Tasks.{Task, task_stock, task_jobs}
-use Rattle.right_code.specs.Works.{node_limit}
+use Rattle.right_code.specs.FlowJobs.{node_limit}
 use Rattle.code_gen.specs.Refusals.{HasJumps}
 use Rattle.compile_command.specs.Code.{HasRightCode, HasRoom, IsTaskFault}
 use Rattle.compile_command.specs.Compiled.{IsCompileFault}
@@ -55,7 +55,7 @@ AreLackLines netlist (tree ∷ trees) text =
 pub record ShowsCost (stock : StockModel) (job : JobModel) (text : List ℕ) : Type 0 where
   pub choice : JobCoverModel
   pub chosen : IsChosen stock job.destination job.trees choice
-  pub line : text ≡ cost_line (job_cost job.destination choice.plan)
+  pub line : text ≡ cost_line (job_cost job.destination choice.cover)
 
 -- a job that may stand for another: by equal trees, or of a test by an opposite one, and with cells
 -- for what waits
@@ -70,7 +70,7 @@ pub record ShowsEqual (netlist : Netlist) (stock : StockModel) (job : JobModel) 
   pub stands : MayStandFor netlist stock turned job other
   pub choice : JobCoverModel
   pub chosen : IsChosen stock other.destination other.trees choice
-  pub lines : text ≡ equal_lines netlist turned other (job_cost other.destination choice.plan)
+  pub lines : text ≡ equal_lines netlist turned other (job_cost other.destination choice.cover)
 
 -- such trees, where some are found; that all are found which there are is not promised
 abbrev pub IsEqualText : Netlist → StockModel → JobModel → List ℕ → Type 0
@@ -130,11 +130,11 @@ IsEnding task text =
 pub record IsExplainedTask (src text : List ℕ) (task : Task) : Type 0 where
   pub room : HasRoom task
   pub jumps : HasJumps task
-  pub rules : List FormModel
+  pub all : List FormModel
   pub reach : ℕ
-  pub forms : AreFormsOf task.netlist rules reach
+  pub forms : AreFormsOf task.netlist all reach
   pub jobs : List ℕ
-  pub told : AreJobTexts task.netlist (task_stock rules task) src 0 (program_job_places task.listing) (task_jobs task) jobs
+  pub told : AreJobTexts task.netlist (task_stock all task) src 0 (program_job_places task.program) (task_jobs task) jobs
   pub ending : List ℕ
   pub ends : IsEnding task ending
   pub lines : text ≡ jobs ++ ending

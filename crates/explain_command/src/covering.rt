@@ -11,7 +11,7 @@ ghost use Rattle.tree_sharing.specs.Sharing.{exprs_at};
 use crate::equal::add_equal;
 use crate::heading::add_tree_line;
 use crate::subject::Subject;
-use crate::text::{add_bytes, add_cost};
+use crate::text::add_cost;
 use cover::{CoverFault, cover};
 use cover_lacks::lacking;
 use form_model::{Job, Tree};
@@ -19,6 +19,7 @@ use near_forms::near_texts;
 use rec_bits::NoMemory;
 use std::alloc::Global;
 use text_places::line_around;
+use transfer_set::add_bytes;
 
 // A line on a near form.
 fn add_near(text: &mut Vec<u8>, rest: &[u8]) -> Result<(), NoMemory>

@@ -14,13 +14,13 @@ ghost use Rattle.explain_command.specs.Explained.{IsEnding};
 ghost use Rattle.explain_command.specs.Inner.Telling.{Adds, IsAlone};
 ghost use Rattle.explain_command.specs.Lines.{end_line};
 
-use crate::text::{add_bytes, add_number};
 use compile_command::{CompileFault, image_for};
 use isa_extract::Isa;
 use net_model::Modes;
 use rec_bits::{Items, NoMemory};
 use src_model::Typed;
 use std::alloc::Global;
+use transfer_set::{add_bytes, add_number};
 
 fn add_no_cover(text: &mut Vec<u8>, number: u32) -> Result<(), NoMemory>
     ensures { OnOk result (text.new.items ≡ text.old.items ++ end_line (NoCover number)) }

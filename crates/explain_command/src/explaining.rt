@@ -28,6 +28,7 @@ use net_model::Modes;
 use rec_bits::NoMemory;
 use src_model::Typed;
 use std::alloc::Global;
+use transfer_set::Machine;
 
 // What is told of the jobs of a program whose variables stand at these places, by these forms.
 fn told_jobs(
@@ -79,13 +80,12 @@ fn jobs_text(
     ensures refused { IfErr result (IsEarlyFault (read_task modes.now typed.now)) }
 {
     let places = compile_command::places(alloc, modes, typed)?;
-    let forms = usable_forms(
-        alloc,
-        modes.first(),
-        &mut extracted.book,
-        &extracted.pool,
-        &extracted.patterns,
-    )?;
+    let machine = Machine {
+        checked: modes.first(),
+        pool: &extracted.pool,
+        patterns: &extracted.patterns,
+    };
+    let forms = usable_forms(alloc, &machine, &mut extracted.book)?;
     let text = told_jobs(alloc, src, modes, &forms, typed, &places)?;
     Ok(text)
 }

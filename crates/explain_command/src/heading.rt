@@ -9,13 +9,13 @@ ghost use Rattle.job_places.specs.Places.{model_of_role, model_of_job_place};
 ghost use Rattle.src_trees.specs.Jobs.{model_of_job};
 ghost use Rattle.explain_command.specs.Lines.{aim_lines, duty_text, job_head, job_line, lines_of, place_text, tree_line};
 
-use crate::text::{add_bytes, add_number};
 use crate::tree_text::add_tree;
 use form_model::{Aim, Job, Tree};
 use job_places::{JobPlace, Role};
 use net_model::Checked;
 use rec_bits::{Name, NoMemory};
 use text_places::place_of;
+use transfer_set::{add_bytes, add_number};
 
 // `LINE:COLUMN` of an offset.
 fn add_place(text: &mut Vec<u8>, src: &[u8], at: u64) -> Result<(), NoMemory>

@@ -13,7 +13,7 @@
 //!
 //! Files:
 //!
-//! - `text`: bytes and numbers in a text.
+//! - `text`: the line of a cost.
 //! - `tree_text`: the text of a tree.
 //! - `heading`: what is told of a job whatever its cover is.
 //! - `covering`: the cost of its cover, or what lacks one.

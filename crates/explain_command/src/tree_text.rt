@@ -6,45 +6,10 @@ ghost use Rattle.std.specs.List.{concat};
 ghost use Rattle.net_model.specs.Texts.{memory_name, expr_text};
 ghost use Rattle.form_model.specs.Trees.{model_of_tree};
 
-use crate::text::{add_bytes, add_number};
 use form_model::Tree;
 use net_model::Checked;
 use rec_bits::NoMemory;
-use transfer_set::{word_of_one, word_of_two};
-
-// A number with its width.
-fn add_literal(text: &mut Vec<u8>, value: u64, width: u8) -> Result<(), NoMemory>
-    ensures { OnOk result (text.new.items ≡ text.old.items ++ concat (decimal value ∷ codes "#" ∷ decimal width ∷ [])) }
-{
-    add_number(text, value)?;
-    add_bytes(text, b"#")?;
-    add_number(text, u64::from(width))
-}
-
-// A number as an operand behind others.
-fn add_more(text: &mut Vec<u8>, number: u8) -> Result<(), NoMemory>
-    ensures { OnOk result (text.new.items ≡ text.old.items ++ concat (codes "," ∷ decimal number ∷ [])) }
-{
-    add_bytes(text, b",")?;
-    add_number(text, u64::from(number))
-}
-
-// A number as the last operand, and the end.
-fn add_last(text: &mut Vec<u8>, number: u8) -> Result<(), NoMemory>
-    ensures { OnOk result (text.new.items ≡ text.old.items ++ concat (codes "," ∷ decimal number ∷ codes ")" ∷ [])) }
-{
-    add_more(text, number)?;
-    add_bytes(text, b")")
-}
-
-// The bounds of a slice as the last operands, and the end.
-fn add_bounds(text: &mut Vec<u8>, hi: u8, lo: u8) -> Result<(), NoMemory>
-    ensures { OnOk result (text.new.items ≡ text.old.items
-        ++ concat (codes "," ∷ decimal hi ∷ codes "," ∷ decimal lo ∷ codes ")" ∷ [])) }
-{
-    add_more(text, hi)?;
-    add_last(text, lo)
-}
+use transfer_set::{add_bounds, add_bytes, add_constant, add_last, word_of_one, word_of_two};
 
 // `read(MEMORY`.
 fn add_memory(text: &mut Vec<u8>, checked: &Checked) -> Result<(), NoMemory>
@@ -156,7 +121,7 @@ pub(crate) fn add_tree(text: &mut Vec<u8>, checked: &Checked, tree: &Tree) -> Re
     ensures { OnOk result (text.new.items ≡ text.old.items ++ expr_text checked.now.netlist (model_of_tree tree.now)) }
 {
     match tree {
-        Tree::Lit { width, value } => add_literal(text, *value, *width),
+        Tree::Lit { width, value } => add_constant(text, *value, *width),
         Tree::Read(addr, _) => add_read(text, checked, addr),
         Tree::Un(op, a) => add_one(text, checked, word_of_one(*op).as_bytes(), a),
         Tree::Bin(op, a, b) => add_two(text, checked, word_of_two(*op).as_bytes(), a, b),

@@ -3,9 +3,8 @@
 ghost use Rattle.std.specs.Prelude.{◌<◌, ◌^◌, length};
 
 use job_places::places_of;
-use net_model::NetFault;
 use rec_bits::NoMemory;
-use record_core::Status;
+use record_core::{Status, name_place};
 use src_model::SrcFault;
 use std::alloc::Global;
 
@@ -20,24 +19,7 @@ pub enum FaultPlace {
     Tree(u32),
 }
 
-// The offset of the item that a broken rule names.
-fn net_offset(fault: NetFault) -> Option<u64> {
-    match fault {
-        NetFault::Duplicate(at)
-        | NetFault::Unknown(at)
-        | NetFault::Width(at)
-        | NetFault::Driver(at)
-        | NetFault::Cycle(at)
-        | NetFault::Enable(at)
-        | NetFault::ControlOp(at)
-        | NetFault::WideSelect(at)
-        | NetFault::PatternLarge(at)
-        | NetFault::TooMany(at)
-        | NetFault::FileAddr(at) => Some(at),
-        NetFault::Role(_) | NetFault::AlwaysClash | NetFault::Limit { .. } => None,
-    }
-}
-
+// The offset of the name that a broken rule of programs tells.
 fn src_offset(fault: SrcFault) -> Option<u64> {
     match fault {
         SrcFault::Duplicate(at)
@@ -54,7 +36,7 @@ fn src_offset(fault: SrcFault) -> Option<u64> {
 pub fn spot_of(status: Status) -> Option<(usize, FaultPlace)> {
     let (file, spot) = match status {
         Status::NetText(at) => (0, FaultPlace::At(at)),
-        Status::Net(fault) => (0, FaultPlace::At(net_offset(fault)?)),
+        Status::Net(fault) => (0, FaultPlace::At(name_place(fault)?)),
         Status::SrcText(at) | Status::ImageText(at) | Status::AsmText(at) => (
             1,
             FaultPlace::At(at),

@@ -35,19 +35,19 @@ branch_on condition = record {
 }
 
 abbrev stock : StockModel
-stock = record { rules = branch_on (no_difference (read InMemory low_byte 16)) ∷ branch_on (equal (read InMemory low_byte 16)) ∷ []; temps = 1; file = 0 }
+stock = record { forms = branch_on (no_difference (read InMemory low_byte 16)) ∷ branch_on (equal (read InMemory low_byte 16)) ∷ []; temps = 1; file = 0 }
 
 abbrev of_first : JobCoverModel
-of_first = record { which = 0; plan = use_form 1 no_operands no_cuts }
+of_first = record { which = 0; cover = use_form 1 no_operands no_cuts }
 
 abbrev of_second : JobCoverModel
-of_second = record { which = 1; plan = use_form 0 no_operands no_cuts }
+of_second = record { which = 1; cover = use_form 0 no_operands no_cuts }
 
 first_covers : Covers stock tested trees of_first
 first_covers = record {
   tree = equal (read InMemory (const 8 3) 16);
   used = refl;
-  orderly = (branch_on (equal (read InMemory low_byte 16)), refl, record { setting = 3; sites = [] }, refl, refl, refl);
+  orderly = (branch_on (equal (read InMemory low_byte 16)), refl, record { setting = 3; leaves = [] }, refl, refl, refl);
   enough = omega arith;
 }
 
@@ -55,33 +55,33 @@ second_covers : Covers stock tested trees of_second
 second_covers = record {
   tree = no_difference (read InMemory (const 8 3) 16);
   used = refl;
-  orderly = (branch_on (no_difference (read InMemory low_byte 16)), refl, record { setting = 3; sites = [] }, refl, refl, refl);
+  orderly = (branch_on (no_difference (read InMemory low_byte 16)), refl, record { setting = 3; leaves = [] }, refl, refl, refl);
   enough = omega arith;
 }
 
-same_cost : cost of_first.plan ≡ cost of_second.plan
+same_cost : cost of_first.cover ≡ cost of_second.cover
 same_cost = refl
 
--- without sites there are no operands' covers and no cuts'
-no_more_operands : (sites : List Operand) (ps : CoverOperandsModel) → sites ≡ [] → AreOrderly stock sites ps → ps ≡ no_operands
-no_more_operands sites no_operands e h = refl
-no_more_operands sites (operand_then i p ps) e h = (let at : slice_get sites i ≡ Some h.0 = h.1 in let none : slice_get sites i ≡ None = rw e refl in cc)
+-- without leaves there are no operands' covers and no cuts'
+no_more_operands : (leaves : List Operand) (ps : CoverOperandsModel) → leaves ≡ [] → AreOrderly stock leaves ps → ps ≡ no_operands
+no_more_operands leaves no_operands e h = refl
+no_more_operands leaves (operand_then i p ps) e h = (let at : slice_get leaves i ≡ Some h.0 = h.1 in let none : slice_get leaves i ≡ None = rw e refl in cc)
 
 no_more_cuts : (left : List ExprModel) (cs : CoverCutsModel) → left ≡ [] → AreCut stock left cs → cs ≡ no_cuts
 no_more_cuts left no_cuts e h = refl
 no_more_cuts left (cut_then p cs) e h = (let more : left ≡ h.0 ∷ h.1 = h.2 in cc)
 
 -- nothing else covers the first tree
-only_first : (plan : CoverModel) → IsOrderly stock tested (equal (read InMemory (const 8 3) 16)) true plan → plan ≡ of_first.plan
+only_first : (cover : CoverModel) → IsOrderly stock tested (equal (read InMemory (const 8 3) 16)) true cover → cover ≡ of_first.cover
 only_first (use_form zero ps cs) h =
-    let rule : branch_on (no_difference (read InMemory low_byte 16)) ≡ h.0 = (let at : Some (branch_on (no_difference (read InMemory low_byte 16))) ≡ Some h.0 = h.1 in cc) in
-    let none : None ≡ Some h.2 = subst (λ r. taken 1 r tested (equal (read InMemory (const 8 3) 16)) true ≡ Some h.2) (sym rule) h.3 in
+    let form : branch_on (no_difference (read InMemory low_byte 16)) ≡ h.0 = (let at : Some (branch_on (no_difference (read InMemory low_byte 16))) ≡ Some h.0 = h.1 in cc) in
+    let none : None ≡ Some h.2 = subst (λ r. taken 1 r tested (equal (read InMemory (const 8 3) 16)) true ≡ Some h.2) (sym form) h.3 in
     cc
 only_first (use_form (suc zero) ps cs) h =
-    let rule : branch_on (equal (read InMemory low_byte 16)) ≡ h.0 = (let at : Some (branch_on (equal (read InMemory low_byte 16))) ≡ Some h.0 = h.1 in cc) in
-    let found : record { setting = 3; sites = [] } ≡ h.2 = (let took : Some (record { setting = 3; sites = [] }) ≡ Some h.2 = subst (λ r. taken 1 r tested (equal (read InMemory (const 8 3) 16)) true ≡ Some h.2) (sym rule) h.3 in cc) in
-    let operands = no_more_operands _ ps (ap (λ (f : MatchModel). operands_of f.sites) (sym found)) h.4 in
-    let cuts = no_more_cuts _ cs (ap (λ (f : MatchModel). cuts_of f.sites) (sym found)) h.5 in
+    let form : branch_on (equal (read InMemory low_byte 16)) ≡ h.0 = (let at : Some (branch_on (equal (read InMemory low_byte 16))) ≡ Some h.0 = h.1 in cc) in
+    let found : record { setting = 3; leaves = [] } ≡ h.2 = (let took : Some (record { setting = 3; leaves = [] }) ≡ Some h.2 = subst (λ r. taken 1 r tested (equal (read InMemory (const 8 3) 16)) true ≡ Some h.2) (sym form) h.3 in cc) in
+    let operands = no_more_operands _ ps (ap (λ (f : MatchModel). operands_of f.leaves) (sym found)) h.4 in
+    let cuts = no_more_cuts _ cs (ap (λ (f : MatchModel). cuts_of f.leaves) (sym found)) h.5 in
     cc
 only_first (use_form (suc (suc k)) ps cs) h = (let none : None ≡ Some h.0 = h.1 in cc)
 
@@ -91,27 +91,27 @@ least zero (suc m) = inl (omega arith)
 least (suc n) m = inl (omega arith)
 
 -- so no other cover comes before it
-before : (which : ℕ) (plan : CoverModel) (tree : ExprModel) → slice_get trees which ≡ Some tree → IsOrderly stock tested tree true plan
-    → (1 < cost plan) ⊎ ((1 ≡ cost plan) × ((of_first ≡ record { which = which; plan = plan }) ⊎ ChoiceBefore of_first (record { which = which; plan = plan })))
-before zero plan tree used h =
+before : (which : ℕ) (cover : CoverModel) (tree : ExprModel) → slice_get trees which ≡ Some tree → IsOrderly stock tested tree true cover
+    → (1 < cost cover) ⊎ ((1 ≡ cost cover) × ((of_first ≡ record { which = which; cover = cover }) ⊎ ChoiceBefore of_first (record { which = which; cover = cover })))
+before zero cover tree used h =
     let is : equal (read InMemory (const 8 3) 16) ≡ tree = (let at : Some (equal (read InMemory (const 8 3) 16)) ≡ Some tree = used in cc) in
-    let only = only_first plan (subst (λ t. IsOrderly stock tested t true plan) (sym is) h) in
-    inr (ap cost (sym only), inl (ap (λ (p : CoverModel). record { which = 0; plan = p }) (sym only)))
+    let only = only_first cover (subst (λ t. IsOrderly stock tested t true cover) (sym is) h) in
+    inr (ap cost (sym only), inl (ap (λ (p : CoverModel). record { which = 0; cover = p }) (sym only)))
 before (suc k) (use_form f ps cs) tree used h = by (least (operands_cost ps) (cuts_cost cs))
   where
     by : (1 < 1 + operands_cost ps + cuts_cost cs) ⊎ (1 ≡ 1 + operands_cost ps + cuts_cost cs)
-        → (1 < cost (use_form f ps cs)) ⊎ ((1 ≡ cost (use_form f ps cs)) × ((of_first ≡ record { which = suc k; plan = use_form f ps cs }) ⊎ ChoiceBefore of_first (record { which = suc k; plan = use_form f ps cs })))
+        → (1 < cost (use_form f ps cs)) ⊎ ((1 ≡ cost (use_form f ps cs)) × ((of_first ≡ record { which = suc k; cover = use_form f ps cs }) ⊎ ChoiceBefore of_first (record { which = suc k; cover = use_form f ps cs })))
     by (inl more) = inl more
     by (inr same) = inr (same, inr (inl (omega arith)))
 
 chosen : IsChosen stock tested trees of_first
-chosen = record { covers = first_covers; first = λ other covers. before other.which other.plan covers.tree covers.used covers.orderly }
+chosen = record { covers = first_covers; first = λ other covers. before other.which other.cover covers.tree covers.used covers.orderly }
 
 -- and the second's isn't chosen
 not_second : IsChosen stock tested trees of_second → ⊥
 not_second c = by (c.first of_first first_covers)
   where
-    by : (cost of_second.plan < cost of_first.plan) ⊎ ((cost of_second.plan ≡ cost of_first.plan) × ((of_second ≡ of_first) ⊎ ChoiceBefore of_second of_first)) → ⊥
+    by : (cost of_second.cover < cost of_first.cover) ⊎ ((cost of_second.cover ≡ cost of_first.cover) × ((of_second ≡ of_first) ⊎ ChoiceBefore of_second of_first)) → ⊥
     by (inl more) = absurd (omega (arith, more))
     by (inr (same, inl one)) = cc
     by (inr (same, inr (inl less))) = absurd (omega (arith, less))

@@ -20,7 +20,7 @@ mutual
     no_cuts : CoverCutsModel
     cut_then : CoverModel → CoverCutsModel → CoverCutsModel
 
--- the plan that the code's cover is
+-- the model of the code's cover
 abbrev mutual
   pub model_of_cover_operands : CoverOperands → CoverOperandsModel
   model_of_cover_operands EndOfOperands = no_operands

@@ -12,7 +12,7 @@ use Rattle.form_model.specs.Forms.{FormModel, models_of_forms, GoalModel, into_r
 use Rattle.form_model.specs.Matches.{HomeModel, in_register, in_file, LeafModel, operand, cut, MatchModel, taken}
 use Rattle.form_model.specs.CoverModels.{CoverModel, use_form, CoverOperandsModel, no_operands, operand_then, CoverCutsModel, no_cuts, cut_then, cost, operands_cost, cuts_cost}
 
--- ---- sites: operands and cuts apart, each from left to right
+-- ---- leaves: operands and cuts apart, each from left to right
 
 -- an operand: its home, its tree, and whether it is whole
 pub record Operand : Type 0 where
@@ -22,13 +22,13 @@ pub record Operand : Type 0 where
 
 abbrev pub operands_of : List LeafModel → List Operand
 operands_of [] = []
-operands_of (operand home tree whole ∷ sites) = record { home = home; tree = tree; whole = whole } ∷ operands_of sites
-operands_of (cut shape tree ∷ sites) = operands_of sites
+operands_of (operand home tree whole ∷ leaves) = record { home = home; tree = tree; whole = whole } ∷ operands_of leaves
+operands_of (cut shape tree ∷ leaves) = operands_of leaves
 
 abbrev pub cuts_of : List LeafModel → List ExprModel
 cuts_of [] = []
-cuts_of (operand home tree whole ∷ sites) = cuts_of sites
-cuts_of (cut shape tree ∷ sites) = tree ∷ cuts_of sites
+cuts_of (operand home tree whole ∷ leaves) = cuts_of leaves
+cuts_of (cut shape tree ∷ leaves) = tree ∷ cuts_of leaves
 
 -- where an operand's cover goes
 abbrev pub home_destination : HomeModel → DestinationModel
@@ -49,17 +49,17 @@ home_cells (in_file shape) = 1
 
 abbrev pub form_clobbers : Option FormModel → ℕ
 form_clobbers None = 0
-form_clobbers (Some rule) = rule.clobbers
+form_clobbers (Some form) = form.clobbers
 
 -- the clobbers of the form and of the operands' covers; cuts are stored before, so what they write
 -- doesn't count
 abbrev mutual
   pub written : List FormModel → CoverModel → ℕ
-  written rules (use_form k ps cs) = bit_or (form_clobbers (slice_get rules k)) (all_written rules ps)
+  written forms (use_form k ps cs) = bit_or (form_clobbers (slice_get forms k)) (all_written forms ps)
 
   pub all_written : List FormModel → CoverOperandsModel → ℕ
-  all_written rules no_operands = 0
-  all_written rules (operand_then i p ps) = bit_or (written rules p) (all_written rules ps)
+  all_written forms no_operands = 0
+  all_written forms (operand_then i p ps) = bit_or (written forms p) (all_written forms ps)
 
 -- ---- the cells of the file that a cover needs
 
@@ -73,44 +73,44 @@ cells_of_goal (branches when_one to) = 0
 
 abbrev pub form_cells : Option FormModel → ℕ
 form_cells None = 0
-form_cells (Some rule) = cells_of_goal rule.goal
+form_cells (Some form) = cells_of_goal form.goal
 
 -- the cells of the file in which the cover leaves its value: an operand's cover leaves it in the
 -- operand's home
 abbrev pub left_cells : List FormModel → CoverModel → ℕ
-left_cells rules (use_form k ps cs) = form_cells (slice_get rules k)
+left_cells forms (use_form k ps cs) = form_cells (slice_get forms k)
 
 -- the greatest number of cells of the file that are taken at one time: while an operand is
 -- computed, those before it in the order stay in theirs. Cuts are stored before
 abbrev mutual
   pub need : List FormModel → CoverModel → ℕ
-  need rules (use_form k ps cs) = max (form_cells (slice_get rules k)) (operands_need rules ps)
+  need forms (use_form k ps cs) = max (form_cells (slice_get forms k)) (operands_need forms ps)
 
   pub operands_need : List FormModel → CoverOperandsModel → ℕ
-  operands_need rules no_operands = 0
-  operands_need rules (operand_then i p ps) =
-      max (need rules p) (left_cells rules p + operands_need rules ps)
+  operands_need forms no_operands = 0
+  operands_need forms (operand_then i p ps) =
+      max (need forms p) (left_cells forms p + operands_need forms ps)
 
 -- ---- orderly covers
 
 -- what a netlist and a program give: the forms in order, the number of temporary cells, and that of
 -- the file's cells, 0 where there is no file
 pub record StockModel : Type 0 where
-  pub rules : List FormModel
+  pub forms : List FormModel
   pub temps : ℕ
   pub file : ℕ
 
 -- what the code's forms, so many temporary cells and a file of so many cells give
 abbrev pub stock_with : List Form → ℕ → ℕ → StockModel
-stock_with forms temps file = record { rules = models_of_forms forms; temps = temps; file = file }
+stock_with forms temps file = record { forms = models_of_forms forms; temps = temps; file = file }
 
 abbrev mutual
-  -- the plan is an orderly cover of a tree that goes to a destination
+  -- the cover is an orderly one of a tree that goes to a destination
   pub IsOrderly : StockModel → DestinationModel → ExprModel → Bool → CoverModel → Type 0
   IsOrderly stock destination tree whole (use_form k ps cs) =
-      (rule : FormModel) × (slice_get stock.rules k ≡ Some rule)
-      × (found : MatchModel) × (taken stock.temps rule destination tree whole ≡ Some found)
-      × AreOrderly stock (operands_of found.sites) ps × AreCut stock (cuts_of found.sites) cs
+      (form : FormModel) × (slice_get stock.forms k ≡ Some form)
+      × (found : MatchModel) × (taken stock.temps form destination tree whole ≡ Some found)
+      × AreOrderly stock (operands_of found.leaves) ps × AreCut stock (cuts_of found.leaves) cs
 
   -- each operand has an orderly cover into its home, and no later one writes an earlier one's
   -- register
@@ -118,14 +118,14 @@ abbrev mutual
   AreOrderly stock left no_operands = left ≡ []
   AreOrderly stock left (operand_then i p ps) =
       (o : Operand) × (slice_get left i ≡ Some o) × IsOrderly stock (home_destination o.home) o.tree o.whole p
-      × (bit_and (all_written stock.rules ps) (home_set o.home) ≡ 0) × AreOrderly stock (remove left i) ps
+      × (bit_and (all_written stock.forms ps) (home_set o.home) ≡ 0) × AreOrderly stock (remove left i) ps
 
   -- each cut has an orderly cover into a temporary cell, for which the file is large enough
   pub AreCut : StockModel → List ExprModel → CoverCutsModel → Type 0
   AreCut stock cuts no_cuts = cuts ≡ []
   AreCut stock cuts (cut_then p cs) =
       (tree : ExprModel) × (later : List ExprModel) × (cuts ≡ tree ∷ later)
-      × IsOrderly stock temporary tree false p × (need stock.rules p ≤ stock.file) × AreCut stock later cs
+      × IsOrderly stock temporary tree false p × (need stock.forms p ≤ stock.file) × AreCut stock later cs
 
 -- ---- which of two covers comes first
 
@@ -161,16 +161,16 @@ abbrev mutual
 -- a cover of a job: which tree is used, and its cover
 pub record JobCoverModel : Type 0 where
   pub which : ℕ
-  pub plan : CoverModel
+  pub cover : CoverModel
 
 pub record Covers (stock : StockModel) (destination : DestinationModel) (trees : List ExprModel) (choice : JobCoverModel) : Type 0 where
   pub tree : ExprModel
   pub used : slice_get trees choice.which ≡ Some tree
-  pub orderly : IsOrderly stock destination tree true choice.plan
-  pub enough : need stock.rules choice.plan ≤ stock.file
+  pub orderly : IsOrderly stock destination tree true choice.cover
+  pub enough : need stock.forms choice.cover ≤ stock.file
 
 abbrev pub ChoiceBefore : JobCoverModel → JobCoverModel → Type 0
-ChoiceBefore a b = (a.which < b.which) ⊎ ((a.which ≡ b.which) × IsBefore a.plan b.plan)
+ChoiceBefore a b = (a.which < b.which) ⊎ ((a.which ≡ b.which) × IsBefore a.cover b.cover)
 
 -- the cost without the form's own 1
 abbrev pub parts_cost : CoverModel → ℕ
@@ -178,15 +178,15 @@ parts_cost (use_form k ps cs) = operands_cost ps + cuts_cost cs
 
 -- the cost of a job's cover; a test's leaves out its branch word
 abbrev pub job_cost : DestinationModel → CoverModel → ℕ
-job_cost tested plan = parts_cost plan
-job_cost destination plan = cost plan
+job_cost tested cover = parts_cost cover
+job_cost destination cover = cost cover
 
 -- the first of the orderly covers of least cost
 pub record IsChosen (stock : StockModel) (destination : DestinationModel) (trees : List ExprModel) (choice : JobCoverModel) : Type 0 where
   pub covers : Covers stock destination trees choice
   pub first : (other : JobCoverModel) → Covers stock destination trees other →
-      (cost choice.plan < cost other.plan)
-      ⊎ ((cost choice.plan ≡ cost other.plan) × ((choice ≡ other) ⊎ ChoiceBefore choice other))
+      (cost choice.cover < cost other.cover)
+      ⊎ ((cost choice.cover ≡ cost other.cover) × ((choice ≡ other) ⊎ ChoiceBefore choice other))
 
 -- no tree of the job has an orderly cover
 pub record HasNoCover (stock : StockModel) (destination : DestinationModel) (trees : List ExprModel) : Type 0 where

@@ -1,5 +1,5 @@
 -- What a form takes of a tree. What a form takes of a tree, none where it doesn't match: the bits
--- of the word that are settled, and what is left open (*sites*) from left to right, operands and
+-- of the word that are settled, and what is left open (*leaves*) from left to right, operands and
 -- cuts. An operand is in its *home*, a register or a cell of the register file that a field shape
 -- names, and takes any subtree of its width; a cut is in a temporary cell. Operators and widths
 -- are equal; a field shape is matched as a whole, a sum too, and takes a number of its width that
@@ -32,25 +32,25 @@ pub data LeafModel : Type 0 where
   cut : (shape : ExprModel) → (tree : ExprModel) → LeafModel
 
 -- a match: the bits of the word that it settles, with 0 in those that will name a temporary cell
--- or a cell of the file, and its sites from left to right
+-- or a cell of the file, and its leaves from left to right
 pub record MatchModel : Type 0 where
   pub setting : ℕ
-  pub sites : List LeafModel
+  pub leaves : List LeafModel
 
 -- a match that settles bits and leaves nothing open
 abbrev pub settled : Option ℕ → Option MatchModel
 settled None = None
-settled (Some setting) = Some (record { setting = setting; sites = [] })
+settled (Some setting) = Some (record { setting = setting; leaves = [] })
 
--- a match that settles no bits and leaves one site open, where a test holds
+-- a match that settles no bits and leaves one leaf open, where a test holds
 abbrev pub open_if : Bool → LeafModel → Option MatchModel
-open_if b site = if b then Some (record { setting = 0; sites = site ∷ [] }) else None
+open_if b leaf = if b then Some (record { setting = 0; leaves = leaf ∷ [] }) else None
 
 -- two matches together
 abbrev pub both : Option MatchModel → Option MatchModel → Option MatchModel
 both None b = None
 both (Some f) None = None
-both (Some f) (Some g) = Some (record { setting = bit_or f.setting g.setting; sites = f.sites ++ g.sites })
+both (Some f) (Some g) = Some (record { setting = bit_or f.setting g.setting; leaves = f.leaves ++ g.leaves })
 
 -- a field shape takes a number of its width that it shows
 abbrev pub shape_match : ExprModel → ExprModel → Option MatchModel
@@ -141,18 +141,18 @@ address_match temps (Some addr) tested = None
 
 -- what a form with this goal takes of a tree that goes to a destination
 abbrev pub goal_match : ℕ → FormModel → GoalModel → DestinationModel → ExprModel → Bool → Option MatchModel
-goal_match temps rule (into_reg r) (into id) tree whole = if r == id then matched temps rule.value tree whole else None
-goal_match temps rule into_file filed tree whole = matched temps rule.value tree whole
-goal_match temps rule into_memory (cell address) tree whole =
-    both (address_match temps rule.addr (cell address)) (matched temps rule.value tree true)
-goal_match temps rule into_memory (stored address) tree whole =
-    both (address_match temps rule.addr (stored address)) (matched temps rule.value tree false)
-goal_match temps rule into_memory temporary tree whole =
-    both (address_match temps rule.addr temporary) (matched temps rule.value tree false)
-goal_match temps rule (branches when_one to) tested tree whole = matched temps rule.value tree true
-goal_match temps rule _ _ tree whole = None
+goal_match temps form (into_reg r) (into id) tree whole = if r == id then matched temps form.value tree whole else None
+goal_match temps form into_file filed tree whole = matched temps form.value tree whole
+goal_match temps form into_memory (cell address) tree whole =
+    both (address_match temps form.addr (cell address)) (matched temps form.value tree true)
+goal_match temps form into_memory (stored address) tree whole =
+    both (address_match temps form.addr (stored address)) (matched temps form.value tree false)
+goal_match temps form into_memory temporary tree whole =
+    both (address_match temps form.addr temporary) (matched temps form.value tree false)
+goal_match temps form (branches when_one to) tested tree whole = matched temps form.value tree true
+goal_match temps form _ _ tree whole = None
 
 -- what a form takes of a tree that goes to a destination. `whole` tells of an operand alone: the
 -- tree of a cell or of a test is whole, and that of a store or of a temporary cell isn't
 abbrev pub taken : ℕ → FormModel → DestinationModel → ExprModel → Bool → Option MatchModel
-taken temps rule destination tree whole = goal_match temps rule rule.goal destination tree whole
+taken temps form destination tree whole = goal_match temps form form.goal destination tree whole

@@ -15,7 +15,7 @@ IsLowGoal goal = (q : ℕ) → goal ≡ into_reg q → q < 16
 
 -- so are those of a form's goal, its address and its value
 abbrev pub IsLow : FormModel → Type 0
-IsLow rule = IsLowGoal rule.goal × ((a : ExprModel) → rule.addr ≡ Some a → IsLowExpr a) × IsLowExpr rule.value
+IsLow form = IsLowGoal form.goal × ((a : ExprModel) → form.addr ≡ Some a → IsLowExpr a) × IsLowExpr form.value
 
 abbrev pub AreLow : List FormModel → Type 0
-AreLow rules = (k : ℕ) (rule : FormModel) → slice_get rules k ≡ Some rule → IsLow rule
+AreLow forms = (k : ℕ) (form : FormModel) → slice_get forms k ≡ Some form → IsLow form

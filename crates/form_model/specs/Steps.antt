@@ -55,28 +55,28 @@ pub record CutCellsModel : Type 0 where
 -- and ls those inside the form's own cuts
 abbrev pub operand_cells : List LeafModel → List ℕ → List ℕ → ℕ → List OperandCellsModel
 operand_cells [] ks ls n = []
-operand_cells (operand home tree whole ∷ sites) ks ls n =
+operand_cells (operand home tree whole ∷ leaves) ks ls n =
     record {
       operand = record { home = home; tree = tree; whole = whole };
       first = n;
       past = n + slice_index ks 0;
     }
-    ∷ operand_cells sites (drop 1 ks) ls (n + slice_index ks 0)
-operand_cells (cut shape tree ∷ sites) ks ls n = operand_cells sites ks (drop 1 ls) (n + slice_index ls 0 + 1)
+    ∷ operand_cells leaves (drop 1 ks) ls (n + slice_index ks 0)
+operand_cells (cut shape tree ∷ leaves) ks ls n = operand_cells leaves ks (drop 1 ls) (n + slice_index ls 0 + 1)
 
 -- and the form's own cuts
 abbrev pub cut_cells : List LeafModel → List ℕ → List ℕ → ℕ → List CutCellsModel
 cut_cells [] ks ls n = []
-cut_cells (operand home tree whole ∷ sites) ks ls n = cut_cells sites (drop 1 ks) ls (n + slice_index ks 0)
-cut_cells (cut shape tree ∷ sites) ks ls n =
+cut_cells (operand home tree whole ∷ leaves) ks ls n = cut_cells leaves (drop 1 ks) ls (n + slice_index ks 0)
+cut_cells (cut shape tree ∷ leaves) ks ls n =
     record { shape = shape; tree = tree; first = n; cell = n + slice_index ls 0 }
-    ∷ cut_cells sites ks (drop 1 ls) (n + slice_index ls 0 + 1)
+    ∷ cut_cells leaves ks (drop 1 ls) (n + slice_index ls 0 + 1)
 
 abbrev pub cover_operand_cells : List LeafModel → CoverOperandsModel → CoverCutsModel → ℕ → List OperandCellsModel
-cover_operand_cells sites ps cs n = operand_cells sites (operand_counts ps) (cut_counts cs) n
+cover_operand_cells leaves ps cs n = operand_cells leaves (operand_counts ps) (cut_counts cs) n
 
 abbrev pub cover_cut_cells : List LeafModel → CoverOperandsModel → CoverCutsModel → ℕ → List CutCellsModel
-cover_cut_cells sites ps cs n = cut_cells sites (operand_counts ps) (cut_counts cs) n
+cover_cut_cells leaves ps cs n = cut_cells leaves (operand_counts ps) (cut_counts cs) n
 
 -- ---- cells of the file. A set of cells is a number, as a set of registers is
 
@@ -111,15 +111,15 @@ cell_or (Some c) other = c
 -- operand in the order that is in the file, or else the least that holds no operand
 abbrev pub form_cell : Option FormModel → List (Option ℕ) → Option ℕ → ℕ → Option ℕ
 form_cell None cells first free = None
-form_cell (Some rule) cells first free =
-    if cells_of_goal rule.goal == 1 then Some (cell_or (some_or (tied_cell rule.tied cells) first) free) else None
+form_cell (Some form) cells first free =
+    if cells_of_goal form.goal == 1 then Some (cell_or (some_or (tied_cell form.tied cells) first) free) else None
 
 abbrev mutual
   -- the cell of the file in which a cover leaves its value, if it leaves it there; `held` are the
   -- cells of the operands that wait meanwhile
   pub cell_of : StockModel → CoverModel → ℕ → Option ℕ
   cell_of stock (use_form k ps cs) held =
-      form_cell (slice_get stock.rules k) (operand_homes stock ps held) (first_home stock ps held)
+      form_cell (slice_get stock.forms k) (operand_homes stock ps held) (first_home stock ps held)
       (free_cell held stock.file)
 
   -- the operands' cells, from left to right
@@ -138,10 +138,10 @@ abbrev mutual
 
 abbrev pub form_or_none : Option FormModel → FormModel
 form_or_none None = record { pattern = 0; goal = into_memory; addr = None; value = const 0 0; fields = 0; clobbers = 0; tied = None }
-form_or_none (Some rule) = rule
+form_or_none (Some form) = form
 
 abbrev pub match_or_none : Option MatchModel → MatchModel
-match_or_none None = record { setting = 0; sites = [] }
+match_or_none None = record { setting = 0; leaves = [] }
 match_or_none (Some found) = found
 
 abbrev pub operand_cells_or_none : Option OperandCellsModel → OperandCellsModel
@@ -159,7 +159,7 @@ bits_or_none (Some bits) = bits
 
 -- the form at this place in the list, and its match
 abbrev pub form_at : StockModel → ℕ → FormModel
-form_at stock k = form_or_none (slice_get stock.rules k)
+form_at stock k = form_or_none (slice_get stock.forms k)
 
 abbrev pub match_at : StockModel → ℕ → DestinationModel → ExprModel → Bool → MatchModel
 match_at stock k destination tree whole = match_or_none (taken stock.temps (form_at stock k) destination tree whole)
@@ -194,30 +194,30 @@ open_setting operands cuts homes = bit_or (cells_setting cuts) (homes_setting op
 
 -- the bits of the match, of the cells that it leaves open, and of the cell that is written
 abbrev pub whole_setting : FormModel → DestinationModel → MatchModel → List CutCellsModel → List (Option ℕ) → ℕ → Option ℕ → ℕ
-whole_setting rule destination found cuts homes own cell =
-    bit_or (bit_or found.setting (open_setting (operands_of found.sites) cuts homes))
-    (own_setting destination rule.addr own cell)
+whole_setting form destination found cuts homes own cell =
+    bit_or (bit_or found.setting (open_setting (operands_of found.leaves) cuts homes))
+    (own_setting destination form.addr own cell)
 
 -- the setting of the form at the root of a cover whose cuts have the cells from n on, while these
 -- cells of the file are held
 abbrev pub cover_setting : StockModel → CoverModel → ℕ → ℕ → DestinationModel → ExprModel → Bool → ℕ
 cover_setting stock (use_form k ps cs) n held destination tree whole =
     whole_setting (form_at stock k) destination (match_at stock k destination tree whole)
-    (cover_cut_cells (match_at stock k destination tree whole).sites ps cs n) (operand_homes stock ps held)
+    (cover_cut_cells (match_at stock k destination tree whole).leaves ps cs n) (operand_homes stock ps held)
     (n + cut_count (use_form k ps cs)) (cell_of stock (use_form k ps cs) held)
 
 -- ---- steps
 
 -- the form's own step; the branch word of a test is no step
 abbrev pub form_step : FormModel → DestinationModel → ℕ → List Step
-form_step rule tested setting = []
-form_step rule destination setting = record { pattern = rule.pattern; setting = setting } ∷ []
+form_step form tested setting = []
+form_step form destination setting = record { pattern = form.pattern; setting = setting } ∷ []
 
 abbrev mutual
   -- the operands' steps in order of evaluation, and the form's own
   pub own_steps : StockModel → CoverModel → ℕ → ℕ → DestinationModel → ExprModel → Bool → List Step
   own_steps stock (use_form k ps cs) n held destination tree whole =
-      operand_steps stock ps (cover_operand_cells (match_at stock k destination tree whole).sites ps cs n) held
+      operand_steps stock ps (cover_operand_cells (match_at stock k destination tree whole).leaves ps cs n) held
       ++ form_step (form_at stock k) destination (cover_setting stock (use_form k ps cs) n held destination tree whole)
 
   pub operand_steps : StockModel → CoverOperandsModel → List OperandCellsModel → ℕ → List Step
@@ -232,21 +232,21 @@ abbrev pub first_or_none : List (List Step) → List Step
 first_or_none [] = []
 first_or_none (steps ∷ rest) = steps
 
--- the steps for the operands and those for the form's own cuts, joined in the order of the sites
+-- the steps for the operands and those for the form's own cuts, joined in the order of the leaves
 abbrev pub woven : List LeafModel → List (List Step) → List (List Step) → List Step
 woven [] for_operands for_cuts = []
-woven (operand home tree whole ∷ sites) for_operands for_cuts =
-    first_or_none for_operands ++ woven sites (drop 1 for_operands) for_cuts
-woven (cut shape tree ∷ sites) for_operands for_cuts =
-    first_or_none for_cuts ++ woven sites for_operands (drop 1 for_cuts)
+woven (operand home tree whole ∷ leaves) for_operands for_cuts =
+    first_or_none for_operands ++ woven leaves (drop 1 for_operands) for_cuts
+woven (cut shape tree ∷ leaves) for_operands for_cuts =
+    first_or_none for_cuts ++ woven leaves for_operands (drop 1 for_cuts)
 
 abbrev mutual
   -- the steps that put the cuts of a cover into the cells from n on
   pub cut_steps : StockModel → CoverModel → ℕ → DestinationModel → ExprModel → Bool → List Step
   cut_steps stock (use_form k ps cs) n destination tree whole =
-      woven (match_at stock k destination tree whole).sites
-      (inside_operands stock ps (cover_operand_cells (match_at stock k destination tree whole).sites ps cs n))
-      (into_cells stock cs (cover_cut_cells (match_at stock k destination tree whole).sites ps cs n))
+      woven (match_at stock k destination tree whole).leaves
+      (inside_operands stock ps (cover_operand_cells (match_at stock k destination tree whole).leaves ps cs n))
+      (into_cells stock cs (cover_cut_cells (match_at stock k destination tree whole).leaves ps cs n))
 
   -- for each operand, from left to right, the steps for the cuts inside it
   pub inside_operands : StockModel → CoverOperandsModel → List OperandCellsModel → List (List Step)
@@ -270,9 +270,9 @@ abbrev mutual
 
 -- the steps of an orderly cover of a tree that goes to a destination
 abbrev pub cover_steps : StockModel → DestinationModel → ExprModel → CoverModel → List Step
-cover_steps stock destination tree plan =
-    cut_steps stock plan 0 destination tree true ++ own_steps stock plan 0 0 destination tree true
+cover_steps stock destination tree cover =
+    cut_steps stock cover 0 destination tree true ++ own_steps stock cover 0 0 destination tree true
 
 -- the setting of the bits of a branch's condition
 abbrev pub branch_setting : StockModel → ExprModel → CoverModel → ℕ
-branch_setting stock tree plan = cover_setting stock plan 0 0 tested tree true
+branch_setting stock tree cover = cover_setting stock cover 0 0 tested tree true

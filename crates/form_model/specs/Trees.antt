@@ -45,6 +45,6 @@ is_cell (read space a w) = is_number a
 is_cell _ = false
 
 -- no register and no instruction bit occurs in the expression
-pub record HasNoState (term : ExprModel) : Type 0 where
-  pub no_register : (r : ℕ) → occurs r term ≡ false
-  pub no_bit : fields term ≡ 0
+pub record HasNoState (expr : ExprModel) : Type 0 where
+  pub no_register : (r : ℕ) → occurs r expr ≡ false
+  pub no_bit : fields expr ≡ 0

@@ -135,7 +135,7 @@ abbrev sum : ExprModel
 sum = bin Add (read InMemory (const 8 1) 16) (const 16 5)
 
 abbrev found : ℕ → List LeafModel → Option MatchModel
-found setting sites = Some (record { setting = setting; sites = sites })
+found setting leaves = Some (record { setting = setting; leaves = leaves })
 
 -- the swapped form takes it with the number in the register
 swapped_takes : matched 1 swapped sum false ≡ found 1 (operand (in_register 1) (const 16 5) false ∷ [])

@@ -48,10 +48,10 @@ abbrev tied_difference : FormModel
 tied_difference = record difference { addr = Some (slice (word 17) 11 10); tied = Some 0 }
 
 abbrev stock : ℕ → StockModel
-stock size = record { rules = load ∷ difference ∷ sum ∷ store ∷ []; temps = 1; file = size }
+stock size = record { forms = load ∷ difference ∷ sum ∷ store ∷ []; temps = 1; file = size }
 
 abbrev tied_stock : StockModel
-tied_stock = record { rules = tied_load ∷ tied_difference ∷ sum ∷ store ∷ []; temps = 1; file = 2 }
+tied_stock = record { forms = tied_load ∷ tied_difference ∷ sum ∷ store ∷ []; temps = 1; file = 2 }
 
 abbrev at : ℕ → ExprModel
 at n = read InMemory (const 8 n) 16
@@ -78,10 +78,10 @@ inner_first = use_form 3 (operand_then 0 (use_form 1 (operand_then 1 inner (oper
 abbrev left_first : CoverModel
 left_first = use_form 3 (operand_then 0 (use_form 1 (operand_then 0 loaded (operand_then 0 inner no_operands)) no_cuts) no_operands) no_cuts
 
-two_suffice : need (stock 2).rules inner_first ≡ 2
+two_suffice : need (stock 2).forms inner_first ≡ 2
 two_suffice = refl
 
-three_needed : need (stock 4).rules left_first ≡ 3
+three_needed : need (stock 4).forms left_first ≡ 3
 three_needed = refl
 
 costs_six : cost inner_first ≡ 6
@@ -124,7 +124,7 @@ waiting =
     (operand_then 0 (use_form 1 (operand_then 0 (two_loads 2) (operand_then 0 (two_loads 1) no_operands)) no_cuts)
     no_operands) no_cuts
 
-waiting_needs : need (stock 4).rules waiting ≡ 3
+waiting_needs : need (stock 4).forms waiting ≡ 3
 waiting_needs = refl
 
 waiting_costs : cost waiting ≡ 8
@@ -144,7 +144,7 @@ stored_first =
     no_operands)) no_cuts)
     no_operands) no_cuts
 
-stored_needs : need (stock 2).rules stored_first ≡ 2
+stored_needs : need (stock 2).forms stored_first ≡ 2
 stored_needs = refl
 
 stored_costs : cost stored_first ≡ 10

@@ -16,5 +16,5 @@ pub fn law_of_shapes()
 /// occurs.
 pub fn law_of_trees()
     ensures tree { (tree : CodeTree) → is_tree (model_of_tree tree) ≡ true }
-    ensures state { (term : ExprModel) → is_tree term ≡ true → HasNoState term }
+    ensures state { (expr : ExprModel) → is_tree expr ≡ true → HasNoState expr }
 {}

@@ -50,13 +50,13 @@ module _ (netlist : Netlist) (pool : List Node) (reach number : ℕ) (ids : Patt
       → HasAdded netlist reach number (ids_pattern pool ids) old new
   added_plain clobbers e old new is =
       let k = subst (IsClass netlist pool reach (ids_pattern pool ids)) e h in
-      record { rules = plain_form_models netlist number (ids_pattern pool ids) clobbers; of = plain clobbers k.0 k.1 refl; is = is }
+      record { forms = plain_form_models netlist number (ids_pattern pool ids) clobbers; of = plain clobbers k.0 k.1 refl; is = is }
 
   pub added_branch : (parts : BranchIds) → class ≡ Branch parts → (old new : List FormModel) → new ≡ old ++ branch_form_models netlist number (ids_pattern pool ids) (ids_branch pool parts)
       → HasAdded netlist reach number (ids_pattern pool ids) old new
   added_branch parts e old new is =
       let k = subst (IsClass netlist pool reach (ids_pattern pool ids)) e h in
-      record { rules = branch_form_models netlist number (ids_pattern pool ids) (ids_branch pool parts); of = branch (ids_branch pool parts) k.0 refl; is = is }
+      record { forms = branch_form_models netlist number (ids_pattern pool ids) (ids_branch pool parts); of = branch (ids_branch pool parts) k.0 refl; is = is }
 
   pub added_jump : class ≡ Jump → ids.fields ≡ transfer_fields (ids_transfer pool ids.addr ids.value) → (list more : List Form) (form : Form) → more ≡ list ++ form ∷ []
       → model_of_form form ≡ jump_form_model netlist number (expr_of_id pool ids.value) ids.fields → HasAdded netlist reach number (ids_pattern pool ids) (models_of_forms list) (models_of_forms more)
@@ -64,7 +64,7 @@ module _ (netlist : Netlist) (pool : List Node) (reach number : ℕ) (ids : Patt
       let k = subst (IsClass netlist pool reach (ids_pattern pool ids)) e h in
       let t = value_is pool ids.addr ids.value k.target k.move in
       record {
-        rules = jump_form_model netlist number k.target (transfer_fields (ids_transfer pool ids.addr ids.value)) ∷ [];
+        forms = jump_form_model netlist number k.target (transfer_fields (ids_transfer pool ids.addr ids.value)) ∷ [];
         of = jump k refl;
         is = ap models_of_forms pushed ∙ forms_push list form ∙ ap (λ r. models_of_forms list ++ r ∷ []) (is ∙ (λ j. jump_form_model netlist number (t j) (fields j)));
       }

@@ -15,7 +15,8 @@ use Rattle.net_model.specs.Exprs.{TransferModel, ExprModel, keep, write}
 use Rattle.form_model.specs.Forms.{FormModel}
 use Rattle.form_set.specs.Listing.{AreFormModels, AreFormModelsOf, plain, jump, branch, other, IsPlain, branch_form_model, plain_form_model, sides_of, test_sides}
 use Rattle.form_set.specs.Promises.{HasWords, IsForm, IsFormOf, of_branch, of_jump, of_plain}
-use Rattle.form_set.specs.Swaps.{map_below, swap_count}
+use Rattle.operand_swaps.specs.Swaps.{swap_count}
+use Rattle.form_set.specs.Listing.{map_below}
 use Rattle.form_set.specs.Words.{AreClobbers, AreKept, CanKeep, Joins, joins, fails, none, all_registers, is_register_storage, own_storage, registers_below, with}
 use Rattle.net_model.proofs.Storages.{register_within}
 use Rattle.form_set.proofs.Bits.{bit_cases}
@@ -122,23 +123,23 @@ each_at f (suc n) k x e = by (append_at (map_below f n) (f n ∷ []) k x e) (λ 
     by (inl q) before = before q
     by (inr q) before = (n, last q.0 q.1)
 
-of_forms : (netlist : Netlist) (reach number : ℕ) (p : Pattern) (rules : List FormModel) → AreFormModelsOf netlist reach number p rules → (k : ℕ) (rule : FormModel) → slice_get rules k ≡ Some rule → IsFormOf netlist reach number p rule
-of_forms netlist reach number p rules (plain clobbers h c e) k rule at =
-    (let r = each_at (plain_form_model netlist number p clobbers) (2 ^ swap_count (sides_of p.move)) k rule (subst (λ rs. slice_get rs k ≡ Some rule) e at) in of_plain r.0 clobbers h c r.1)
-of_forms netlist reach number p rules (jump h e) zero rule at = (let q = subst (λ rs. slice_get rs zero ≡ Some rule) e at in of_jump h (cc))
-of_forms netlist reach number p rules (jump h e) (suc k) rule at = (let q = subst (λ rs. slice_get rs (suc k) ≡ Some rule) e at in absurd (cc))
-of_forms netlist reach number p rules (branch parts h e) k rule at =
-    (let r = each_at (branch_form_model netlist number p parts) (2 ^ swap_count (test_sides parts)) k rule (subst (λ rs. slice_get rs k ≡ Some rule) e at) in of_branch r.0 parts h r.1)
-of_forms netlist reach number p rules (other a b c e) k rule at = (let q = subst (λ rs. slice_get rs k ≡ Some rule) e at in absurd (cc))
+of_forms : (netlist : Netlist) (reach number : ℕ) (p : Pattern) (forms : List FormModel) → AreFormModelsOf netlist reach number p forms → (k : ℕ) (form : FormModel) → slice_get forms k ≡ Some form → IsFormOf netlist reach number p form
+of_forms netlist reach number p forms (plain clobbers h c e) k form at =
+    (let r = each_at (plain_form_model netlist number p clobbers) (2 ^ swap_count (sides_of p.move)) k form (subst (λ rs. slice_get rs k ≡ Some form) e at) in of_plain r.0 clobbers h c r.1)
+of_forms netlist reach number p forms (jump h e) zero form at = (let q = subst (λ rs. slice_get rs zero ≡ Some form) e at in of_jump h (cc))
+of_forms netlist reach number p forms (jump h e) (suc k) form at = (let q = subst (λ rs. slice_get rs (suc k) ≡ Some form) e at in absurd (cc))
+of_forms netlist reach number p forms (branch parts h e) k form at =
+    (let r = each_at (branch_form_model netlist number p parts) (2 ^ swap_count (test_sides parts)) k form (subst (λ rs. slice_get rs k ≡ Some form) e at) in of_branch r.0 parts h r.1)
+of_forms netlist reach number p forms (other a b c e) k form at = (let q = subst (λ rs. slice_get rs k ≡ Some form) e at in absurd (cc))
 
 -- each form of a list is one of its pattern
-pub form_at : (netlist : Netlist) (reach number : ℕ) (ps : List Pattern) (rules : List FormModel) → AreFormModels netlist reach number ps rules → (k : ℕ) (rule : FormModel) → slice_get rules k ≡ Some rule
-    → IsForm netlist reach number ps rule
-form_at netlist reach number [] rules h k rule at = (let q = subst (λ rs. slice_get rs k ≡ Some rule) h at in absurd (cc))
-form_at netlist reach number (p ∷ ps) rules h k rule at =
-    by (append_at h.0 h.1 k rule (subst (λ rs. slice_get rs k ≡ Some rule) h.4 at)) (λ j q. form_at netlist reach (number + 1) ps h.1 h.3 j rule q)
+pub form_at : (netlist : Netlist) (reach number : ℕ) (ps : List Pattern) (forms : List FormModel) → AreFormModels netlist reach number ps forms → (k : ℕ) (form : FormModel) → slice_get forms k ≡ Some form
+    → IsForm netlist reach number ps form
+form_at netlist reach number [] forms h k form at = (let q = subst (λ rs. slice_get rs k ≡ Some form) h at in absurd (cc))
+form_at netlist reach number (p ∷ ps) forms h k form at =
+    by (append_at h.0 h.1 k form (subst (λ rs. slice_get rs k ≡ Some form) h.4 at)) (λ j q. form_at netlist reach (number + 1) ps h.1 h.3 j form q)
   where
-    by : (slice_get h.0 k ≡ Some rule) ⊎ ((j : ℕ) × (slice_get h.1 j ≡ Some rule)) → ((j : ℕ) → slice_get h.1 j ≡ Some rule → IsForm netlist reach (number + 1) ps rule) → IsForm netlist reach number (p ∷ ps) rule
-    by (inl q) later = record { place = 0; pattern = p; at = refl; of = subst (λ n. IsFormOf netlist reach n p rule) (let e : number ≡ number + 0 = omega arith in e) (of_forms netlist reach number p h.0 h.2 k rule q) }
+    by : (slice_get h.0 k ≡ Some form) ⊎ ((j : ℕ) × (slice_get h.1 j ≡ Some form)) → ((j : ℕ) → slice_get h.1 j ≡ Some form → IsForm netlist reach (number + 1) ps form) → IsForm netlist reach number (p ∷ ps) form
+    by (inl q) later = record { place = 0; pattern = p; at = refl; of = subst (λ n. IsFormOf netlist reach n p form) (let e : number ≡ number + 0 = omega arith in e) (of_forms netlist reach number p h.0 h.2 k form q) }
     by (inr q) later = (let f = later q.0 q.1 in
-        record { place = suc f.place; pattern = f.pattern; at = f.at; of = subst (λ n. IsFormOf netlist reach n f.pattern rule) (let e : number + 1 + f.place ≡ number + suc f.place = omega arith in e) f.of })
+        record { place = suc f.place; pattern = f.pattern; at = f.at; of = subst (λ n. IsFormOf netlist reach n f.pattern form) (let e : number + 1 + f.place ≡ number + suc f.place = omega arith in e) f.of })

@@ -5,7 +5,7 @@ use Rattle.net_model.specs.Exprs.{ExprModel}
 use Rattle.sym_expr.specs.declared.pool.Node.{Node}
 use Rattle.sym_expr.specs.declared.pool.Node.TheVariants.{Word, Reg, Const, Read, Cell, Un, Bin, Slice, Cat, Zext, Sext, Select}
 use Rattle.sym_expr.specs.Pools.{ExprFits, node_expr, expr_of_id, expr_of_newest}
-use Rattle.form_set.specs.Swaps.{levels}
+use Rattle.operand_swaps.specs.Swaps.{levels}
 
 levels-node : (node : Node) (t : ℕ → ExprModel) (n : ℕ) → ((id : ℕ) → ExprFits (t id) → levels (t id) ≤ n) → ExprFits (node_expr node t) → levels (node_expr node t) ≤ suc n
 levels-node (Word w) t n h fits = omega arith

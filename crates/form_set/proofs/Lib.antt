@@ -5,13 +5,10 @@ pub mod Holding
 pub mod Chosen
 pub mod FieldsBelow
 pub mod Looking
-pub mod SumSwaps
-pub mod Swapping
 pub mod Classifying
 pub mod Editions
 pub mod RuleLists
 pub mod ShapeBits
-pub mod SwapLaws
 pub mod FormLaws
 pub mod LowForms
 pub mod NoForms

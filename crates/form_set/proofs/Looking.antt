@@ -25,13 +25,15 @@ use Rattle.net_model.specs.Exprs.{TransferModel, keep, write}
 use Rattle.net_model.specs.Transfers.{transfer_at, same_reg, storage_transfer, transfer_of}
 use Rattle.sym_expr.specs.declared.pool.Node.{Node}
 use Rattle.sym_expr.specs.Pools.{ExprFits, expr_of_id}
+use Rattle.transfer_set.specs.declared.machine.Machine.{Machine}
 use Rattle.transfer_set.specs.declared.row.Row.{Row}
+use Rattle.transfer_set.specs.Machines.{IsReadyFor}
 use Rattle.transfer_set.specs.Rows.{row_pattern, row_patterns}
 use Rattle.transfer_set.specs.Tables.{IsRow, PatternTable}
 use Rattle.transfer_set.specs.TextMarks.{IsTransferOf}
 use Rattle.transfer_set.proofs.TermsOf.{move_exprs}
 use Rattle.form_set.specs.declared.pattern_ids.PatternIds.{PatternIds}
-use Rattle.form_set.specs.Inner.PatternIds.{IsNarrow, ArePatternIds, row_ids, ids_pattern}
+use Rattle.form_set.specs.Inner.PatternIds.{AreIdsIn, IsNarrow, ArePatternIds, row_ids, ids_pattern}
 use Rattle.transfer_set.specs.Ready.{IsReady}
 
 -- ---- the program counter takes few bits
@@ -72,7 +74,7 @@ word_bits netlist (code ∷ codes) h e = h.0.0
 pub ids_are : (netlist : Netlist) (order : List ℕ) → KeepsRules netlist order → (book : Diagrams) (pool : List Node) → book.bits ≡ word_width netlist → ((id : ℕ) → id < length pool → ExprFits (expr_of_id pool id))
     → (row : Row) → IsRow netlist book pool row → IsPattern netlist (row_pattern pool row) → ArePatternIds netlist book pool (row_ids row)
 ids_are netlist order k book pool bits fits row r p =
-    let terms = subst (IsTransferOf netlist) p.given.gives (move_exprs netlist order k p.word row.storage) in
+    let exprs = subst (IsTransferOf netlist) p.given.gives (move_exprs netlist order k p.word row.storage) in
     let w = word_bits netlist netlist.codes k.formed.codes k.roles.code in
     record {
       storage = storage_within netlist (row_pattern pool row) p;
@@ -80,8 +82,8 @@ ids_are netlist order k book pool bits fits row r p =
       value = r.value;
       set = record { within = r.set.within; words = r.whole };
       fields = r.told.fields;
-      fits = subst (λ b. row.fields < 2 ^ b) (sym bits) (subst (λ n. n < 2 ^ word_width netlist) (sym r.told.fields) (move_small netlist pool fits row.addr row.value r.addr r.value terms));
-      terms = terms;
+      fits = subst (λ b. row.fields < 2 ^ b) (sym bits) (subst (λ n. n < 2 ^ word_width netlist) (sym r.told.fields) (move_small netlist pool fits row.addr row.value r.addr r.value exprs));
+      exprs = exprs;
       narrow = λ e. subst IsNarrow (ap (transfer_at netlist p.word) (sym e) ∙ p.given.gives)
           (counter_narrow netlist (typed_of netlist k.formed k.roles) p.word (counter_of netlist.codes) k.roles.counter);
       few = omega (arith, w.1, bits);
@@ -114,3 +116,15 @@ module _ (netlist : Netlist) (order : List ℕ) (k : KeepsRules netlist order) (
       by : (r : Option Row) → slice_get table.rows n ≡ r → IfSome (option_map row_ids r) (ArePatternIds netlist book pool)
       by None q = tt
       by (Some row) q = row_ids_are n row q
+
+-- over each book of the patterns' sets
+pub known_everywhere : (machine : Machine) → KeepsRules machine.checked.now.netlist machine.checked.now.order → ((id : ℕ) → id < length machine.pool.now → ExprFits (expr_of_id machine.pool.now id))
+    → (n : ℕ) (o : Option PatternIds) → o ≡ option_map row_ids (slice_get machine.patterns.now.rows n)
+    → IfSome o (λ (ids : PatternIds). (book : Diagrams) → IsReadyFor machine book → AreIdsIn machine book ids)
+known_everywhere machine k fits n o e =
+    by o (λ book ready. known_some machine.checked.now.netlist machine.checked.now.order k book machine.pool.now machine.patterns.now ready fits n o e)
+  where
+    by : (o : Option PatternIds) → ((book : Diagrams) → IsReadyFor machine book → IfSome o (AreIdsIn machine book))
+        → IfSome o (λ (ids : PatternIds). (book : Diagrams) → IsReadyFor machine book → AreIdsIn machine book ids)
+    by None h = tt
+    by (Some ids) h = h

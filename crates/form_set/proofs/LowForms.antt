@@ -21,7 +21,7 @@ use Rattle.form_model.specs.Forms.{TargetModel, FormModel, into_file, into_memor
 use Rattle.form_set.specs.Listing.{AreFormModels, counter_at, goal_at, sides_of}
 use Rattle.form_set.specs.Static.{is_file_at}
 use Rattle.form_set.specs.Promises.{IsFormOf, of_branch, of_jump, of_plain}
-use Rattle.form_set.specs.Swaps.{Path, ordered, picks, swap_at, swap_paths, swapped, swaps_here}
+use Rattle.operand_swaps.specs.Swaps.{Path, ordered, picks, swap_at, swap_paths, swapped, swaps_here}
 use Rattle.form_set.specs.Targets.{Branch, allowed_target, branch_if, first_of, expr_branch}
 use Rattle.form_set.proofs.FormLaws.{form_at}
 
@@ -118,16 +118,16 @@ module _ (netlist : Netlist) (order : List ℕ) (keeps : KeepsRules netlist orde
         ∙ reads_far q netlist (omega (arith, few_storages netlist order keeps, ge)) (sound_of netlist order keeps).typed is.word p.storage))
   ]
 
-  of_low : (reach number : ℕ) (p : Pattern) (rule : FormModel) → IsPattern netlist p → IsFormOf netlist reach number p rule → IsLow rule
-  of_low reach number p rule is (of_plain choice clobbers plain are e) =
+  of_low : (reach number : ℕ) (p : Pattern) (form : FormModel) → IsPattern netlist p → IsFormOf netlist reach number p form → IsLow form
+  of_low reach number p form is (of_plain choice clobbers plain are e) =
       subst IsLow (sym e) (
         goal_low netlist p.storage (let within = storage_within netlist p is in omega (arith, within, few_storages netlist order keeps)),
         addr_low choice p.move (pattern_low p is),
         value_low choice p.move (pattern_low p is),
       )
-  of_low reach number p rule is (of_jump h e) =
+  of_low reach number p form is (of_jump h e) =
       subst IsLow (sym e) ((λ q x. absurd (cc)), (λ a x. absurd (cc)), (λ q k. pattern_low p is q (ap (transfer_occurs q) h.move ∙ k)))
-  of_low reach number p rule is (of_branch choice parts b e) =
+  of_low reach number p form is (of_branch choice parts b e) =
       let chosen : Path → Bool = λ path. picks choice (swap_paths (record { addr = None; value = parts.test })) (1 ∷ path) in
       subst IsLow (sym e) (
         (λ q x. absurd (cc)),
@@ -140,7 +140,7 @@ module _ (netlist : Netlist) (order : List ℕ) (keeps : KeepsRules netlist orde
   pattern_at patterns i p each at =
       subst (IsPattern netlist) (get_or_from_slice_get patterns i p p at) (All-get_or (IsPattern netlist) patterns i p (slice_get_within patterns i p at) each)
 
-  pub forms_low : (reach : ℕ) (patterns : List Pattern) (rules : List FormModel) → All (IsPattern netlist) patterns → AreFormModels netlist reach 0 patterns rules → AreLow rules
-  forms_low reach patterns rules each list k rule at =
-      let f = form_at netlist reach 0 patterns rules list k rule at in
-      of_low reach (0 + f.place) f.pattern rule (pattern_at patterns f.place f.pattern each f.at) f.of
+  pub forms_low : (reach : ℕ) (patterns : List Pattern) (forms : List FormModel) → All (IsPattern netlist) patterns → AreFormModels netlist reach 0 patterns forms → AreLow forms
+  forms_low reach patterns forms each list k form at =
+      let f = form_at netlist reach 0 patterns forms list k form at in
+      of_low reach (0 + f.place) f.pattern form (pattern_at patterns f.place f.pattern each f.at) f.of

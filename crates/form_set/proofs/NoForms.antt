@@ -12,7 +12,8 @@ use Rattle.form_model.specs.Forms.{FormModel, into_file, into_memory, into_reg}
 use Rattle.form_set.specs.Static.{is_file_at}
 use Rattle.form_set.specs.Listing.{AreFormModels, AreFormModelsOf, plain, jump, branch, other, IsBranch, IsJump, IsPlain, branch_form_model, plain_form_model, counter_at, goal_at, sides_of, test_sides}
 use Rattle.form_set.specs.Promises.{all_form_models, is_no_jump, is_control_goal, no_jumps, only_control}
-use Rattle.form_set.specs.Swaps.{map_below, swap_count}
+use Rattle.operand_swaps.specs.Swaps.{swap_count}
+use Rattle.form_set.specs.Listing.{map_below}
 use Rattle.form_set.specs.Targets.{Branch, expr_branch}
 use Rattle.transfer_set.specs.declared.stepping.Counter.{Counter}
 use Rattle.form_set.proofs.RuleLists.{branch_not_jump, plain_not_jump}
@@ -75,39 +76,39 @@ plain_not_branch netlist reach p parts h b =
 
 -- ---- one pattern
 
-control_of : (netlist : Netlist) (reach number : ℕ) (p : Pattern) (rules : List FormModel) → AreFormModelsOf netlist reach number p rules → (only_control rules ≡ true) ↔ (IsPlain netlist p → ⊥)
-control_of netlist reach number p rules (plain clobbers h c e) = (
-  (λ t k. none_each (λ rule. is_control_goal rule.goal) (plain_form_model netlist number p clobbers) (λ j. (goal_plain netlist p.storage).0) (2 ^ swap_count (sides_of p.move)) (pow_pos (swap_count (sides_of p.move)))
+control_of : (netlist : Netlist) (reach number : ℕ) (p : Pattern) (forms : List FormModel) → AreFormModelsOf netlist reach number p forms → (only_control forms ≡ true) ↔ (IsPlain netlist p → ⊥)
+control_of netlist reach number p forms (plain clobbers h c e) = (
+  (λ t k. none_each (λ form. is_control_goal form.goal) (plain_form_model netlist number p clobbers) (λ j. (goal_plain netlist p.storage).0) (2 ^ swap_count (sides_of p.move)) (pow_pos (swap_count (sides_of p.move)))
       (subst (λ rs. only_control rs ≡ true) e t)),
   λ never. absurd (never h),
 )
-control_of netlist reach number p rules (jump h e) = ((λ t k. plain_not_jump netlist p k h), λ never. ap only_control e)
-control_of netlist reach number p rules (branch parts h e) = (
+control_of netlist reach number p forms (jump h e) = ((λ t k. plain_not_jump netlist p k h), λ never. ap only_control e)
+control_of netlist reach number p forms (branch parts h e) = (
   (λ t k. plain_not_branch netlist reach p parts k h),
-  λ never. ap only_control e ∙ all_each (λ rule. is_control_goal rule.goal) (branch_form_model netlist number p parts) (λ j. refl) (2 ^ swap_count (test_sides parts)),
+  λ never. ap only_control e ∙ all_each (λ form. is_control_goal form.goal) (branch_form_model netlist number p parts) (λ j. refl) (2 ^ swap_count (test_sides parts)),
 )
-control_of netlist reach number p rules (other a b c e) = ((λ t. a), λ never. ap only_control e)
+control_of netlist reach number p forms (other a b c e) = ((λ t. a), λ never. ap only_control e)
 
-jumps_of : (netlist : Netlist) (reach number : ℕ) (p : Pattern) (rules : List FormModel) → AreFormModelsOf netlist reach number p rules → (no_jumps rules ≡ true) ↔ (IsJump netlist p → ⊥)
-jumps_of netlist reach number p rules (plain clobbers h c e) = (
+jumps_of : (netlist : Netlist) (reach number : ℕ) (p : Pattern) (forms : List FormModel) → AreFormModelsOf netlist reach number p forms → (no_jumps forms ≡ true) ↔ (IsJump netlist p → ⊥)
+jumps_of netlist reach number p forms (plain clobbers h c e) = (
   (λ t j. plain_not_jump netlist p h j),
-  λ never. ap no_jumps e ∙ all_each (λ rule. is_no_jump rule.goal) (plain_form_model netlist number p clobbers) (λ j. (goal_plain netlist p.storage).1) (2 ^ swap_count (sides_of p.move)),
+  λ never. ap no_jumps e ∙ all_each (λ form. is_no_jump form.goal) (plain_form_model netlist number p clobbers) (λ j. (goal_plain netlist p.storage).1) (2 ^ swap_count (sides_of p.move)),
 )
-jumps_of netlist reach number p rules (jump h e) = ((λ t. absurd (true≢false (sym (subst (λ rs. no_jumps rs ≡ true) e t)))), λ never. absurd (never h))
-jumps_of netlist reach number p rules (branch parts h e) = (
+jumps_of netlist reach number p forms (jump h e) = ((λ t. absurd (true≢false (sym (subst (λ rs. no_jumps rs ≡ true) e t)))), λ never. absurd (never h))
+jumps_of netlist reach number p forms (branch parts h e) = (
   (λ t j. branch_not_jump netlist reach p parts h j),
-  λ never. ap no_jumps e ∙ all_each (λ rule. is_no_jump rule.goal) (branch_form_model netlist number p parts) (λ j. refl) (2 ^ swap_count (test_sides parts)),
+  λ never. ap no_jumps e ∙ all_each (λ form. is_no_jump form.goal) (branch_form_model netlist number p parts) (λ j. refl) (2 ^ swap_count (test_sides parts)),
 )
-jumps_of netlist reach number p rules (other a b c e) = ((λ t. b), λ never. ap no_jumps e)
+jumps_of netlist reach number p forms (other a b c e) = ((λ t. b), λ never. ap no_jumps e)
 
 -- ---- all patterns
 
 module _ (netlist : Netlist) (reach : ℕ) (q : FormModel → Bool) (P : Pattern → Type 0)
-    (one : (number : ℕ) (p : Pattern) (rules : List FormModel) → AreFormModelsOf netlist reach number p rules → (all_form_models q rules ≡ true) ↔ (P p → ⊥)) where
-  none_is : (number : ℕ) (ps : List Pattern) (rules : List FormModel) → AreFormModels netlist reach number ps rules
-      → (all_form_models q rules ≡ true) ↔ ((k : ℕ) (p : Pattern) → slice_get ps k ≡ Some p → P p → ⊥)
-  none_is number [] rules h = ((λ t k p at. absurd (cc)), λ never. ap (all_form_models q) h)
-  none_is number (x ∷ ps) rules h =
+    (one : (number : ℕ) (p : Pattern) (forms : List FormModel) → AreFormModelsOf netlist reach number p forms → (all_form_models q forms ≡ true) ↔ (P p → ⊥)) where
+  none_is : (number : ℕ) (ps : List Pattern) (forms : List FormModel) → AreFormModels netlist reach number ps forms
+      → (all_form_models q forms ≡ true) ↔ ((k : ℕ) (p : Pattern) → slice_get ps k ≡ Some p → P p → ⊥)
+  none_is number [] forms h = ((λ t k p at. absurd (cc)), λ never. ap (all_form_models q) h)
+  none_is number (x ∷ ps) forms h =
       let f = one number x h.0 h.2 in
       let r = none_is (number + 1) ps h.1 h.3 in
       let e = ap (all_form_models q) h.4 ∙ all_append q h.0 h.1 in (
@@ -121,11 +122,11 @@ module _ (netlist : Netlist) (reach : ℕ) (q : FormModel → Bool) (P : Pattern
       here a b f r (suc k) p at y = r b k p at y
 
 -- no form but jump and branch forms: no pattern is plain
-pub no_step : (netlist : Netlist) (reach number : ℕ) (ps : List Pattern) (rules : List FormModel) → AreFormModels netlist reach number ps rules
-    → (only_control rules ≡ true) ↔ ((k : ℕ) (p : Pattern) → slice_get ps k ≡ Some p → IsPlain netlist p → ⊥)
-no_step netlist reach number ps rules h = none_is netlist reach (λ rule. is_control_goal rule.goal) (IsPlain netlist) (control_of netlist reach) number ps rules h
+pub no_step : (netlist : Netlist) (reach number : ℕ) (ps : List Pattern) (forms : List FormModel) → AreFormModels netlist reach number ps forms
+    → (only_control forms ≡ true) ↔ ((k : ℕ) (p : Pattern) → slice_get ps k ≡ Some p → IsPlain netlist p → ⊥)
+no_step netlist reach number ps forms h = none_is netlist reach (λ form. is_control_goal form.goal) (IsPlain netlist) (control_of netlist reach) number ps forms h
 
 -- no jump form: no pattern is a jump
-pub no_jump : (netlist : Netlist) (reach number : ℕ) (ps : List Pattern) (rules : List FormModel) → AreFormModels netlist reach number ps rules
-    → (no_jumps rules ≡ true) ↔ ((k : ℕ) (p : Pattern) → slice_get ps k ≡ Some p → IsJump netlist p → ⊥)
-no_jump netlist reach number ps rules h = none_is netlist reach (λ rule. is_no_jump rule.goal) (IsJump netlist) (jumps_of netlist reach) number ps rules h
+pub no_jump : (netlist : Netlist) (reach number : ℕ) (ps : List Pattern) (forms : List FormModel) → AreFormModels netlist reach number ps forms
+    → (no_jumps forms ≡ true) ↔ ((k : ℕ) (p : Pattern) → slice_get ps k ≡ Some p → IsJump netlist p → ⊥)
+no_jump netlist reach number ps forms h = none_is netlist reach (λ form. is_no_jump form.goal) (IsJump netlist) (jumps_of netlist reach) number ps forms h

@@ -78,15 +78,15 @@ form_models_one netlist reach number (p ∷ ps) xs ys h k =
 
 -- ---- the reach is that of the patterns, whatever the branches
 
-reach_of_forms : (netlist : Netlist) (reach number : ℕ) (p : Pattern) (rules : List FormModel) → AreFormModelsOf netlist reach number p rules → (r : ℕ) × IsReachOf netlist p r
-reach_of_forms netlist reach number p rules (plain a h c e) = (0, jumps_not (λ j. plain_not_jump netlist p h j) refl)
-reach_of_forms netlist reach number p rules (jump h e) = (reach_of h.target, jumps_to h refl)
-reach_of_forms netlist reach number p rules (branch a h e) = (0, jumps_not (λ j. branch_not_jump netlist reach p a h j) refl)
-reach_of_forms netlist reach number p rules (other h i j e) = (0, jumps_not i refl)
+reach_of_forms : (netlist : Netlist) (reach number : ℕ) (p : Pattern) (forms : List FormModel) → AreFormModelsOf netlist reach number p forms → (r : ℕ) × IsReachOf netlist p r
+reach_of_forms netlist reach number p forms (plain a h c e) = (0, jumps_not (λ j. plain_not_jump netlist p h j) refl)
+reach_of_forms netlist reach number p forms (jump h e) = (reach_of h.target, jumps_to h refl)
+reach_of_forms netlist reach number p forms (branch a h e) = (0, jumps_not (λ j. branch_not_jump netlist reach p a h j) refl)
+reach_of_forms netlist reach number p forms (other h i j e) = (0, jumps_not i refl)
 
-greatest_exists : (netlist : Netlist) (reach number : ℕ) (ps : List Pattern) (rules : List FormModel) → AreFormModels netlist reach number ps rules → (r : ℕ) × IsGreatestReach netlist ps r
-greatest_exists netlist reach number [] rules h = (0, refl)
-greatest_exists netlist reach number (p ∷ ps) rules h =
+greatest_exists : (netlist : Netlist) (reach number : ℕ) (ps : List Pattern) (forms : List FormModel) → AreFormModels netlist reach number ps forms → (r : ℕ) × IsGreatestReach netlist ps r
+greatest_exists netlist reach number [] forms h = (0, refl)
+greatest_exists netlist reach number (p ∷ ps) forms h =
     let a = reach_of_forms netlist reach number p h.0 h.2 in
     let b = greatest_exists netlist reach (number + 1) ps h.1 h.3 in
     (max a.0 b.0, (a.0, b.0, a.1, b.1, refl))

@@ -17,7 +17,8 @@ use Rattle.form_set.proofs.Editions.{no_sum_with, shape_from}
 use Rattle.form_model.specs.Shapes.{is_shape, reach_of}
 use Rattle.form_set.specs.Inner.Adding.{HasAdded, IsGreatestReach, IsReachOf, jumps_not, jumps_to}
 use Rattle.form_set.specs.Listing.{AreFormModels, AreFormModelsOf, plain, jump, branch, other, IsBranch, IsJump, IsPlain, greatest_reach, goal_at, goal_reach, jump_form_model, branch_form_model, plain_form_model, counter_at, sides_of, test_sides}
-use Rattle.form_set.specs.Swaps.{map_below, swap_count}
+use Rattle.operand_swaps.specs.Swaps.{swap_count}
+use Rattle.form_set.specs.Listing.{map_below}
 use Rattle.form_set.specs.Targets.{Branch, expr_branch}
 use Rattle.transfer_set.specs.declared.stepping.Counter.{Counter}
 
@@ -39,16 +40,16 @@ module _ (netlist : Netlist) (reach : ℕ) where
   forms_more number (x ∷ ps) zero p at old new h a =
       let e : p ≡ x = cc in
       let n : number + 0 ≡ number = omega arith in (
-        a.rules,
+        a.forms,
         [],
-        subst (λ k. AreFormModelsOf netlist reach k x a.rules) n (subst (λ q. AreFormModelsOf netlist reach (number + 0) q a.rules) e a.of),
+        subst (λ k. AreFormModelsOf netlist reach k x a.forms) n (subst (λ q. AreFormModelsOf netlist reach (number + 0) q a.forms) e a.of),
         refl,
-        a.is ∙ ap (λ rs. rs ++ a.rules) h ∙ sym (append_none a.rules),
+        a.is ∙ ap (λ rs. rs ++ a.forms) h ∙ sym (append_none a.forms),
       )
   forms_more number (x ∷ ps) (suc i) p at old new h a =
       let n : number + suc i ≡ number + 1 + i = omega arith in
-      let r = forms_more (number + 1) ps i p at h.1 (h.1 ++ a.rules) h.3 (record { rules = a.rules; of = subst (λ k. AreFormModelsOf netlist reach k p a.rules) n a.of; is = refl }) in
-      (h.0, h.1 ++ a.rules, h.2, r, a.is ∙ ap (λ rs. rs ++ a.rules) h.4 ∙ append_flat h.0 h.1 a.rules)
+      let r = forms_more (number + 1) ps i p at h.1 (h.1 ++ a.forms) h.3 (record { forms = a.forms; of = subst (λ k. AreFormModelsOf netlist reach k p a.forms) n a.of; is = refl }) in
+      (h.0, h.1 ++ a.forms, h.2, r, a.is ∙ ap (λ rs. rs ++ a.forms) h.4 ∙ append_flat h.0 h.1 a.forms)
 
 pub forms_next : (netlist : Netlist) (reach : ℕ) (ps : List Pattern) (i : ℕ) (p : Pattern) → slice_get ps i ≡ Some p → (old new : List FormModel)
     → AreFormModels netlist reach 0 (take i ps) old → HasAdded netlist reach i p old new → AreFormModels netlist reach 0 (take (suc i) ps) new
@@ -125,23 +126,23 @@ branch_not_jump netlist reach p parts b j =
 
 -- ---- the reach of the list is that of the patterns
 
-greatest_of : (netlist : Netlist) (reach number : ℕ) (p : Pattern) (rules : List FormModel) (r : ℕ) → AreFormModelsOf netlist reach number p rules → IsReachOf netlist p r → greatest_reach rules ≡ r
-greatest_of netlist reach number p rules r (plain clobbers h cl e) (jumps_to j q) = absurd (plain_not_jump netlist p h j)
-greatest_of netlist reach number p rules r (plain clobbers h cl e) (jumps_not never q) =
+greatest_of : (netlist : Netlist) (reach number : ℕ) (p : Pattern) (forms : List FormModel) (r : ℕ) → AreFormModelsOf netlist reach number p forms → IsReachOf netlist p r → greatest_reach forms ≡ r
+greatest_of netlist reach number p forms r (plain clobbers h cl e) (jumps_to j q) = absurd (plain_not_jump netlist p h j)
+greatest_of netlist reach number p forms r (plain clobbers h cl e) (jumps_not never q) =
     ap greatest_reach e ∙ greatest_each (plain_form_model netlist number p clobbers) (λ k. goal_none netlist p.storage) (2 ^ swap_count (sides_of p.move)) ∙ sym q
-greatest_of netlist reach number p rules r (jump h e) (jumps_to j q) =
+greatest_of netlist reach number p forms r (jump h e) (jumps_to j q) =
     let t : h.target ≡ j.target = write_eq h.target j.target (sym h.move ∙ j.move) in
     let a : greatest_reach (jump_form_model netlist number h.target (transfer_fields p.move) ∷ []) ≡ reach_of h.target = omega arith in
     ap greatest_reach e ∙ a ∙ ap reach_of t ∙ sym q
-greatest_of netlist reach number p rules r (jump h e) (jumps_not never q) = absurd (never h)
-greatest_of netlist reach number p rules r (branch parts b e) (jumps_to j q) = absurd (branch_not_jump netlist reach p parts b j)
-greatest_of netlist reach number p rules r (branch parts b e) (jumps_not never q) = ap greatest_reach e ∙ greatest_each (branch_form_model netlist number p parts) (λ k. refl) (2 ^ swap_count (test_sides parts)) ∙ sym q
-greatest_of netlist reach number p rules r (other a b c e) (jumps_to j q) = absurd (b j)
-greatest_of netlist reach number p rules r (other a b c e) (jumps_not never q) = ap greatest_reach e ∙ sym q
+greatest_of netlist reach number p forms r (jump h e) (jumps_not never q) = absurd (never h)
+greatest_of netlist reach number p forms r (branch parts b e) (jumps_to j q) = absurd (branch_not_jump netlist reach p parts b j)
+greatest_of netlist reach number p forms r (branch parts b e) (jumps_not never q) = ap greatest_reach e ∙ greatest_each (branch_form_model netlist number p parts) (λ k. refl) (2 ^ swap_count (test_sides parts)) ∙ sym q
+greatest_of netlist reach number p forms r (other a b c e) (jumps_to j q) = absurd (b j)
+greatest_of netlist reach number p forms r (other a b c e) (jumps_not never q) = ap greatest_reach e ∙ sym q
 
-pub greatest_is : (netlist : Netlist) (reach number : ℕ) (ps : List Pattern) (rules : List FormModel) (r : ℕ) → AreFormModels netlist reach number ps rules → IsGreatestReach netlist ps r → r ≡ greatest_reach rules
-greatest_is netlist reach number [] rules r h f = f ∙ ap greatest_reach (sym h)
-greatest_is netlist reach number (p ∷ ps) rules r h f =
+pub greatest_is : (netlist : Netlist) (reach number : ℕ) (ps : List Pattern) (forms : List FormModel) (r : ℕ) → AreFormModels netlist reach number ps forms → IsGreatestReach netlist ps r → r ≡ greatest_reach forms
+greatest_is netlist reach number [] forms r h f = f ∙ ap greatest_reach (sym h)
+greatest_is netlist reach number (p ∷ ps) forms r h f =
     let a = greatest_of netlist reach number p h.0 f.0 h.2 f.2 in
     let b = greatest_is netlist reach (number + 1) ps h.1 f.1 h.3 f.3 in
     let c = greatest_append h.0 h.1 in

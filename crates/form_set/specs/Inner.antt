@@ -4,5 +4,4 @@ pub mod Linear
 pub mod Holds
 pub mod PatternIds
 pub mod Copies
-pub mod LevelSwaps
 pub mod Adding

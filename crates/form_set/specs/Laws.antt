@@ -15,22 +15,22 @@ use Rattle.form_model.specs.Shapes.{IsReach, ShapeFits, is_shape, reach_of, shap
 use Rattle.sym_expr.specs.Pools.{ExprFits}
 use Rattle.transfer_set.specs.TextMarks.{IsExprOf}
 use Rattle.form_set.specs.Listing.{AreForms, IsJump, IsPlain}
-use Rattle.form_set.specs.Promises.{AreAlike, HasWords, IsForm, no_jumps, only_control}
-use Rattle.form_set.specs.Swaps.{SidesModel, swapped}
+use Rattle.form_set.specs.Promises.{HasWords, IsForm, no_jumps, only_control}
+use Rattle.operand_swaps.specs.Swaps.{SidesModel, swapped}
 use Rattle.form_set.specs.Words.{AreClobbers}
 
 -- patterns have one list of forms, and one greatest reach
 abbrev pub FormsAreOne : Type 0
 FormsAreOne =
-    (netlist : Netlist) (patterns : List Pattern) (rules others : List FormModel) (reach other : ℕ) →
-    AreForms netlist patterns rules reach → AreForms netlist patterns others other → (rules ≡ others) × (reach ≡ other)
+    (netlist : Netlist) (patterns : List Pattern) (forms others : List FormModel) (reach other : ℕ) →
+    AreForms netlist patterns forms reach → AreForms netlist patterns others other → (forms ≡ others) × (reach ≡ other)
 
 -- each form of the list is that of the pattern whose number it has, plain, a jump or a branch
 abbrev pub FormsAreOfPatterns : Type 0
 FormsAreOfPatterns =
-    (netlist : Netlist) (patterns : List Pattern) (rules : List FormModel) (reach : ℕ) →
-    AreForms netlist patterns rules reach →
-    (k : ℕ) (rule : FormModel) → slice_get rules k ≡ Some rule → IsForm netlist reach 0 patterns rule
+    (netlist : Netlist) (patterns : List Pattern) (forms : List FormModel) (reach : ℕ) →
+    AreForms netlist patterns forms reach →
+    (k : ℕ) (form : FormModel) → slice_get forms k ≡ Some form → IsForm netlist reach 0 patterns form
 
 -- for every setting of a plain pattern some word does its transfer, steps, and changes nothing that
 -- code sees but what it writes and the clobbers
@@ -52,24 +52,20 @@ ClobbersHaveCounter =
     IsRegister (slice_get netlist.storages (counter_of netlist.codes)) →
     IsPlain netlist pattern → AreClobbers netlist pattern clobbers → bit_at clobbers (counter_of netlist.codes) ≡ 1
 
--- no choice of swaps changes the width or the meaning of an address or a value
-abbrev pub SwapsChangeNothing : Type 0
-SwapsChangeNothing = (choice : ℕ) (sides : SidesModel) → AreAlike sides (swapped choice sides)
-
 -- a list has no form but jumps and branches exactly where no pattern is plain
 abbrev pub NoPlainForm : Type 0
 NoPlainForm =
-    (netlist : Netlist) (patterns : List Pattern) (rules : List FormModel) (reach : ℕ) →
-    AreForms netlist patterns rules reach →
-    (only_control rules ≡ true)
+    (netlist : Netlist) (patterns : List Pattern) (forms : List FormModel) (reach : ℕ) →
+    AreForms netlist patterns forms reach →
+    (only_control forms ≡ true)
     ↔ ((k : ℕ) (pattern : Pattern) → slice_get patterns k ≡ Some pattern → IsPlain netlist pattern → ⊥)
 
 -- and no jump form exactly where no pattern is a jump
 abbrev pub NoJumpForm : Type 0
 NoJumpForm =
-    (netlist : Netlist) (patterns : List Pattern) (rules : List FormModel) (reach : ℕ) →
-    AreForms netlist patterns rules reach →
-    (no_jumps rules ≡ true)
+    (netlist : Netlist) (patterns : List Pattern) (forms : List FormModel) (reach : ℕ) →
+    AreForms netlist patterns forms reach →
+    (no_jumps forms ≡ true)
     ↔ ((k : ℕ) (pattern : Pattern) → slice_get patterns k ≡ Some pattern → IsJump netlist pattern → ⊥)
 
 -- the bits that give a shape a value are bits of the shape, and each word with these bits gives it

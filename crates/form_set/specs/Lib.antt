@@ -1,5 +1,4 @@
 pub mod Static
-pub mod Swaps
 pub mod Targets
 pub mod Tied
 pub mod Words

@@ -1,7 +1,7 @@
 -- The forms of a netlist, in their order. When a pattern is plain, a jump or a branch, its forms,
 -- one for each choice of swaps, and exactly the forms of a list of patterns, with the greatest
 -- reach of the jumps. `Worked` computes it on two small processors.
-use Rattle.std.specs.Prelude.{◌≡◌, ℕ, ◌+◌, ◌^◌, ◌==◌, true, if◌then◌else◌, max, List, [], ◌∷◌, ◌++◌, Some, None}
+use Rattle.std.specs.Prelude.{◌≡◌, ℕ, zero, suc, ◌+◌, ◌^◌, ◌==◌, true, if◌then◌else◌, max, List, [], ◌∷◌, ◌++◌, Some, None}
 use Rattle.net_model.specs.declared.hardware.Netlist.{Netlist}
 use Rattle.net_model.specs.declared.hardware.Space.TheVariants.{File as InFile}
 use Rattle.net_model.specs.Nets.{counter_of, counter_width, memory_id, size_in}
@@ -12,11 +12,16 @@ use Rattle.form_model.specs.Shapes.{is_shape_in, reach_of}
 use Rattle.form_model.specs.Forms.{GoalModel as GoalKind, FormModel, into_file, into_memory, into_reg, jumps, branches}
 use Rattle.net_model.specs.Occurs.{IsLinear}
 use Rattle.form_set.specs.Static.{cells_shown, has_shapes, is_file_at, transfer_shaped, reads_shown}
-use Rattle.form_set.specs.Swaps.{SidesModel, map_below, swap_count, swapped}
+use Rattle.operand_swaps.specs.Swaps.{SidesModel, swap_count, swapped}
 use Rattle.form_set.specs.Targets.{Branch, expr_branch}
 use Rattle.form_set.specs.Tied.{counted, tied_of}
 use Rattle.transfer_set.specs.declared.stepping.Counter.{Counter}
 use Rattle.form_set.specs.Words.{AreClobbers, CanJump, CanKeep, all_registers}
+
+-- what f makes of each number below this one, in ascending order
+abbrev pub map_below : {A : Type 0} → (ℕ → A) → ℕ → List A
+map_below f zero = []
+map_below f (suc n) = map_below f n ++ f n ∷ []
 
 -- ---- patterns as transfers
 
@@ -118,26 +123,26 @@ branch_form_models netlist number pattern branch =
 -- ---- all forms
 
 -- the forms of the pattern of this number
-pub data AreFormModelsOf (netlist : Netlist) (reach number : ℕ) (pattern : Pattern) (rules : List FormModel) : Type 0 where
+pub data AreFormModelsOf (netlist : Netlist) (reach number : ℕ) (pattern : Pattern) (forms : List FormModel) : Type 0 where
   plain : (clobbers : ℕ) → IsPlain netlist pattern → AreClobbers netlist pattern clobbers
-      → rules ≡ plain_form_models netlist number pattern clobbers
-      → AreFormModelsOf netlist reach number pattern rules
+      → forms ≡ plain_form_models netlist number pattern clobbers
+      → AreFormModelsOf netlist reach number pattern forms
   jump : (h : IsJump netlist pattern) →
-      rules ≡ jump_form_model netlist number h.target (transfer_fields pattern.move) ∷ [] →
-      AreFormModelsOf netlist reach number pattern rules
+      forms ≡ jump_form_model netlist number h.target (transfer_fields pattern.move) ∷ [] →
+      AreFormModelsOf netlist reach number pattern forms
   branch : (parts : Branch) → IsBranch netlist reach pattern parts →
-      rules ≡ branch_form_models netlist number pattern parts →
-      AreFormModelsOf netlist reach number pattern rules
+      forms ≡ branch_form_models netlist number pattern parts →
+      AreFormModelsOf netlist reach number pattern forms
   other : (IsPlain netlist pattern → ⊥) → (IsJump netlist pattern → ⊥)
-      → ((parts : Branch) → IsBranch netlist reach pattern parts → ⊥) → rules ≡ []
-      → AreFormModelsOf netlist reach number pattern rules
+      → ((parts : Branch) → IsBranch netlist reach pattern parts → ⊥) → forms ≡ []
+      → AreFormModelsOf netlist reach number pattern forms
 
 -- the forms of patterns that are numbered from a number on: by the number of the pattern
 abbrev pub AreFormModels : Netlist → ℕ → ℕ → List Pattern → List FormModel → Type 0
-AreFormModels netlist reach number [] rules = rules ≡ []
-AreFormModels netlist reach number (pattern ∷ patterns) rules =
+AreFormModels netlist reach number [] forms = forms ≡ []
+AreFormModels netlist reach number (pattern ∷ patterns) forms =
     (first : List FormModel) × (rest : List FormModel) × AreFormModelsOf netlist reach number pattern first
-    × AreFormModels netlist reach (number + 1) patterns rest × (rules ≡ first ++ rest)
+    × AreFormModels netlist reach (number + 1) patterns rest × (forms ≡ first ++ rest)
 
 abbrev pub goal_reach : GoalKind → ℕ
 goal_reach (jumps reach) = reach
@@ -146,10 +151,10 @@ goal_reach _ = 0
 -- the greatest reach of the jump forms, and 0 where there is none
 abbrev pub greatest_reach : List FormModel → ℕ
 greatest_reach [] = 0
-greatest_reach (rule ∷ rules) = max (goal_reach rule.goal) (greatest_reach rules)
+greatest_reach (form ∷ forms) = max (goal_reach form.goal) (greatest_reach forms)
 
 -- exactly the forms of a netlist with these patterns, in their order, and the greatest reach of the
 -- jump forms
-pub record AreForms (netlist : Netlist) (patterns : List Pattern) (rules : List FormModel) (reach : ℕ) : Type 0 where
-  pub list : AreFormModels netlist reach 0 patterns rules
-  pub greatest_is : reach ≡ greatest_reach rules
+pub record AreForms (netlist : Netlist) (patterns : List Pattern) (forms : List FormModel) (reach : ℕ) : Type 0 where
+  pub list : AreFormModels netlist reach 0 patterns forms
+  pub greatest_is : reach ≡ greatest_reach forms

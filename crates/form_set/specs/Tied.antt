@@ -8,7 +8,7 @@ use Rattle.net_model.specs.declared.hardware.Space.TheVariants.{Memory as InMemo
 use Rattle.net_model.specs.Exprs.{ExprModel, word, reg, const, read, un, bin, slice, cat, zext, sext, select, TransferModel, keep, write, write_at}
 use Rattle.form_model.specs.Effects.{same_space}
 use Rattle.form_model.specs.Matches.{same_op1, same_op2}
-use Rattle.form_set.specs.Swaps.{SidesModel}
+use Rattle.operand_swaps.specs.Swaps.{SidesModel}
 use Rattle.form_set.specs.Targets.{first_of}
 
 -- two expressions are one

@@ -30,6 +30,15 @@ pub(crate) struct BranchIds {
     pub(crate) target: TargetId,
 }
 
+// Which targets are used: those of an edition of netlist texts and of a program counter, with
+// addresses that reach at least so far.
+#[derive(Clone, Copy)]
+struct TargetRules {
+    edition: u8,
+    counter: Counter,
+    reach: u64,
+}
+
 // Whether an expression is a distance that is used.
 fn is_distance(pool: &Pool, edition: u8, expr: ExprId) -> bool
     requires within { expr < length pool.now }
@@ -44,20 +53,21 @@ fn is_distance(pool: &Pool, edition: u8, expr: ExprId) -> bool
 }
 
 // The distance of a relative target.
-fn distance_at(pool: &Pool, edition: u8, counter: Counter, expr: ExprId) -> Option<TargetId>
+fn distance_at(pool: &Pool, rules: TargetRules, expr: ExprId) -> Option<TargetId>
     requires within { expr < length pool.now }
     requires narrow { expr_width (expr_of_id pool.now expr) ≤ 16 }
     ensures known { IfSome result (λ target. target.expr < length pool.now) }
-    ensures target { option_map (id_target pool.now) result ≡ relative_target edition counter (expr_of_id pool.now expr) }
+    ensures target { option_map (id_target pool.now) result
+        ≡ relative_target rules.edition rules.counter (expr_of_id pool.now expr) }
 {
     match pool.node(expr) {
         Node::Bin(Op2::Add, a, b) => {
-            if is_register(pool, a, counter) && is_distance(pool, edition, b) {
+            if is_register(pool, a, rules.counter) && is_distance(pool, rules.edition, b) {
                 Some(TargetId {
                     relative: true,
                     expr: b,
                 })
-            } else if is_register(pool, b, counter) && is_distance(pool, edition, a) {
+            } else if is_register(pool, b, rules.counter) && is_distance(pool, rules.edition, a) {
                 Some(TargetId {
                     relative: true,
                     expr: a,
@@ -71,25 +81,20 @@ fn distance_at(pool: &Pool, edition: u8, counter: Counter, expr: ExprId) -> Opti
 }
 
 // The target that an expression is, where it is used.
-fn target_at(
-    pool: &Pool,
-    edition: u8,
-    counter: Counter,
-    reach: u64,
-    expr: ExprId,
-) -> Option<TargetId>
+fn target_at(pool: &Pool, rules: TargetRules, expr: ExprId) -> Option<TargetId>
     requires within { expr < length pool.now }
     requires narrow { expr_width (expr_of_id pool.now expr) ≤ 16 }
     ensures known { IfSome result (λ target. target.expr < length pool.now) }
-    ensures target { option_map (id_target pool.now) result ≡ allowed_target edition counter reach (expr_of_id pool.now expr) }
+    ensures target { option_map (id_target pool.now) result
+        ≡ allowed_target rules.edition rules.counter rules.reach (expr_of_id pool.now expr) }
 {
-    if is_shape_in(pool, edition, expr) && reach <= shape_reach(pool, expr) {
+    if is_shape_in(pool, rules.edition, expr) && rules.reach <= shape_reach(pool, expr) {
         Some(TargetId {
             relative: false,
             expr,
         })
     } else {
-        distance_at(pool, edition, counter, expr)
+        distance_at(pool, rules, expr)
     }
 }
 
@@ -97,9 +102,7 @@ fn target_at(
 // used.
 fn branch_to(
     pool: &Pool,
-    edition: u8,
-    counter: Counter,
-    reach: u64,
+    rules: TargetRules,
     when_one: bool,
     test: ExprId,
     to: ExprId,
@@ -111,13 +114,13 @@ fn branch_to(
     requires narrow { expr_width (expr_of_id pool.now to) ≤ 16 }
     ensures known { IfSome result (AreBranchIds (length pool.now)) }
     ensures branch { option_map (ids_branch pool.now) result
-        ≡ branch_if (is_next counter (expr_of_id pool.now step)) when_one (expr_of_id pool.now test)
-        (allowed_target edition counter reach (expr_of_id pool.now to)) }
+        ≡ branch_if (is_next rules.counter (expr_of_id pool.now step)) when_one (expr_of_id pool.now test)
+        (allowed_target rules.edition rules.counter rules.reach (expr_of_id pool.now to)) }
 {
-    if !is_step(pool, step, counter) {
+    if !is_step(pool, step, rules.counter) {
         return None;
     }
-    let target = target_at(pool, edition, counter, reach, to)?;
+    let target = target_at(pool, rules, to)?;
     Some(BranchIds {
         when_one,
         test,
@@ -129,9 +132,7 @@ fn branch_to(
 // chooses from.
 fn choice_at(
     pool: &Pool,
-    edition: u8,
-    counter: Counter,
-    reach: u64,
+    rules: TargetRules,
     test: ExprId,
     a: ExprId,
     b: ExprId,
@@ -143,11 +144,12 @@ fn choice_at(
     requires narrow_second { expr_width (expr_of_id pool.now b) ≤ 16 }
     ensures known { IfSome result (AreBranchIds (length pool.now)) }
     ensures branch { option_map (ids_branch pool.now) result
-        ≡ select_branch edition counter reach (expr_of_id pool.now test) (expr_of_id pool.now a) (expr_of_id pool.now b) }
+        ≡ select_branch rules.edition rules.counter rules.reach
+        (expr_of_id pool.now test) (expr_of_id pool.now a) (expr_of_id pool.now b) }
 {
-    match branch_to(pool, edition, counter, reach, true, test, a, b) {
+    match branch_to(pool, rules, true, test, a, b) {
         Some(branch) => Some(branch),
-        None => branch_to(pool, edition, counter, reach, false, test, b, a),
+        None => branch_to(pool, rules, false, test, b, a),
     }
 }
 
@@ -164,10 +166,13 @@ pub(crate) fn branch_at(
     ensures branch { option_map (ids_branch pool.now) result
         ≡ expr_branch checked.now.netlist.edition (counter_at checked.now.netlist) reach (expr_of_id pool.now value) }
 {
-    let edition = checked.netlist().edition;
-    let counter = Counter::of(checked);
+    let rules = TargetRules {
+        edition: checked.netlist().edition,
+        counter: Counter::of(checked),
+        reach,
+    };
     match pool.node(value) {
-        Node::Select(test, a, b) => choice_at(pool, edition, counter, reach, test, a, b),
+        Node::Select(test, a, b) => choice_at(pool, rules, test, a, b),
         _ => None,
     }
 }

@@ -1,27 +1,26 @@
 //! Which forms a pattern gives.
 
-ghost use Rattle.std.specs.Prelude.{◌≡◌, ◌↔◌, ◌<◌, length, IfOk, IfSome, IsTrue};
+ghost use Rattle.std.specs.Prelude.{◌↔◌, ◌<◌, length, IfOk, IfSome, IsTrue};
 ghost use Rattle.bit_bdd.specs.Diagrams.{Extends};
 ghost use Rattle.form_set.specs.Inner.Adding.{IsApt, IsBranchOr, IsClass, IsPlainOr, IsReachOf};
 ghost use Rattle.form_set.specs.Inner.Copies.{AreBranchIds};
-ghost use Rattle.form_set.specs.Listing.{IsJump, IsPlain};
-ghost use Rattle.form_set.specs.Inner.PatternIds.{ArePatternIds, ids_pattern};
-ghost use Rattle.transfer_set.specs.Ready.{IsReady};
-ghost use Rattle.form_set.specs.Words.{AreClobbers};
+ghost use Rattle.form_set.specs.Listing.{IsJump};
+ghost use Rattle.form_set.specs.Inner.PatternIds.{AreIdsIn, pattern_in};
+ghost use Rattle.transfer_set.specs.Machines.{IsReadyFor, machine_netlist};
 ghost use Rattle.transfer_set.specs.Entries.{IsAddrKnown, ids_transfer};
 ghost use Rattle.transfer_set.specs.TextMarks.{IsTransferOf};
 
 use crate::branches::{BranchIds, branch_at};
+use crate::decide::has_all;
 use crate::linear::{move_linear, one};
 use crate::pattern_ids::PatternIds;
 use crate::shapes::{has_shapes, is_shape_in, move_shaped, move_shown, reads_shown, shape_reach};
-use crate::words::{Kept, can_jump, can_keep, clobbers, is_file, step_words};
+use crate::words::{can_jump, clobbers, is_file, step_words};
 use bit_bdd::Book;
-use net_model::{Checked, Space};
+use net_model::Space;
 use rec_bits::NoMemory;
 use std::alloc::Global;
-use sym_expr::Pool;
-use transfer_set::Patterns;
+use transfer_set::Machine;
 
 // What a pattern is: plain with its clobbers, a jump, a branch, or nothing that gives a form.
 #[derive(Clone, Copy)]
@@ -34,112 +33,111 @@ pub(crate) enum Class {
 
 // Whether the expressions of a pattern are those of a plain one: linear, with field shapes, and with
 // addresses of the register file that show every cell.
-fn is_apt(checked: &Checked, pool: &Pool, ids: PatternIds) -> bool
-    requires addr { IsAddrKnown (length pool.now) ids.addr }
-    requires value { ids.value < length pool.now }
-    requires terms { IsTransferOf checked.now.netlist (ids_transfer pool.now ids.addr ids.value) }
-    ensures { IsTrue result ↔ IsApt checked.now.netlist (ids_pattern pool.now ids) }
+fn is_apt(machine: &Machine<'_>, ids: PatternIds) -> bool
+    requires addr { IsAddrKnown (length machine.now.pool.now) ids.addr }
+    requires value { ids.value < length machine.now.pool.now }
+    requires exprs { IsTransferOf (machine_netlist machine.now) (ids_transfer machine.now.pool.now ids.addr ids.value) }
+    ensures { IsTrue result ↔ IsApt (machine_netlist machine.now) (pattern_in machine.now ids) }
 {
-    let filed = is_file(checked, ids.storage);
-    let edition = checked.netlist().edition;
-    let size = checked.size(Space::File);
-    move_linear(checked, pool, 0, filed, ids.addr, ids.value)
-        && move_shaped(pool, edition, ids.addr, ids.value)
-        && move_shown(pool, filed, size, ids.addr, ids.value)
+    let filed = is_file(machine.checked, ids.storage);
+    let edition = machine.checked.netlist().edition;
+    let size = machine.checked.size(Space::File);
+    move_linear(machine.checked, machine.pool, 0, filed, ids.addr, ids.value)
+        && move_shaped(machine.pool, edition, ids.addr, ids.value)
+        && move_shown(machine.pool, filed, size, ids.addr, ids.value)
 }
 
 // The clobbers of a plain pattern; `None` where it isn't plain.
 fn plain(
     alloc: Global,
-    checked: &Checked,
-    pool: &Pool,
-    patterns: &Patterns,
+    machine: &Machine<'_>,
     book: &mut Book,
     ids: PatternIds,
 ) -> Result<Option<u16>, NoMemory>
-    requires ready { IsReady checked.now.netlist book.old pool.now patterns.now }
-    requires ids { ArePatternIds checked.now.netlist book.old pool.now ids }
+    requires ready { IsReadyFor machine.now book.old }
+    requires ids { AreIdsIn machine.now book.old ids }
     ensures grows { Extends book.old book.new }
-    ensures plain { IfOk result (IsPlainOr checked.now.netlist (ids_pattern pool.now ids)) }
+    ensures plain { IfOk result (IsPlainOr (machine_netlist machine.now) (pattern_in machine.now ids)) }
 {
-    if !is_apt(checked, pool, ids) {
+    if !is_apt(machine, ids) {
         return Ok(None);
     }
-    let words = step_words(alloc, checked, pool, patterns, book, ids)?;
-    let none = Kept {
-        words,
-        registers: 0,
-    };
-    let ok = can_keep(alloc, checked, pool, patterns, book, ids, none)?;
+    let words = step_words(alloc, machine, book, ids)?;
+    let ok = has_all(alloc, book, words, ids.fields)?;
     if !ok {
         return Ok(None);
     }
-    let clobbers = clobbers(alloc, checked, pool, patterns, book, ids, words)?;
+    let clobbers = clobbers(alloc, machine, book, ids, words)?;
     Ok(Some(clobbers))
 }
 
 // Whether a pattern gives a jump form.
 fn is_jump(
     alloc: Global,
-    checked: &Checked,
-    pool: &Pool,
-    patterns: &Patterns,
+    machine: &Machine<'_>,
     book: &mut Book,
     ids: PatternIds,
 ) -> Result<bool, NoMemory>
-    requires ready { IsReady checked.now.netlist book.old pool.now patterns.now }
-    requires ids { ArePatternIds checked.now.netlist book.old pool.now ids }
+    requires ready { IsReadyFor machine.now book.old }
+    requires ids { AreIdsIn machine.now book.old ids }
     ensures grows { Extends book.old book.new }
-    ensures jump { IfOk result (λ jump. IsTrue jump ↔ IsJump checked.now.netlist (ids_pattern pool.now ids)) }
+    ensures jump { IfOk result (λ jump.
+        IsTrue jump ↔ IsJump (machine_netlist machine.now) (pattern_in machine.now ids)) }
 {
-    if ids.storage != checked.pc() {
+    if ids.storage != machine.checked.pc() {
         return Ok(false);
     }
     if let Some(_) = ids.addr {
         return Ok(false);
     }
-    if !is_shape_in(pool, checked.netlist().edition, ids.value) {
+    if !is_shape_in(machine.pool, machine.checked.netlist().edition, ids.value) {
         return Ok(false);
     }
-    let can = can_jump(alloc, checked, pool, patterns, book, ids)?;
+    let can = can_jump(alloc, machine, book, ids)?;
     Ok(can)
 }
 
 // The parts of a pattern that gives branch forms; `None` where it gives none.
 fn branch(
     alloc: Global,
-    checked: &Checked,
-    pool: &Pool,
-    patterns: &Patterns,
+    machine: &Machine<'_>,
     book: &mut Book,
     ids: PatternIds,
     reach: u64,
 ) -> Result<Option<BranchIds>, NoMemory>
-    requires ready { IsReady checked.now.netlist book.old pool.now patterns.now }
-    requires ids { ArePatternIds checked.now.netlist book.old pool.now ids }
+    requires ready { IsReadyFor machine.now book.old }
+    requires ids { AreIdsIn machine.now book.old ids }
     ensures grows { Extends book.old book.new }
-    ensures branch { IfOk result (IsBranchOr checked.now.netlist pool.now reach (ids_pattern pool.now ids)) }
-    ensures known { IfOk result (λ parts. IfSome parts (AreBranchIds (length pool.now))) }
+    ensures branch { IfOk result (IsBranchOr (machine_netlist machine.now) machine.now.pool.now reach
+        (pattern_in machine.now ids)) }
+    ensures known { IfOk result (λ parts. IfSome parts (AreBranchIds (length machine.now.pool.now))) }
 {
-    if ids.storage != checked.pc() {
+    if ids.storage != machine.checked.pc() {
         return Ok(None);
     }
     if let Some(_) = ids.addr {
         return Ok(None);
     }
-    if !move_linear(checked, pool, one(ids.storage), false, ids.addr, ids.value) {
+    if !move_linear(
+        machine.checked,
+        machine.pool,
+        one(ids.storage),
+        false,
+        ids.addr,
+        ids.value,
+    ) {
         return Ok(None);
     }
-    match branch_at(checked, pool, reach, ids.value) {
+    match branch_at(machine.checked, machine.pool, reach, ids.value) {
         None => Ok(None),
         Some(parts) => {
-            if !has_shapes(pool, checked.netlist().edition, parts.test) {
+            if !has_shapes(machine.pool, machine.checked.netlist().edition, parts.test) {
                 return Ok(None);
             }
-            if !reads_shown(pool, checked.size(Space::File), parts.test) {
+            if !reads_shown(machine.pool, machine.checked.size(Space::File), parts.test) {
                 return Ok(None);
             }
-            let can = can_jump(alloc, checked, pool, patterns, book, ids)?;
+            let can = can_jump(alloc, machine, book, ids)?;
             if can { Ok(Some(parts)) } else { Ok(None) }
         }
     }
@@ -148,26 +146,25 @@ fn branch(
 // What a pattern is.
 pub(crate) fn classify(
     alloc: Global,
-    checked: &Checked,
-    pool: &Pool,
-    patterns: &Patterns,
+    machine: &Machine<'_>,
     book: &mut Book,
     ids: PatternIds,
     reach: u64,
 ) -> Result<Class, NoMemory>
-    requires ready { IsReady checked.now.netlist book.old pool.now patterns.now }
-    requires ids { ArePatternIds checked.now.netlist book.old pool.now ids }
+    requires ready { IsReadyFor machine.now book.old }
+    requires ids { AreIdsIn machine.now book.old ids }
     ensures grows { Extends book.old book.new }
-    ensures class { IfOk result (IsClass checked.now.netlist pool.now reach (ids_pattern pool.now ids)) }
+    ensures class { IfOk result (IsClass (machine_netlist machine.now) machine.now.pool.now reach
+        (pattern_in machine.now ids)) }
 {
-    if let Some(clobbers) = plain(alloc, checked, pool, patterns, book, ids)? {
+    if let Some(clobbers) = plain(alloc, machine, book, ids)? {
         return Ok(Class::Plain(clobbers));
     }
-    let jump = is_jump(alloc, checked, pool, patterns, book, ids)?;
+    let jump = is_jump(alloc, machine, book, ids)?;
     if jump {
         return Ok(Class::Jump);
     }
-    match branch(alloc, checked, pool, patterns, book, ids, reach)? {
+    match branch(alloc, machine, book, ids, reach)? {
         Some(parts) => Ok(Class::Branch(parts)),
         None => Ok(Class::Other),
     }
@@ -176,20 +173,18 @@ pub(crate) fn classify(
 // How far a jump form of a pattern reaches, and 0 where it gives none.
 pub(crate) fn jump_reach(
     alloc: Global,
-    checked: &Checked,
-    pool: &Pool,
-    patterns: &Patterns,
+    machine: &Machine<'_>,
     book: &mut Book,
     ids: PatternIds,
 ) -> Result<u64, NoMemory>
-    requires ready { IsReady checked.now.netlist book.old pool.now patterns.now }
-    requires ids { ArePatternIds checked.now.netlist book.old pool.now ids }
+    requires ready { IsReadyFor machine.now book.old }
+    requires ids { AreIdsIn machine.now book.old ids }
     ensures grows { Extends book.old book.new }
-    ensures reach { IfOk result (IsReachOf checked.now.netlist (ids_pattern pool.now ids)) }
+    ensures reach { IfOk result (IsReachOf (machine_netlist machine.now) (pattern_in machine.now ids)) }
 {
-    let jump = is_jump(alloc, checked, pool, patterns, book, ids)?;
+    let jump = is_jump(alloc, machine, book, ids)?;
     if !jump {
         return Ok(0);
     }
-    Ok(shape_reach(pool, ids.value))
+    Ok(shape_reach(machine.pool, ids.value))
 }

@@ -1,14 +1,15 @@
 //! Expressions of a pool as values of their own.
 
 ghost use Rattle.std.specs.Prelude.{◌≡◌, ◌-◌, ◌^◌, ◌<◌, ◌≤◌, length, IfOk, option_map};
-ghost use Rattle.form_set.specs.Inner.Copies.{ids_sides, model_of_sides};
-ghost use Rattle.form_set.specs.Swaps.{SidesWithin, IsAddrWithin, levels, swap_count as swap_count_of, swapped};
+ghost use Rattle.form_set.specs.Inner.Copies.{ids_sides};
+ghost use Rattle.operand_swaps.specs.Sides.{model_of_sides};
+ghost use Rattle.operand_swaps.specs.Swaps.{SidesWithin, IsAddrWithin, levels, swap_count as swap_count_of, swapped};
 ghost use Rattle.net_model.specs.Exprs.{model_of_expr};
 ghost use Rattle.sym_expr.specs.Pools.{expr_of_id};
 ghost use Rattle.transfer_set.specs.Entries.{IsAddrKnown};
 
-use crate::swaps::{Sides, swap_count, swap_sides};
 use net_model::Expr;
+use operand_swaps::{Sides, swap_count, swap_sides};
 use rec_bits::NoMemory;
 use std::alloc::Global;
 use sym_expr::{ExprId, Pool};

@@ -1,6 +1,6 @@
 //! Laws of forms, proved here once for every crate above.
 
-ghost use Rattle.form_set.specs.Laws.{ClobbersHaveCounter, ClobbersHaveOwn, FormsAreOfPatterns, FormsAreOne, NoJumpForm, NoPlainForm, ReachIsExact, SettingsAreOfShapes, SettingsHaveWords, SwapsChangeNothing};
+ghost use Rattle.form_set.specs.Laws.{ClobbersHaveCounter, ClobbersHaveOwn, FormsAreOfPatterns, FormsAreOne, NoJumpForm, NoPlainForm, ReachIsExact, SettingsAreOfShapes, SettingsHaveWords};
 
 /// Patterns have one list of forms and one greatest reach.
 pub fn law_of_lists()
@@ -19,11 +19,6 @@ pub fn law_of_words()
     ensures words { SettingsHaveWords }
     ensures own { ClobbersHaveOwn }
     ensures counter { ClobbersHaveCounter }
-{}
-
-/// No choice of swaps changes the width or the meaning of an address or a value.
-pub fn law_of_swaps()
-    ensures { SwapsChangeNothing }
 {}
 
 /// A list has no form but jumps and branches exactly where no pattern is plain, and no jump exactly

@@ -23,7 +23,7 @@ pub(crate) fn one(id: u32) -> u16
 // The registers that occur in an expression, one bit for each.
 fn registers(checked: &Checked, pool: &Pool, expr: ExprId) -> u16
     requires within { expr < length pool.now }
-    requires terms { IsExprOf checked.now.netlist (expr_of_id pool.now expr) }
+    requires exprs { IsExprOf checked.now.netlist (expr_of_id pool.now expr) }
     ensures { result ≡ registers_in (expr_of_id pool.now expr) }
 {
     // a checked netlist has few storages
@@ -69,7 +69,7 @@ fn are_apart(checked: &Checked, pool: &Pool, free: u16, a: ExprId, b: ExprId) ->
 // Whether no register but the free ones and no instruction bit occurs twice in an expression.
 fn is_linear(checked: &Checked, pool: &Pool, free: u16, expr: ExprId) -> bool
     requires within { expr < length pool.now }
-    requires terms { IsExprOf checked.now.netlist (expr_of_id pool.now expr) }
+    requires exprs { IsExprOf checked.now.netlist (expr_of_id pool.now expr) }
     ensures { result ≡ is_linear_of free (expr_of_id pool.now expr) }
 {
     match pool.node(expr) {
@@ -130,7 +130,7 @@ fn are_linear(
 ) -> bool
     requires addr { IsAddrKnown (length pool.now) addr }
     requires value { value < length pool.now }
-    requires terms { IsTransferOf checked.now.netlist (ids_transfer pool.now addr value) }
+    requires exprs { IsTransferOf checked.now.netlist (ids_transfer pool.now addr value) }
     ensures { result ≡ move_linear_of free (counted filed (ids_transfer pool.now addr value)) }
 {
     match addr {
@@ -158,7 +158,7 @@ pub(crate) fn move_linear(
 ) -> bool
     requires addr { IsAddrKnown (length pool.now) addr }
     requires value { value < length pool.now }
-    requires terms { IsTransferOf checked.now.netlist (ids_transfer pool.now addr value) }
+    requires exprs { IsTransferOf checked.now.netlist (ids_transfer pool.now addr value) }
     ensures { IsTrue result ↔ IsLinear free (counted filed (ids_transfer pool.now addr value)) }
 {
     let linear = are_linear(checked, pool, free, filed, addr, value);

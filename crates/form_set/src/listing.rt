@@ -1,47 +1,43 @@
 //! The forms of a netlist.
 
-ghost use Rattle.std.specs.Prelude.{◌≡◌, ◌<◌, length, max, slice_get, Some, IfOk, OnOk};
+ghost use Rattle.std.specs.Prelude.{◌≡◌, max, slice_get, Some, IfOk, OnOk};
 ghost use Rattle.bit_bdd.specs.Diagrams.{Extends};
 ghost use Rattle.form_model.specs.Forms.{models_of_forms};
 ghost use Rattle.form_set.specs.Inner.Adding.{HasAdded, IsGreatestReach, IsReachOf};
 ghost use Rattle.form_set.specs.Listing.{AreForms, AreFormModels};
-ghost use Rattle.form_set.specs.Inner.PatternIds.{ArePatternIds, ids_pattern};
-ghost use Rattle.transfer_set.specs.Ready.{IsReady};
+ghost use Rattle.form_set.specs.Inner.PatternIds.{AreIdsIn, pattern_in};
+ghost use Rattle.transfer_set.specs.Machines.{IsReadyFor, machine_netlist, machine_patterns};
 ghost use Rattle.net_model.specs.declared.hardware.Space.TheVariants.{File as InFile};
 ghost use Rattle.net_model.specs.Nets.{size_in};
 ghost use Rattle.net_model.specs.Patterns.{Pattern as ThePattern};
-ghost use Rattle.transfer_set.specs.Rows.{row_patterns};
 
-use crate::classes::{classify, jump_reach};
-use crate::making::add_class;
-use crate::pattern_ids::{PatternIds, known_ids};
+use crate::classes::{Class, classify, jump_reach};
+use crate::making::{add_branches, add_plain, jump_form};
+use crate::pattern_ids::{Known, known_ids};
 use bit_bdd::Book;
 use form_model::{Form, Forms};
-use net_model::{Checked, Space};
+use net_model::Space;
 use rec_bits::NoMemory;
 use std::alloc::Global;
-use sym_expr::Pool;
-use transfer_set::Patterns;
+use transfer_set::Machine;
 
 // How far a jump form of the pattern of this number reaches, and 0 where it gives none.
 fn number_reach(
     alloc: Global,
-    checked: &Checked,
-    pool: &Pool,
-    patterns: &Patterns,
+    machine: &Machine<'_>,
     book: &mut Book,
     number: u32,
 ) -> Result<u64, NoMemory>
-    requires ready { IsReady checked.now.netlist book.old pool.now patterns.now }
+    requires ready { IsReadyFor machine.now book.old }
     ensures grows { Extends book.old book.new }
     ensures reach { IfOk result (λ reach. (pattern : ThePattern) →
-        slice_get (row_patterns pool.now patterns.now.rows) number ≡ Some pattern →
-        IsReachOf checked.now.netlist pattern reach) }
+        slice_get (machine_patterns machine.now) number ≡ Some pattern →
+        IsReachOf (machine_netlist machine.now) pattern reach) }
 {
-    match known_ids(checked, pool, patterns, book, number) {
+    match known_ids(machine, number) {
         None => Ok(0),
         Some(ids) => {
-            let reach = jump_reach(alloc, checked, pool, patterns, book, ids)?;
+            let reach = jump_reach(alloc, machine, book, ids)?;
             Ok(reach)
         }
     }
@@ -55,20 +51,14 @@ fn larger(a: u64, b: u64) -> u64
 }
 
 // The greatest reach of the jump forms, and 0 where there is none.
-fn reach_of(
-    alloc: Global,
-    checked: &Checked,
-    pool: &Pool,
-    patterns: &Patterns,
-    book: &mut Book,
-) -> Result<u64, NoMemory>
-    requires ready { IsReady checked.now.netlist book.old pool.now patterns.now }
+fn reach_of(alloc: Global, machine: &Machine<'_>, book: &mut Book) -> Result<u64, NoMemory>
+    requires ready { IsReadyFor machine.now book.old }
     ensures grows { Extends book.old book.new }
-    ensures reach { IfOk result (IsGreatestReach checked.now.netlist (row_patterns pool.now patterns.now.rows)) }
+    ensures reach { IfOk result (IsGreatestReach (machine_netlist machine.now) (machine_patterns machine.now)) }
 {
     let mut reach = 0;
-    for number in 0..patterns.len() {
-        let here = number_reach(alloc, checked, pool, patterns, book, number)?;
+    for number in 0..machine.patterns.len() {
+        let here = number_reach(alloc, machine, book, number)?;
         reach = larger(reach, here);
     }
     Ok(reach)
@@ -77,49 +67,55 @@ fn reach_of(
 // Adds the forms of a pattern.
 fn add_pattern(
     alloc: Global,
-    checked: &Checked,
-    pool: &Pool,
-    patterns: &Patterns,
+    machine: &Machine<'_>,
     book: &mut Book,
     list: &mut Vec<Form>,
     reach: u64,
-    number: u32,
-    ids: PatternIds,
+    known: Known,
 ) -> Result<(), NoMemory>
-    requires ready { IsReady checked.now.netlist book.old pool.now patterns.now }
-    requires ids { ArePatternIds checked.now.netlist book.old pool.now ids }
+    requires ready { IsReadyFor machine.now book.old }
+    requires ids { AreIdsIn machine.now book.old known.ids }
     ensures grows { Extends book.old book.new }
-    ensures added { OnOk result (HasAdded checked.now.netlist reach number
-        (ids_pattern pool.now ids) (models_of_forms list.old.items) (models_of_forms list.new.items)) }
+    ensures added { OnOk result (HasAdded (machine_netlist machine.now) reach known.number
+        (pattern_in machine.now known.ids) (models_of_forms list.old.items) (models_of_forms list.new.items)) }
 {
-    let class = classify(alloc, checked, pool, patterns, book, ids, reach)?;
-    add_class(alloc, checked, pool, book, list, reach, number, ids, class)?;
+    let class = classify(alloc, machine, book, known.ids, reach)?;
+    match class {
+        Class::Plain(clobbers) => {
+            add_plain(alloc, machine, list, known, clobbers)?;
+        }
+        Class::Jump => {
+            let form = jump_form(alloc, machine, known)?;
+            list.push(form)?;
+        }
+        Class::Branch(parts) => {
+            add_branches(alloc, machine, list, known, parts)?;
+        }
+        Class::Other => {}
+    }
     Ok(())
 }
 
 // Adds the forms of the pattern of this number.
 fn add_number(
     alloc: Global,
-    checked: &Checked,
-    pool: &Pool,
-    patterns: &Patterns,
+    machine: &Machine<'_>,
     book: &mut Book,
     list: &mut Vec<Form>,
     reach: u64,
     number: u32,
 ) -> Result<(), NoMemory>
-    requires ready { IsReady checked.now.netlist book.old pool.now patterns.now }
+    requires ready { IsReadyFor machine.now book.old }
     ensures grows { Extends book.old book.new }
     ensures added { OnOk result ((pattern : ThePattern) →
-        slice_get (row_patterns pool.now patterns.now.rows) number ≡ Some pattern →
-        HasAdded checked.now.netlist reach number pattern (models_of_forms list.old.items) (models_of_forms list.new.items)) }
+        slice_get (machine_patterns machine.now) number ≡ Some pattern →
+        HasAdded (machine_netlist machine.now) reach number pattern
+        (models_of_forms list.old.items) (models_of_forms list.new.items)) }
 {
-    match known_ids(checked, pool, patterns, book, number) {
+    match known_ids(machine, number) {
         None => Ok(()),
         Some(ids) => {
-            add_pattern(
-                alloc, checked, pool, patterns, book, list, reach, number, ids,
-            )?;
+            add_pattern(alloc, machine, book, list, reach, Known { number, ids })?;
             Ok(())
         }
     }
@@ -128,22 +124,19 @@ fn add_number(
 // The forms of all patterns.
 fn list_of(
     alloc: Global,
-    checked: &Checked,
-    pool: &Pool,
-    patterns: &Patterns,
+    machine: &Machine<'_>,
     book: &mut Book,
     reach: u64,
 ) -> Result<Vec<Form>, NoMemory>
-    requires ready { IsReady checked.now.netlist book.old pool.now patterns.now }
+    requires ready { IsReadyFor machine.now book.old }
     ensures grows { Extends book.old book.new }
     ensures list { IfOk result (λ list.
-        AreFormModels checked.now.netlist reach 0 (row_patterns pool.now patterns.now.rows) (models_of_forms list.items)) }
+        AreFormModels (machine_netlist machine.now) reach 0 (machine_patterns machine.now)
+        (models_of_forms list.items)) }
 {
     let mut list = Vec::new(alloc);
-    for number in 0..patterns.len() {
-        add_number(
-            alloc, checked, pool, patterns, book, &mut list, reach, number,
-        )?;
+    for number in 0..machine.patterns.len() {
+        add_number(alloc, machine, book, &mut list, reach, number)?;
     }
     Ok(list)
 }
@@ -165,27 +158,21 @@ fn list_of(
 ///
 /// The patterns' sets are those of the book, and their expressions those of the pool; the book
 /// grows, and what it held means what it meant. Want of memory is the only refusal.
-pub fn forms(
-    alloc: Global,
-    checked: &Checked,
-    patterns: &Patterns,
-    book: &mut Book,
-    pool: &Pool,
-) -> Result<Forms, NoMemory>
-    requires ready { IsReady checked.now.netlist book.old pool.now patterns.now }
+pub fn forms(alloc: Global, machine: &Machine<'_>, book: &mut Book) -> Result<Forms, NoMemory>
+    requires ready { IsReadyFor machine.now book.old }
     ensures grows { Extends book.old book.new }
-    ensures ready { IsReady checked.now.netlist book.new pool.now patterns.now }
-    ensures forms { IfOk result (λ forms. AreForms checked.now.netlist
-        (row_patterns pool.now patterns.now.rows) (models_of_forms forms.list.items) forms.reach) }
-    ensures file { IfOk result (λ forms. forms.file ≡ size_in InFile checked.now.netlist.storages) }
+    ensures ready { IsReadyFor machine.now book.new }
+    ensures forms { IfOk result (λ forms. AreForms (machine_netlist machine.now)
+        (machine_patterns machine.now) (models_of_forms forms.list.items) forms.reach) }
+    ensures file { IfOk result (λ forms. forms.file ≡ size_in InFile (machine_netlist machine.now).storages) }
 {
     // the rules of the netlist say which registers its expressions name
-    let _netlist = checked.netlist();
-    let reach = reach_of(alloc, checked, pool, patterns, book)?;
-    let list = list_of(alloc, checked, pool, patterns, book, reach)?;
+    let _netlist = machine.checked.netlist();
+    let reach = reach_of(alloc, machine, book)?;
+    let list = list_of(alloc, machine, book, reach)?;
     Ok(Forms {
         list,
         reach,
-        file: checked.size(Space::File),
+        file: machine.checked.size(Space::File),
     })
 }

@@ -3,28 +3,27 @@
 ghost use Rattle.std.specs.Prelude.{◌≡◌, ◌<◌, ◌≤◌, ◌++◌, ◌==◌, true, None, length, IfOk, OnOk};
 ghost use Rattle.form_model.specs.Forms.{model_of_target, model_of_goal, model_of_form, models_of_forms};
 ghost use Rattle.form_model.specs.Shapes.{is_shape as is_shape_of};
-ghost use Rattle.form_set.specs.Inner.Adding.{HasAdded, IsClass};
 ghost use Rattle.form_set.specs.Inner.Copies.{AreBranchIds, id_target, ids_branch};
 ghost use Rattle.form_set.specs.Listing.{branch_form_model, branch_form_models, goal_at as goal_at_of, jump_form_model, plain_form_model, plain_form_models};
-ghost use Rattle.form_set.specs.Inner.PatternIds.{IsNarrow, ArePatternIds, ids_pattern};
+ghost use Rattle.form_set.specs.Inner.PatternIds.{pattern_in};
 ghost use Rattle.net_model.specs.Exprs.{expr_width};
 ghost use Rattle.sym_expr.specs.Pools.{expr_of_id};
-ghost use Rattle.transfer_set.specs.Entries.{IsAddrKnown, ids_transfer};
+ghost use Rattle.transfer_set.specs.Entries.{IsAddrKnown};
+ghost use Rattle.transfer_set.specs.Machines.{machine_netlist};
 ghost use Rattle.net_model.specs.Fields.{transfer_fields};
 
 use crate::branches::{BranchIds, TargetId};
-use crate::classes::Class;
 use crate::copies::{count_at, expr_at, swapped_at};
-use crate::pattern_ids::PatternIds;
+use crate::pattern_ids::Known;
 use crate::shapes::shape_reach;
 use crate::tied::tied_of;
 use crate::words::{all_registers, is_file};
-use bit_bdd::Book;
 use form_model::{Form, Goal, Target};
 use net_model::Checked;
 use rec_bits::NoMemory;
 use std::alloc::Global;
 use sym_expr::Pool;
+use transfer_set::Machine;
 
 // What a transfer of a storage goes to.
 fn goal_at(checked: &Checked, storage: u32) -> Goal
@@ -42,81 +41,76 @@ fn goal_at(checked: &Checked, storage: u32) -> Goal
 // The form of a plain pattern with the swaps of a choice.
 fn plain_form(
     alloc: Global,
-    checked: &Checked,
-    pool: &Pool,
-    number: u32,
-    ids: PatternIds,
+    machine: &Machine<'_>,
+    known: Known,
     clobbers: u16,
     choice: u16,
 ) -> Result<Form, NoMemory>
-    requires addr { IsAddrKnown (length pool.now) ids.addr }
-    requires value { ids.value < length pool.now }
-    requires fields { ids.fields ≡ transfer_fields (ids_transfer pool.now ids.addr ids.value) }
+    requires addr { IsAddrKnown (length machine.now.pool.now) known.ids.addr }
+    requires value { known.ids.value < length machine.now.pool.now }
+    requires fields { known.ids.fields ≡ transfer_fields (pattern_in machine.now known.ids).move }
     ensures { IfOk result (λ form. model_of_form form
-        ≡ plain_form_model checked.now.netlist number (ids_pattern pool.now ids) clobbers choice) }
+        ≡ plain_form_model (machine_netlist machine.now) known.number
+        (pattern_in machine.now known.ids) clobbers choice) }
 {
-    let sides = swapped_at(alloc, pool, ids.addr, ids.value, choice)?;
-    let tied = tied_of(is_file(checked, ids.storage), &sides)?;
+    let sides = swapped_at(alloc, machine.pool, known.ids.addr, known.ids.value, choice)?;
+    let tied = tied_of(is_file(machine.checked, known.ids.storage), &sides)?;
     Ok(Form {
-        pattern: number,
-        goal: goal_at(checked, ids.storage),
+        pattern: known.number,
+        goal: goal_at(machine.checked, known.ids.storage),
         addr: sides.addr,
         value: sides.value,
-        fields: ids.fields,
+        fields: known.ids.fields,
         clobbers,
         tied,
     })
 }
 
 // Adds the forms of a plain pattern, one for each choice of swaps.
-fn add_plain(
+pub(crate) fn add_plain(
     alloc: Global,
-    checked: &Checked,
-    pool: &Pool,
+    machine: &Machine<'_>,
     list: &mut Vec<Form>,
-    number: u32,
-    ids: PatternIds,
+    known: Known,
     clobbers: u16,
 ) -> Result<(), NoMemory>
-    requires addr { IsAddrKnown (length pool.now) ids.addr }
-    requires value { ids.value < length pool.now }
-    requires fields { ids.fields ≡ transfer_fields (ids_transfer pool.now ids.addr ids.value) }
+    requires addr { IsAddrKnown (length machine.now.pool.now) known.ids.addr }
+    requires value { known.ids.value < length machine.now.pool.now }
+    requires fields { known.ids.fields ≡ transfer_fields (pattern_in machine.now known.ids).move }
     ensures { OnOk result (models_of_forms list.new.items ≡ models_of_forms list.old.items
-        ++ plain_form_models checked.now.netlist number (ids_pattern pool.now ids) clobbers) }
+        ++ plain_form_models (machine_netlist machine.now) known.number (pattern_in machine.now known.ids) clobbers) }
 {
-    let count = count_at(alloc, pool, ids.addr, ids.value)?;
+    let count = count_at(alloc, machine.pool, known.ids.addr, known.ids.value)?;
     let choices: u16 = 1 << count;
     for choice in 0..choices {
-        let form = plain_form(alloc, checked, pool, number, ids, clobbers, choice)?;
+        let form = plain_form(alloc, machine, known, clobbers, choice)?;
         list.push(form)?;
     }
     Ok(())
 }
 
 // The form of a pattern PC := shape.
-fn jump_form(
+pub(crate) fn jump_form(
     alloc: Global,
-    checked: &Checked,
-    pool: &Pool,
-    number: u32,
-    ids: PatternIds,
+    machine: &Machine<'_>,
+    known: Known,
 ) -> Result<Form, NoMemory>
-    requires value { ids.value < length pool.now }
-    requires narrow { expr_width (expr_of_id pool.now ids.value) ≤ 16 }
-    requires shape { is_shape_of (expr_of_id pool.now ids.value) ≡ true }
-    ensures { IfOk result (λ form.
-        model_of_form form ≡ jump_form_model checked.now.netlist number (expr_of_id pool.now ids.value) ids.fields) }
+    requires value { known.ids.value < length machine.now.pool.now }
+    requires narrow { expr_width (expr_of_id machine.now.pool.now known.ids.value) ≤ 16 }
+    requires shape { is_shape_of (expr_of_id machine.now.pool.now known.ids.value) ≡ true }
+    ensures { IfOk result (λ form. model_of_form form ≡ jump_form_model (machine_netlist machine.now)
+        known.number (expr_of_id machine.now.pool.now known.ids.value) known.ids.fields) }
 {
-    let value = expr_at(alloc, pool, ids.value)?;
+    let value = expr_at(alloc, machine.pool, known.ids.value)?;
     Ok(Form {
-        pattern: number,
+        pattern: known.number,
         goal: Goal::Jump {
-            reach: shape_reach(pool, ids.value),
+            reach: shape_reach(machine.pool, known.ids.value),
         },
         addr: None,
         value,
-        fields: ids.fields,
-        clobbers: all_registers(checked),
+        fields: known.ids.fields,
+        clobbers: all_registers(machine.checked),
         tied: None,
     })
 }
@@ -137,87 +131,52 @@ fn target_of(alloc: Global, pool: &Pool, target: TargetId) -> Result<Target, NoM
 // The form of a branch with the swaps of a choice in its condition.
 fn branch_form(
     alloc: Global,
-    checked: &Checked,
-    pool: &Pool,
-    number: u32,
-    ids: PatternIds,
+    machine: &Machine<'_>,
+    known: Known,
     parts: BranchIds,
     choice: u16,
 ) -> Result<Form, NoMemory>
-    requires parts { AreBranchIds (length pool.now) parts }
-    requires fields { ids.fields ≡ transfer_fields (ids_transfer pool.now ids.addr ids.value) }
+    requires parts { AreBranchIds (length machine.now.pool.now) parts }
+    requires fields { known.ids.fields ≡ transfer_fields (pattern_in machine.now known.ids).move }
     ensures { IfOk result (λ form. model_of_form form
-        ≡ branch_form_model checked.now.netlist number (ids_pattern pool.now ids) (ids_branch pool.now parts) choice) }
+        ≡ branch_form_model (machine_netlist machine.now) known.number
+        (pattern_in machine.now known.ids) (ids_branch machine.now.pool.now parts) choice) }
 {
-    let target = target_of(alloc, pool, parts.target)?;
-    let sides = swapped_at(alloc, pool, None, parts.test, choice)?;
+    let target = target_of(alloc, machine.pool, parts.target)?;
+    let sides = swapped_at(alloc, machine.pool, None, parts.test, choice)?;
     Ok(Form {
-        pattern: number,
+        pattern: known.number,
         goal: Goal::Branch {
             when_one: parts.when_one,
             target,
         },
         addr: None,
         value: sides.value,
-        fields: ids.fields,
-        clobbers: all_registers(checked),
+        fields: known.ids.fields,
+        clobbers: all_registers(machine.checked),
         tied: None,
     })
 }
 
 // Adds the forms of a branch, one for each choice of swaps in its condition.
-fn add_branches(
+pub(crate) fn add_branches(
     alloc: Global,
-    checked: &Checked,
-    pool: &Pool,
+    machine: &Machine<'_>,
     list: &mut Vec<Form>,
-    number: u32,
-    ids: PatternIds,
+    known: Known,
     parts: BranchIds,
 ) -> Result<(), NoMemory>
-    requires parts { AreBranchIds (length pool.now) parts }
-    requires fields { ids.fields ≡ transfer_fields (ids_transfer pool.now ids.addr ids.value) }
+    requires parts { AreBranchIds (length machine.now.pool.now) parts }
+    requires fields { known.ids.fields ≡ transfer_fields (pattern_in machine.now known.ids).move }
     ensures { OnOk result (models_of_forms list.new.items ≡ models_of_forms list.old.items
-        ++ branch_form_models checked.now.netlist number (ids_pattern pool.now ids) (ids_branch pool.now parts)) }
+        ++ branch_form_models (machine_netlist machine.now) known.number
+        (pattern_in machine.now known.ids) (ids_branch machine.now.pool.now parts)) }
 {
-    let count = count_at(alloc, pool, None, parts.test)?;
+    let count = count_at(alloc, machine.pool, None, parts.test)?;
     let choices: u16 = 1 << count;
     for choice in 0..choices {
-        let form = branch_form(alloc, checked, pool, number, ids, parts, choice)?;
+        let form = branch_form(alloc, machine, known, parts, choice)?;
         list.push(form)?;
-    }
-    Ok(())
-}
-
-// Adds the forms of a pattern of which it is known what it is.
-pub(crate) fn add_class(
-    alloc: Global,
-    checked: &Checked,
-    pool: &Pool,
-    _book: &Book,
-    list: &mut Vec<Form>,
-    _reach: u64,
-    number: u32,
-    ids: PatternIds,
-    class: Class,
-) -> Result<(), NoMemory>
-    requires ids { ArePatternIds checked.now.netlist _book.now pool.now ids }
-    requires class { IsClass checked.now.netlist pool.now _reach (ids_pattern pool.now ids) class }
-    ensures { OnOk result (HasAdded checked.now.netlist _reach number (ids_pattern pool.now ids)
-        (models_of_forms list.old.items) (models_of_forms list.new.items)) }
-{
-    match class {
-        Class::Plain(clobbers) => {
-            add_plain(alloc, checked, pool, list, number, ids, clobbers)?;
-        }
-        Class::Jump => {
-            let form = jump_form(alloc, checked, pool, number, ids)?;
-            list.push(form)?;
-        }
-        Class::Branch(parts) => {
-            add_branches(alloc, checked, pool, list, number, ids, parts)?;
-        }
-        Class::Other => {}
     }
     Ok(())
 }

@@ -1,14 +1,13 @@
 //! Patterns as they are looked up.
 
-ghost use Rattle.std.specs.Prelude.{◌≡◌, ◌<◌, length, option_map, slice_get, slice_index, IfSome};
-ghost use Rattle.form_set.specs.Inner.PatternIds.{ArePatternIds, row_ids, ids_pattern};
-ghost use Rattle.transfer_set.specs.Ready.{IsReady};
-ghost use Rattle.transfer_set.specs.Rows.{row_patterns};
+ghost use Rattle.std.specs.Prelude.{◌≡◌, option_map, slice_get, slice_index, IfSome};
+ghost use Rattle.bit_bdd.specs.Diagrams.{Diagrams};
+ghost use Rattle.form_set.specs.Inner.PatternIds.{AreIdsIn, pattern_in, row_ids};
+ghost use Rattle.transfer_set.specs.Machines.{IsReadyFor, machine_patterns};
 
-use bit_bdd::{Book, SetId};
-use net_model::Checked;
-use sym_expr::{ExprId, Pool};
-use transfer_set::Patterns;
+use bit_bdd::SetId;
+use sym_expr::ExprId;
+use transfer_set::{Machine, Patterns};
 
 // A pattern: its storage, its transfer, its words, and the instruction bits that occur in it.
 #[derive(Clone, Copy)]
@@ -47,22 +46,23 @@ pub(crate) fn keep_of(patterns: &Patterns, storage: u32) -> SetId
     }
 }
 
-// The pattern of this number, with what holds of it.
-pub(crate) fn known_ids(
-    checked: &Checked,
-    _pool: &Pool,
-    patterns: &Patterns,
-    _book: &Book,
-    number: u32,
-) -> Option<PatternIds>
-    requires ready { IsReady checked.now.netlist _book.now _pool.now patterns.now }
-    ensures ids { IfSome result (ArePatternIds checked.now.netlist _book.now _pool.now) }
-    ensures pattern { option_map (ids_pattern _pool.now) result
-        ≡ slice_get (row_patterns _pool.now patterns.now.rows) number }
+// A pattern with its number.
+#[derive(Clone, Copy)]
+pub(crate) struct Known {
+    pub(crate) number: u32,
+    pub(crate) ids: PatternIds,
+}
+
+// The pattern of this number, with what holds of it over each book of its sets.
+pub(crate) fn known_ids(machine: &Machine<'_>, number: u32) -> Option<PatternIds>
+    ensures ids { IfSome result (λ ids. (book : Diagrams) → IsReadyFor machine.now book →
+        AreIdsIn machine.now book ids) }
+    ensures pattern { option_map (pattern_in machine.now) result
+        ≡ slice_get (machine_patterns machine.now) number }
 {
     // the rules of the netlist say what its expressions name, and the pool's length how wide they
     // are
-    let _netlist = checked.netlist();
-    let _len = _pool.len();
-    ids_at(patterns, number)
+    let _netlist = machine.checked.netlist();
+    let _len = machine.pool.len();
+    ids_at(machine.patterns, number)
 }

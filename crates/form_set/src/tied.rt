@@ -1,13 +1,13 @@
 //! The tied read of a form, by its place among the operands.
 
 ghost use Rattle.std.specs.Prelude.{◌≡◌, ◌+◌, IfOk, option_map};
-ghost use Rattle.form_set.specs.Inner.Copies.{model_of_sides};
+ghost use Rattle.operand_swaps.specs.Sides.{model_of_sides};
 ghost use Rattle.form_set.specs.Targets.{first_of};
 ghost use Rattle.form_set.specs.Tied.{operand_count, same_expr as same_term_of, tied_of as tied_of_sides, tied_place};
 ghost use Rattle.net_model.specs.Exprs.{model_of_expr};
 
-use crate::swaps::Sides;
 use net_model::Expr;
+use operand_swaps::Sides;
 use rec_bits::NoMemory;
 
 // Whether two expressions are one.

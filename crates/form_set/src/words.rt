@@ -1,13 +1,12 @@
 //! The words that do a pattern's transfer and leave other storages alone.
 
-ghost use Rattle.std.specs.Prelude.{◌≡◌, ◌↔◌, ◌<◌, ◌^◌, IfOk, IsTrue, length, slice_get, bit_or};
+ghost use Rattle.std.specs.Prelude.{◌≡◌, ◌↔◌, ◌<◌, ◌^◌, IfOk, IsTrue, length, slice_get};
 ghost use Rattle.bit_bdd.specs.Diagrams.{Extends};
-ghost use Rattle.form_set.specs.Inner.PatternIds.{ArePatternIds, ids_pattern};
-ghost use Rattle.transfer_set.specs.Ready.{IsReady};
-ghost use Rattle.transfer_set.specs.Rows.{row_patterns};
+ghost use Rattle.form_set.specs.Inner.PatternIds.{AreIdsIn, pattern_in};
+ghost use Rattle.transfer_set.specs.Machines.{IsReadyFor, machine_netlist, machine_patterns};
 ghost use Rattle.form_set.specs.Inner.Holds.{KeepsMemory, StepsTo};
 ghost use Rattle.form_set.specs.Static.{is_file_at};
-ghost use Rattle.form_set.specs.Words.{AreClobbers, AreKept, CanJump, CanKeep, CanTurn, IsSetOf, Joins, TurnsAt, WordKeepsBoth, WordKeepsMemory, KeepsOthers, all_registers as all_registers_of, is_register_storage as is_register_of, own_storage as own_storage_of, with};
+ghost use Rattle.form_set.specs.Words.{AreClobbers, AreKept, CanJump, CanTurn, IsSetOf, Joins, TurnsAt, WordKeepsMemory, KeepsOthers, all_registers as all_registers_of, is_register_storage as is_register_of, own_storage as own_storage_of};
 
 use crate::decide::has_all;
 use crate::linear::one;
@@ -16,8 +15,7 @@ use bit_bdd::{Book, SetId};
 use net_model::{Checked, Space, Storage};
 use rec_bits::NoMemory;
 use std::alloc::Global;
-use sym_expr::Pool;
-use transfer_set::Patterns;
+use transfer_set::Machine;
 
 // Registers, and the words of a pattern that step and keep them, the data memory and the register
 // file.
@@ -61,49 +59,51 @@ pub(crate) fn all_registers(checked: &Checked) -> u16
 // Those of a pattern's words that keep the data memory, unless that is its storage.
 fn memory_words(
     alloc: Global,
-    _checked: &Checked,
-    _pool: &Pool,
-    patterns: &Patterns,
+    machine: &Machine<'_>,
     book: &mut Book,
     ids: PatternIds,
     words: SetId,
 ) -> Result<SetId, NoMemory>
-    requires ready { IsReady _checked.now.netlist book.old _pool.now patterns.now }
-    requires ids { ArePatternIds _checked.now.netlist book.old _pool.now ids }
-    requires words { IsSetOf book.old (StepsTo _checked.now.netlist (ids_pattern _pool.now ids)) words }
+    requires ready { IsReadyFor machine.now book.old }
+    requires ids { AreIdsIn machine.now book.old ids }
+    requires words { IsSetOf book.old (StepsTo (machine_netlist machine.now) (pattern_in machine.now ids)) words }
     ensures grows { Extends book.old book.new }
-    ensures words { IfOk result (IsSetOf book.new (KeepsMemory _checked.now.netlist (ids_pattern _pool.now ids))) }
+    ensures words { IfOk result (IsSetOf book.new (KeepsMemory (machine_netlist machine.now)
+        (pattern_in machine.now ids))) }
 {
-    if ids.storage == patterns.memory() {
+    if ids.storage == machine.patterns.memory() {
         return Ok(words);
     }
-    let kept = book.and(alloc, words, keep_of(patterns, patterns.memory()))?;
+    let kept = book.and(
+        alloc,
+        words,
+        keep_of(machine.patterns, machine.patterns.memory()),
+    )?;
     Ok(kept)
 }
 
 // And those of them that keep the register file, unless that is its storage.
 fn file_words(
     alloc: Global,
-    _checked: &Checked,
-    _pool: &Pool,
-    patterns: &Patterns,
+    machine: &Machine<'_>,
     book: &mut Book,
     ids: PatternIds,
     words: SetId,
 ) -> Result<SetId, NoMemory>
-    requires ready { IsReady _checked.now.netlist book.old _pool.now patterns.now }
-    requires ids { ArePatternIds _checked.now.netlist book.old _pool.now ids }
-    requires words { IsSetOf book.old (KeepsMemory _checked.now.netlist (ids_pattern _pool.now ids)) words }
+    requires ready { IsReadyFor machine.now book.old }
+    requires ids { AreIdsIn machine.now book.old ids }
+    requires words { IsSetOf book.old (KeepsMemory (machine_netlist machine.now) (pattern_in machine.now ids)) words }
     ensures grows { Extends book.old book.new }
-    ensures words { IfOk result (IsSetOf book.new (KeepsOthers _checked.now.netlist (ids_pattern _pool.now ids) 0)) }
+    ensures words { IfOk result (IsSetOf book.new (KeepsOthers (machine_netlist machine.now)
+        (pattern_in machine.now ids) 0)) }
 {
-    match patterns.file() {
+    match machine.patterns.file() {
         None => Ok(words),
         Some(file) => {
             if ids.storage == file {
                 return Ok(words);
             }
-            let kept = book.and(alloc, words, keep_of(patterns, file))?;
+            let kept = book.and(alloc, words, keep_of(machine.patterns, file))?;
             Ok(kept)
         }
     }
@@ -113,150 +113,77 @@ fn file_words(
 // is its storage.
 pub(crate) fn step_words(
     alloc: Global,
-    checked: &Checked,
-    pool: &Pool,
-    patterns: &Patterns,
+    machine: &Machine<'_>,
     book: &mut Book,
     ids: PatternIds,
 ) -> Result<SetId, NoMemory>
-    requires ready { IsReady checked.now.netlist book.old pool.now patterns.now }
-    requires ids { ArePatternIds checked.now.netlist book.old pool.now ids }
+    requires ready { IsReadyFor machine.now book.old }
+    requires ids { AreIdsIn machine.now book.old ids }
     ensures grows { Extends book.old book.new }
-    ensures words { IfOk result (IsSetOf book.new (KeepsOthers checked.now.netlist (ids_pattern pool.now ids) 0)) }
+    ensures words { IfOk result (IsSetOf book.new (KeepsOthers (machine_netlist machine.now)
+        (pattern_in machine.now ids) 0)) }
 {
-    let steps = book.and(alloc, ids.set, patterns.step_set())?;
-    let words = memory_words(alloc, checked, pool, patterns, book, ids, steps)?;
-    let kept = file_words(alloc, checked, pool, patterns, book, ids, words)?;
+    let steps = book.and(alloc, ids.set, machine.patterns.step_set())?;
+    let words = memory_words(alloc, machine, book, ids, steps)?;
+    let kept = file_words(alloc, machine, book, ids, words)?;
     Ok(kept)
 }
 
 // The words of a pattern that keep the data memory.
 pub(crate) fn jump_words(
     alloc: Global,
-    _checked: &Checked,
-    _pool: &Pool,
-    patterns: &Patterns,
+    machine: &Machine<'_>,
     book: &mut Book,
     ids: PatternIds,
 ) -> Result<SetId, NoMemory>
-    requires ready { IsReady _checked.now.netlist book.old _pool.now patterns.now }
-    requires ids { ArePatternIds _checked.now.netlist book.old _pool.now ids }
+    requires ready { IsReadyFor machine.now book.old }
+    requires ids { AreIdsIn machine.now book.old ids }
     ensures grows { Extends book.old book.new }
-    ensures words { IfOk result (IsSetOf book.new (WordKeepsMemory _checked.now.netlist (ids_pattern _pool.now ids))) }
+    ensures words { IfOk result (IsSetOf book.new (WordKeepsMemory (machine_netlist machine.now)
+        (pattern_in machine.now ids))) }
 {
-    let words = book.and(alloc, ids.set, keep_of(patterns, patterns.memory()))?;
+    let words = book.and(
+        alloc,
+        ids.set,
+        keep_of(machine.patterns, machine.patterns.memory()),
+    )?;
     Ok(words)
-}
-
-// Those that keep one register more.
-fn with_register(
-    alloc: Global,
-    checked: &Checked,
-    _pool: &Pool,
-    patterns: &Patterns,
-    book: &mut Book,
-    _part: PatternIds,
-    kept: Kept,
-    id: u32,
-) -> Result<Kept, NoMemory>
-    requires ready { IsReady checked.now.netlist book.old _pool.now patterns.now }
-    requires words { IsSetOf book.old
-        (KeepsOthers checked.now.netlist (ids_pattern _pool.now _part) kept.registers) kept.words }
-    requires id { id < length checked.now.netlist.storages }
-    ensures grows { Extends book.old book.new }
-    ensures words { IfOk result (λ more.
-        IsSetOf book.new (KeepsOthers checked.now.netlist (ids_pattern _pool.now _part) more.registers) more.words) }
-    ensures registers { IfOk result (λ more. more.registers ≡ with kept.registers id) }
-{
-    // a checked netlist has few storages
-    let _netlist = checked.netlist();
-    let words = book.and(alloc, kept.words, keep_of(patterns, id))?;
-    Ok(Kept {
-        words,
-        registers: kept.registers | one(id),
-    })
-}
-
-// Whether a pattern has for every setting such a word.
-pub(crate) fn can_keep(
-    alloc: Global,
-    _checked: &Checked,
-    _pool: &Pool,
-    _patterns: &Patterns,
-    book: &mut Book,
-    ids: PatternIds,
-    kept: Kept,
-) -> Result<bool, NoMemory>
-    requires ready { IsReady _checked.now.netlist book.old _pool.now _patterns.now }
-    requires ids { ArePatternIds _checked.now.netlist book.old _pool.now ids }
-    requires words { IsSetOf book.old
-        (KeepsOthers _checked.now.netlist (ids_pattern _pool.now ids) kept.registers) kept.words }
-    ensures grows { Extends book.old book.new }
-    ensures ok { IfOk result (λ ok.
-        IsTrue ok ↔ CanKeep _checked.now.netlist (ids_pattern _pool.now ids) kept.registers) }
-{
-    let ok = has_all(alloc, book, kept.words, ids.fields)?;
-    Ok(ok)
 }
 
 // Whether a pattern has for every setting a word that keeps the data memory.
 pub(crate) fn can_jump(
     alloc: Global,
-    checked: &Checked,
-    pool: &Pool,
-    patterns: &Patterns,
+    machine: &Machine<'_>,
     book: &mut Book,
     ids: PatternIds,
 ) -> Result<bool, NoMemory>
-    requires ready { IsReady checked.now.netlist book.old pool.now patterns.now }
-    requires ids { ArePatternIds checked.now.netlist book.old pool.now ids }
+    requires ready { IsReadyFor machine.now book.old }
+    requires ids { AreIdsIn machine.now book.old ids }
     ensures grows { Extends book.old book.new }
-    ensures can { IfOk result (λ can. IsTrue can ↔ CanJump checked.now.netlist (ids_pattern pool.now ids)) }
+    ensures can { IfOk result (λ can. IsTrue can ↔ CanJump (machine_netlist machine.now) (pattern_in machine.now ids)) }
 {
-    let words = jump_words(alloc, checked, pool, patterns, book, ids)?;
+    let words = jump_words(alloc, machine, book, ids)?;
     let can = has_all(alloc, book, words, ids.fields)?;
     Ok(can)
-}
-
-// Those of a pattern's words that keep a storage, the mode, among those that keep the data memory.
-fn mode_words(
-    alloc: Global,
-    _checked: &Checked,
-    _pool: &Pool,
-    patterns: &Patterns,
-    book: &mut Book,
-    _ids: PatternIds,
-    words: SetId,
-    mode: u32,
-) -> Result<SetId, NoMemory>
-    requires ready { IsReady _checked.now.netlist book.old _pool.now patterns.now }
-    requires words { IsSetOf book.old (WordKeepsMemory _checked.now.netlist (ids_pattern _pool.now _ids)) words }
-    requires mode { mode < length _checked.now.netlist.storages }
-    ensures grows { Extends book.old book.new }
-    ensures words { IfOk result (IsSetOf book.new (WordKeepsBoth _checked.now.netlist (ids_pattern _pool.now _ids) mode)) }
-{
-    let kept = book.and(alloc, words, keep_of(patterns, mode))?;
-    Ok(kept)
 }
 
 // Whether a pattern has for every setting a word that keeps the data memory and the mode.
 fn turns(
     alloc: Global,
-    checked: &Checked,
-    pool: &Pool,
-    patterns: &Patterns,
+    machine: &Machine<'_>,
     book: &mut Book,
     ids: PatternIds,
     mode: u32,
 ) -> Result<bool, NoMemory>
-    requires ready { IsReady checked.now.netlist book.old pool.now patterns.now }
-    requires ids { ArePatternIds checked.now.netlist book.old pool.now ids }
-    requires mode { mode < length checked.now.netlist.storages }
+    requires ready { IsReadyFor machine.now book.old }
+    requires ids { AreIdsIn machine.now book.old ids }
+    requires mode { mode < length (machine_netlist machine.now).storages }
     ensures grows { Extends book.old book.new }
-    ensures can { IfOk result (λ can. IsTrue can ↔ CanTurn checked.now.netlist (ids_pattern pool.now ids) mode) }
+    ensures can { IfOk result (λ can.
+        IsTrue can ↔ CanTurn (machine_netlist machine.now) (pattern_in machine.now ids) mode) }
 {
-    let memory = jump_words(alloc, checked, pool, patterns, book, ids)?;
-    let words = mode_words(alloc, checked, pool, patterns, book, ids, memory, mode)?;
+    let memory = jump_words(alloc, machine, book, ids)?;
+    let words = book.and(alloc, memory, keep_of(machine.patterns, mode))?;
     let can = has_all(alloc, book, words, ids.fields)?;
     Ok(can)
 }
@@ -266,21 +193,19 @@ fn turns(
 /// it meant. Want of memory is the only refusal.
 pub fn can_turn(
     alloc: Global,
-    checked: &Checked,
-    pool: &Pool,
-    patterns: &Patterns,
+    machine: &Machine<'_>,
     book: &mut Book,
     pattern: u32,
     mode: u32,
 ) -> Result<bool, NoMemory>
-    requires ready { IsReady checked.now.netlist book.old pool.now patterns.now }
-    requires mode { mode < length checked.now.netlist.storages }
+    requires ready { IsReadyFor machine.now book.old }
+    requires mode { mode < length (machine_netlist machine.now).storages }
     ensures grows { Extends book.old book.new }
     ensures can { IfOk result (λ can. IsTrue can
-        ↔ TurnsAt checked.now.netlist (slice_get (row_patterns pool.now patterns.now.rows) pattern) mode) }
+        ↔ TurnsAt (machine_netlist machine.now) (slice_get (machine_patterns machine.now) pattern) mode) }
 {
-    match known_ids(checked, pool, patterns, book, pattern) {
-        Some(ids) => turns(alloc, checked, pool, patterns, book, ids, mode),
+    match known_ids(machine, pattern) {
+        Some(ids) => turns(alloc, machine, book, ids, mode),
         None => Ok(false),
     }
 }
@@ -288,57 +213,61 @@ pub fn can_turn(
 // Those that keep one storage more, where it is a register and every setting still has such a word.
 fn joined(
     alloc: Global,
-    checked: &Checked,
-    pool: &Pool,
-    patterns: &Patterns,
+    machine: &Machine<'_>,
     book: &mut Book,
     ids: PatternIds,
     kept: Kept,
     id: u32,
 ) -> Result<Kept, NoMemory>
-    requires ready { IsReady checked.now.netlist book.old pool.now patterns.now }
-    requires ids { ArePatternIds checked.now.netlist book.old pool.now ids }
+    requires ready { IsReadyFor machine.now book.old }
+    requires ids { AreIdsIn machine.now book.old ids }
     requires words { IsSetOf book.old
-        (KeepsOthers checked.now.netlist (ids_pattern pool.now ids) kept.registers) kept.words }
-    requires id { id < length checked.now.netlist.storages }
+        (KeepsOthers (machine_netlist machine.now) (pattern_in machine.now ids) kept.registers) kept.words }
+    requires id { id < length (machine_netlist machine.now).storages }
     ensures grows { Extends book.old book.new }
     ensures words { IfOk result (λ more.
-        IsSetOf book.new (KeepsOthers checked.now.netlist (ids_pattern pool.now ids) more.registers) more.words) }
+        IsSetOf book.new (KeepsOthers (machine_netlist machine.now)
+        (pattern_in machine.now ids) more.registers) more.words) }
     ensures joins { IfOk result (λ more.
-        Joins checked.now.netlist (ids_pattern pool.now ids) id kept.registers more.registers) }
+        Joins (machine_netlist machine.now) (pattern_in machine.now ids) id kept.registers more.registers) }
 {
-    if !is_register(checked, id) {
+    if !is_register(machine.checked, id) {
         return Ok(kept);
     }
-    let more = with_register(alloc, checked, pool, patterns, book, ids, kept, id)?;
-    let ok = can_keep(alloc, checked, pool, patterns, book, ids, more)?;
-    if ok { Ok(more) } else { Ok(kept) }
+    // a checked netlist has few storages
+    let _netlist = machine.checked.netlist();
+    let words = book.and(alloc, kept.words, keep_of(machine.patterns, id))?;
+    let registers = kept.registers | one(id);
+    let ok = has_all(alloc, book, words, ids.fields)?;
+    if ok {
+        Ok(Kept { words, registers })
+    } else {
+        Ok(kept)
+    }
 }
 
 // The registers that join those that must be kept, in order of declaration.
 fn kept_registers(
     alloc: Global,
-    checked: &Checked,
-    pool: &Pool,
-    patterns: &Patterns,
+    machine: &Machine<'_>,
     book: &mut Book,
     ids: PatternIds,
     words: SetId,
 ) -> Result<u16, NoMemory>
-    requires ready { IsReady checked.now.netlist book.old pool.now patterns.now }
-    requires ids { ArePatternIds checked.now.netlist book.old pool.now ids }
-    requires words { IsSetOf book.old (KeepsOthers checked.now.netlist (ids_pattern pool.now ids) 0) words }
+    requires ready { IsReadyFor machine.now book.old }
+    requires ids { AreIdsIn machine.now book.old ids }
+    requires words { IsSetOf book.old (KeepsOthers (machine_netlist machine.now) (pattern_in machine.now ids) 0) words }
     ensures grows { Extends book.old book.new }
-    ensures kept { IfOk result (AreKept checked.now.netlist (ids_pattern pool.now ids)
-        (length checked.now.netlist.storages)) }
+    ensures kept { IfOk result (AreKept (machine_netlist machine.now) (pattern_in machine.now ids)
+        (length (machine_netlist machine.now).storages)) }
 {
-    let count = checked.netlist().storages.len() as u32;
+    let count = machine.checked.netlist().storages.len() as u32;
     let mut kept = Kept {
         words,
         registers: 0,
     };
     for id in 0..count {
-        kept = joined(alloc, checked, pool, patterns, book, ids, kept, id)?;
+        kept = joined(alloc, machine, book, ids, kept, id)?;
     }
     Ok(kept.registers)
 }
@@ -355,21 +284,19 @@ fn own_storage(checked: &Checked, id: u32) -> u16
 // registers that can't all be kept.
 pub(crate) fn clobbers(
     alloc: Global,
-    checked: &Checked,
-    pool: &Pool,
-    patterns: &Patterns,
+    machine: &Machine<'_>,
     book: &mut Book,
     ids: PatternIds,
     words: SetId,
 ) -> Result<u16, NoMemory>
-    requires ready { IsReady checked.now.netlist book.old pool.now patterns.now }
-    requires ids { ArePatternIds checked.now.netlist book.old pool.now ids }
-    requires words { IsSetOf book.old (KeepsOthers checked.now.netlist (ids_pattern pool.now ids) 0) words }
+    requires ready { IsReadyFor machine.now book.old }
+    requires ids { AreIdsIn machine.now book.old ids }
+    requires words { IsSetOf book.old (KeepsOthers (machine_netlist machine.now) (pattern_in machine.now ids) 0) words }
     ensures grows { Extends book.old book.new }
-    ensures clobbers { IfOk result (AreClobbers checked.now.netlist (ids_pattern pool.now ids)) }
+    ensures clobbers { IfOk result (AreClobbers (machine_netlist machine.now) (pattern_in machine.now ids)) }
 {
-    let kept = kept_registers(alloc, checked, pool, patterns, book, ids, words)?;
-    let others = all_registers(checked) ^ kept;
-    let own = own_storage(checked, ids.storage);
+    let kept = kept_registers(alloc, machine, book, ids, words)?;
+    let others = all_registers(machine.checked) ^ kept;
+    let own = own_storage(machine.checked, ids.storage);
     Ok(own | others)
 }

@@ -12,6 +12,7 @@ use net_front::NetRefusal;
 use net_model::{Checked, Modes};
 use rec_bits::NoMemory;
 use std::alloc::Global;
+use transfer_set::Machine;
 
 // The newest edition of netlist texts: each is taken.
 const NEWEST: u8 = 4;
@@ -38,7 +39,12 @@ fn patterns_text(alloc: Global, checked: &Checked, isa: &Isa) -> Result<Vec<u8>,
         patterns,
         legal: _,
     } = isa;
-    patterns.print(alloc, book, pool, checked)
+    let machine = Machine {
+        checked,
+        pool,
+        patterns,
+    };
+    machine.print(alloc, book)
 }
 
 // Adds the line of a mode.

@@ -1,5 +1,5 @@
 -- Where the jobs of a program stand in its text, and what they are there. The jobs themselves are
--- `works` of `src_trees`.
+-- `stmt_jobs` of `src_trees`.
 use Rattle.std.specs.Prelude.{ℕ, List, [], ◌∷◌, ◌++◌}
 use Rattle.src_model.specs.Written.{StmtModel, assign, choice, while, count, StmtsModel, no_acts, act, ElseModel, without, otherwise, ProgramModel, stmts_of}
 use Rattle.job_places.specs.declared.places.JobPlace.{JobPlace}

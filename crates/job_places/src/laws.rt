@@ -8,6 +8,6 @@ ghost use Rattle.job_places.specs.Places.{program_job_places};
 
 /// A program has as many places as jobs, in every memory.
 pub fn law_of_places()
-    ensures { (memory : MemoryMap) (listing : ProgramModel) →
-        length (program_job_places listing) ≡ length (program_jobs memory listing) }
+    ensures { (memory : MemoryMap) (program : ProgramModel) →
+        length (program_job_places program) ≡ length (program_jobs memory program) }
 {}

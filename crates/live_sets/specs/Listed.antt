@@ -8,6 +8,7 @@ use Rattle.transfer_set.specs.Entries.{IsAddrKnown}
 use Rattle.transfer_set.specs.Ready.{IsReady}
 use Rattle.transfer_set.specs.Rows.{row_patterns}
 use Rattle.transfer_set.specs.Tables.{PatternTable}
+use Rattle.transfer_set.specs.declared.machine.Machine.{Machine}
 use Rattle.transfer_set.specs.declared.row.Row.{Row}
 
 -- the row's ids are the pool's
@@ -19,6 +20,10 @@ pub record HasRowIds (pool : List Node) (row : Row) : Type 0 where
 pub record IsListed (netlist : Netlist) (pool : List Node) (table : PatternTable) : Type 0 where
   pub each : All (IsPattern netlist) (row_patterns pool table.rows)
   pub rows : All (HasRowIds pool) table.rows
+
+-- so are those of a machine
+abbrev pub AreListed : Machine → Type 0
+AreListed machine = IsListed machine.checked.now.netlist machine.pool.now machine.patterns.now
 
 -- so it is for a table over any book
 abbrev pub TablesAreListed : Type 0

@@ -3,40 +3,31 @@
 ghost use Rattle.std.specs.Prelude.{◌≡◌, [], ◌∷◌, length, map, IfOk};
 ghost use Rattle.form_model.specs.Live.{live_before, regs_of};
 ghost use Rattle.word_fit.specs.Groups.{lives_of};
-ghost use Rattle.word_fit.specs.Steps.{step_operation};
-ghost use Rattle.live_sets.specs.Listed.{IsListed};
+ghost use Rattle.word_fit.specs.Machines.{machine_operation};
+ghost use Rattle.live_sets.specs.Listed.{AreListed};
 ghost use Rattle.live_sets.specs.Reading.{AreReads};
 
 use crate::reads::reads_table;
 use crate::regs::{minus, union};
 use crate::steps::{reads_of, writes_of};
 use form_model::{RegSet, Step};
-use net_model::Checked;
 use rec_bits::{Items, NoMemory};
 use std::alloc::Global;
-use sym_expr::Pool;
-use transfer_set::Patterns;
+use transfer_set::Machine;
 use word_fit::Group;
 
 /// The registers that are live before a group, where `live` are live after it. `sets` has the
 /// registers that the pool's expressions read, as `reads_table` gives them.
-pub fn live_between(
-    checked: &Checked,
-    patterns: &Patterns,
-    pool: &Pool,
-    sets: &[RegSet],
-    group: &[Step],
-    live: RegSet,
-) -> RegSet
-    requires listed { IsListed checked.now.netlist pool.now patterns.now }
-    requires long { length sets.now ≡ length pool.now }
-    requires reads { AreReads pool.now sets.now }
-    ensures { regs_of result ≡ live_before (step_operation pool.now patterns.now) (group.now ∷ []) (regs_of live) }
+pub fn live_between(machine: &Machine<'_>, sets: &[RegSet], group: &[Step], live: RegSet) -> RegSet
+    requires listed { AreListed machine.now }
+    requires long { length sets.now ≡ length machine.now.pool.now }
+    requires reads { AreReads machine.now.pool.now sets.now }
+    ensures { regs_of result ≡ live_before (machine_operation machine.now) (group.now ∷ []) (regs_of live) }
 {
-    let _netlist = checked.netlist();
-    let written = writes_of(patterns, group);
+    let _netlist = machine.checked.netlist();
+    let written = writes_of(machine.patterns, group);
     let kept = minus(live, written);
-    let read = reads_of(patterns, pool, sets, group);
+    let read = reads_of(machine, sets, group);
     union(read, kept)
 }
 
@@ -55,18 +46,16 @@ fn blank(alloc: Global, groups: &[Group]) -> Result<Items<RegSet>, NoMemory>
 /// `sets` has the registers that the pool's expressions read, as `reads_table` gives them.
 pub fn live_with(
     alloc: Global,
-    checked: &Checked,
-    patterns: &Patterns,
-    pool: &Pool,
+    machine: &Machine<'_>,
     sets: &[RegSet],
     groups: &[Group],
     after: RegSet,
 ) -> Result<Items<RegSet>, NoMemory>
-    requires listed { IsListed checked.now.netlist pool.now patterns.now }
-    requires long { length sets.now ≡ length pool.now }
-    requires reads { AreReads pool.now sets.now }
+    requires listed { AreListed machine.now }
+    requires long { length sets.now ≡ length machine.now.pool.now }
+    requires reads { AreReads machine.now.pool.now sets.now }
     ensures { IfOk result (λ lives. map regs_of lives
-        ≡ lives_of (step_operation pool.now patterns.now) groups.now (regs_of after)) }
+        ≡ lives_of (machine_operation machine.now) groups.now (regs_of after)) }
 {
     let mut lives = blank(alloc, groups)?;
     let mut live = after;
@@ -74,14 +63,7 @@ pub fn live_with(
     while index > 0 {
         index -= 1;
         lives.set(index, live);
-        live = live_between(
-            checked,
-            patterns,
-            pool,
-            sets,
-            groups[index].as_slice(),
-            live,
-        );
+        live = live_between(machine, sets, groups[index].as_slice(), live);
     }
     Ok(lives)
 }
@@ -93,24 +75,14 @@ pub fn live_with(
 /// book. Want of memory is the only refusal.
 pub fn live(
     alloc: Global,
-    checked: &Checked,
-    patterns: &Patterns,
-    pool: &Pool,
+    machine: &Machine<'_>,
     groups: &[Group],
     after: RegSet,
 ) -> Result<Items<RegSet>, NoMemory>
-    requires { IsListed checked.now.netlist pool.now patterns.now }
+    requires { AreListed machine.now }
     ensures { IfOk result (λ lives. map regs_of lives
-        ≡ lives_of (step_operation pool.now patterns.now) groups.now (regs_of after)) }
+        ≡ lives_of (machine_operation machine.now) groups.now (regs_of after)) }
 {
-    let sets = reads_table(alloc, pool)?;
-    live_with(
-        alloc,
-        checked,
-        patterns,
-        pool,
-        sets.as_slice(),
-        groups,
-        after,
-    )
+    let sets = reads_table(alloc, machine.pool)?;
+    live_with(alloc, machine, sets.as_slice(), groups, after)
 }

@@ -4,29 +4,29 @@ ghost use Rattle.std.specs.Prelude.{◌≡◌, ℕ, ◌<◌, All, List, length, 
 ghost use Rattle.sym_expr.specs.declared.pool.Node.{Node};
 ghost use Rattle.form_model.specs.Effects.{reads, register, same_destination, location_of, expr_reads, writes};
 ghost use Rattle.form_model.specs.Live.{group_reads, group_writes, regs_of};
+ghost use Rattle.word_fit.specs.Machines.{machine_operation};
 ghost use Rattle.word_fit.specs.Steps.{step_operation};
-ghost use Rattle.live_sets.specs.Listed.{IsListed, HasRowIds};
+ghost use Rattle.live_sets.specs.Listed.{AreListed, HasRowIds};
 ghost use Rattle.live_sets.specs.Reading.{AreReads, model_of_location};
 
 use crate::locations::{Location, cell_at, may_see};
 use crate::reads::{flag_at, seen_table, set_at};
 use crate::regs::{has, none, one, union};
 use form_model::{RegSet, Step};
-use net_model::{Checked, Space};
+use net_model::Space;
 use rec_bits::NoMemory;
 use std::alloc::Global;
-use sym_expr::Pool;
-use transfer_set::Patterns;
+use transfer_set::{Machine, Patterns};
 use word_fit::{Written, space_in, stores_cells, stores_in, written_by};
 
 // The registers that a step reads.
-fn step_reads(patterns: &Patterns, _pool: &Pool, sets: &[RegSet], step: Step) -> RegSet
-    requires numbered { All (HasRowIds _pool.now) patterns.now.rows }
-    requires long { length sets.now ≡ length _pool.now }
-    requires reads { AreReads _pool.now sets.now }
-    ensures { (r : ℕ) → r < 16 → regs_of result r ≡ reads (step_operation _pool.now patterns.now step) (register r) }
+fn step_reads(machine: &Machine<'_>, sets: &[RegSet], step: Step) -> RegSet
+    requires numbered { All (HasRowIds machine.now.pool.now) machine.now.patterns.now.rows }
+    requires long { length sets.now ≡ length machine.now.pool.now }
+    requires reads { AreReads machine.now.pool.now sets.now }
+    ensures { (r : ℕ) → r < 16 → regs_of result r ≡ reads (machine_operation machine.now step) (register r) }
 {
-    match patterns.expr_of(step.pattern) {
+    match machine.patterns.expr_of(step.pattern) {
         None => none(),
         Some((None, value)) => set_at(sets, value),
         Some((Some(addr), value)) => union(set_at(sets, addr), set_at(sets, value)),
@@ -45,17 +45,17 @@ fn step_writes(patterns: &Patterns, step: Step) -> RegSet
 }
 
 // The registers that a group reads.
-pub(crate) fn reads_of(patterns: &Patterns, pool: &Pool, sets: &[RegSet], group: &[Step]) -> RegSet
-    requires numbered { All (HasRowIds pool.now) patterns.now.rows }
-    requires long { length sets.now ≡ length pool.now }
-    requires reads { AreReads pool.now sets.now }
-    ensures { (r : ℕ) → r < 16 → regs_of result r ≡ group_reads (step_operation pool.now patterns.now) group.now r }
+pub(crate) fn reads_of(machine: &Machine<'_>, sets: &[RegSet], group: &[Step]) -> RegSet
+    requires numbered { All (HasRowIds machine.now.pool.now) machine.now.patterns.now.rows }
+    requires long { length sets.now ≡ length machine.now.pool.now }
+    requires reads { AreReads machine.now.pool.now sets.now }
+    ensures { (r : ℕ) → r < 16 → regs_of result r ≡ group_reads (machine_operation machine.now) group.now r }
 {
     match group {
         [] => none(),
         [step, rest @ ..] => union(
-            step_reads(patterns, pool, sets, *step),
-            reads_of(patterns, pool, sets, rest),
+            step_reads(machine, sets, *step),
+            reads_of(machine, sets, rest),
         ),
     }
 }
@@ -73,15 +73,20 @@ pub(crate) fn writes_of(patterns: &Patterns, group: &[Step]) -> RegSet
 
 // The location that a step writes. A pattern that isn't of the table stands for one that keeps the
 // first storage.
-fn location_of_step(patterns: &Patterns, pool: &Pool, step: Step) -> Location
-    requires { All (HasRowIds pool.now) patterns.now.rows }
-    ensures { model_of_location result ≡ location_of (step_operation pool.now patterns.now step) }
+fn location_of_step(machine: &Machine<'_>, step: Step) -> Location
+    requires { All (HasRowIds machine.now.pool.now) machine.now.patterns.now.rows }
+    ensures { model_of_location result ≡ location_of (machine_operation machine.now step) }
 {
-    match patterns.storage_of(step.pattern) {
+    match machine.patterns.storage_of(step.pattern) {
         None => Location::Register(0),
-        Some(storage) => match patterns.expr_of(step.pattern) {
+        Some(storage) => match machine.patterns.expr_of(step.pattern) {
             Some((Some(addr), _)) => {
-                cell_at(pool, space_in(patterns, storage), addr, step.setting)
+                cell_at(
+                    machine.pool,
+                    space_in(machine.patterns, storage),
+                    addr,
+                    step.setting,
+                )
             }
             _ => Location::Register(storage),
         },
@@ -91,17 +96,16 @@ fn location_of_step(patterns: &Patterns, pool: &Pool, step: Step) -> Location
 // Whether a step may see a write of the memory or of the file.
 fn sees(
     alloc: Global,
-    patterns: &Patterns,
-    pool: &Pool,
+    machine: &Machine<'_>,
     reader: Step,
     location: Location,
 ) -> Result<bool, NoMemory>
-    requires { All (HasRowIds pool.now) patterns.now.rows }
+    requires { All (HasRowIds machine.now.pool.now) machine.now.patterns.now.rows }
     ensures { IfOk result (λ seen.
-        seen ≡ reads (step_operation pool.now patterns.now reader) (model_of_location location)) }
+        seen ≡ reads (machine_operation machine.now reader) (model_of_location location)) }
 {
-    let flags = seen_table(alloc, pool, reader.setting, location)?;
-    match patterns.expr_of(reader.pattern) {
+    let flags = seen_table(alloc, machine.pool, reader.setting, location)?;
+    match machine.patterns.expr_of(reader.pattern) {
         None => Ok(false),
         Some((None, value)) => Ok(flag_at(flags.as_slice(), value)),
         Some((Some(addr), value)) => {
@@ -116,27 +120,25 @@ fn sees(
 /// registers that the pool's expressions read, as `reads_table` gives them.
 pub fn touches(
     alloc: Global,
-    checked: &Checked,
-    patterns: &Patterns,
-    pool: &Pool,
+    machine: &Machine<'_>,
     sets: &[RegSet],
     reader: Step,
     writer: Step,
 ) -> Result<bool, NoMemory>
-    requires listed { IsListed checked.now.netlist pool.now patterns.now }
-    requires long { length sets.now ≡ length pool.now }
-    requires reads { AreReads pool.now sets.now }
+    requires listed { AreListed machine.now }
+    requires long { length sets.now ≡ length machine.now.pool.now }
+    requires reads { AreReads machine.now.pool.now sets.now }
     ensures { IfOk result (λ read. read
-        ≡ reads (step_operation pool.now patterns.now reader)
-        (location_of (step_operation pool.now patterns.now writer))) }
+        ≡ reads (machine_operation machine.now reader)
+        (location_of (machine_operation machine.now writer))) }
 {
-    let _netlist = checked.netlist();
-    match location_of_step(patterns, pool, writer) {
+    let _netlist = machine.checked.netlist();
+    match location_of_step(machine, writer) {
         Location::Register(register) => {
-            let read = step_reads(patterns, pool, sets, reader);
+            let read = step_reads(machine, sets, reader);
             Ok(has(read, register))
         }
-        location => sees(alloc, patterns, pool, reader, location),
+        location => sees(alloc, machine, reader, location),
     }
 }
 
@@ -153,21 +155,22 @@ fn storage_of(patterns: &Patterns, step: Step) -> u32
 
 /// Whether two steps have one destination: a register, the memory, or a cell of the file.
 #[tactic(auto, using(crate::proofs::Shared::file_shares, crate::proofs::Shared::memory_shares, crate::proofs::Shared::register_shares))]
-pub fn shares(checked: &Checked, patterns: &Patterns, pool: &Pool, left: Step, right: Step) -> bool
-    requires { IsListed checked.now.netlist pool.now patterns.now }
-    ensures { result ≡ same_destination (step_operation pool.now patterns.now left)
-        (step_operation pool.now patterns.now right) }
+pub fn shares(machine: &Machine<'_>, left: Step, right: Step) -> bool
+    requires { AreListed machine.now }
+    ensures { result ≡ same_destination (machine_operation machine.now left)
+        (machine_operation machine.now right) }
 {
-    let _netlist = checked.netlist();
-    if stores_in(patterns, Space::File, left) {
-        return stores_cells(patterns, right)
+    let _netlist = machine.checked.netlist();
+    if stores_in(machine.patterns, Space::File, left) {
+        return stores_cells(machine.patterns, right)
             && may_see(
-                location_of_step(patterns, pool, left),
-                location_of_step(patterns, pool, right),
+                location_of_step(machine, left),
+                location_of_step(machine, right),
             );
     }
-    if stores_in(patterns, Space::Memory, left) {
-        return stores_in(patterns, Space::Memory, right);
+    if stores_in(machine.patterns, Space::Memory, left) {
+        return stores_in(machine.patterns, Space::Memory, right);
     }
-    !stores_cells(patterns, right) && storage_of(patterns, left) == storage_of(patterns, right)
+    !stores_cells(machine.patterns, right)
+        && storage_of(machine.patterns, left) == storage_of(machine.patterns, right)
 }

@@ -34,13 +34,13 @@ some_word : (flow : List Flow) (words : ℕ) (marks : List Mark) → map (λ (ma
 some_word flow words [] each apart = absurd (some_label flow (sym each))
 some_word flow words (mark ∷ marks) each apart = omega (arith, ascend_le (mark.address + 1) words marks apart.1)
 
-some_words : (task : Task) (image : Image) → task.flow ≡ program_flow task.listing → IsMadeFor task image → 1 ≤ length (words_of image)
-some_words task image own made = some_word (flow_in (stmts_of task.listing.body) 0 0) (length (words_of image)) image.marks (made.marked.each ∙ ap labels own) made.marked.apart
+some_words : (task : Task) (image : Image) → task.flow ≡ program_flow task.program → IsMadeFor task image → 1 ≤ length (words_of image)
+some_words task image own made = some_word (flow_in (stmts_of task.program.body) 0 0) (length (words_of image)) image.marks (made.marked.each ∙ ap labels own) made.marked.apart
 
 enough : (n words : ℕ) → 1 ≤ words → n * words ≡ n + (n * words - n)
 enough n words some = grind arith
 
-pub right_runs : (task : Task) (image : Image) → task.flow ≡ program_flow task.listing → IsRightImage task image → (s : State) → IsCalm task.netlist 0 s → (n : ℕ) → RunsOn task.netlist (words_of image) (IsAtEnd task.netlist image) n s
+pub right_runs : (task : Task) (image : Image) → task.flow ≡ program_flow task.program → IsRightImage task image → (s : State) → IsCalm task.netlist 0 s → (n : ℕ) → RunsOn task.netlist (words_of image) (IsAtEnd task.netlist image) n s
 right_runs task image own right s here n =
-    let h : ShowsSource task.netlist image (strace task.width task.listing) s n = right.traces.shows s here n in
+    let h : ShowsSource task.netlist image (strace task.width task.program) s n = right.traces.shows s here n in
     shown_runs task.netlist image n (n * length (words_of image) - n) (n * length (words_of image)) s 0 h.entries (enough n (length (words_of image)) (some_words task image own right.made)) h.traced

@@ -21,4 +21,4 @@ pub record ShowsSummary (number : ℕ) (task : Task) (image : Image) (text : Lis
       (blank task.netlist.storages) 1000000 cycles last
   pub text_is : text
       ≡ summary_text number (length image.words) cycles
-      (length (strace task.width task.listing (zeros task.listing.vars) 1000000)) image.places last.cells
+      (length (strace task.width task.program (zeros task.program.vars) 1000000)) image.places last.cells

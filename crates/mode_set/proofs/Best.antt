@@ -23,23 +23,23 @@ less_cost (cell address) p q le = le
 less_cost (stored address) p q le = le
 less_cost temporary p q le = le
 
-chosen_least : (stock : StockModel) (destination : DestinationModel) (trees : List ExprModel) (a b : JobCoverModel) → IsChosen stock destination trees a → Covers stock destination trees b → job_cost destination a.plan ≤ job_cost destination b.plan
-chosen_least stock destination trees a b h k = less_cost destination a.plan b.plan (by (h.first b k))
+chosen_least : (stock : StockModel) (destination : DestinationModel) (trees : List ExprModel) (a b : JobCoverModel) → IsChosen stock destination trees a → Covers stock destination trees b → job_cost destination a.cover ≤ job_cost destination b.cover
+chosen_least stock destination trees a b h k = less_cost destination a.cover b.cover (by (h.first b k))
   where
-    by : (cost a.plan < cost b.plan) ⊎ ((cost a.plan ≡ cost b.plan) × ((a ≡ b) ⊎ ChoiceBefore a b)) → cost a.plan ≤ cost b.plan
+    by : (cost a.cover < cost b.cover) ⊎ ((cost a.cover ≡ cost b.cover) × ((a ≡ b) ⊎ ChoiceBefore a b)) → cost a.cover ≤ cost b.cover
     by (inl l) = omega (arith, l)
     by (inr e) = let s = e.0 in omega (arith, s)
 
 module _ (stock : ℕ → StockModel) (Usable : ℕ → Type 0) (destination : DestinationModel) (trees : List ExprModel) where
   abbrev Least : ℕ → ℕ → ℕ → JobCoverModel → Type 0
-  Least c mode v other = (c < mode_cost v destination other.plan) ⊎ ((c ≡ mode_cost v destination other.plan) × (mode ≤ v))
+  Least c mode v other = (c < mode_cost v destination other.cover) ⊎ ((c ≡ mode_cost v destination other.cover) × (mode ≤ v))
 
   -- the plan of a mode is the least there
-  own_least : (v : ℕ) (p : Priced) → IsPlanIn stock Usable destination trees v (Some p) → (other : JobCoverModel) → CoversIn stock Usable destination trees v other → p.cost ≤ mode_cost v destination other.plan
+  own_least : (v : ℕ) (p : Priced) → IsPlanIn stock Usable destination trees v (Some p) → (other : JobCoverModel) → CoversIn stock Usable destination trees v other → p.cost ≤ mode_cost v destination other.cover
   own_least v p h other c =
       let e : p.plan.mode ≡ v = h.0 in
       let k : IsChosen (stock v) destination trees (model_of_plan p.plan).choice = subst (λ m. IsChosen (stock m) destination trees (model_of_plan p.plan).choice) e h.1.chosen in
-      let own : p.cost ≡ mode_cost v destination (model_of_plan p.plan).choice.plan = h.1.cost ∙ ap (λ m. mode_cost m destination (model_of_plan p.plan).choice.plan) e in
+      let own : p.cost ≡ mode_cost v destination (model_of_plan p.plan).choice.cover = h.1.cost ∙ ap (λ m. mode_cost m destination (model_of_plan p.plan).choice.cover) e in
       let le = chosen_least (stock v) destination trees (model_of_plan p.plan).choice other k c.covers in
       omega (arith, own, le)
 
@@ -53,7 +53,7 @@ module _ (stock : ℕ → StockModel) (Usable : ℕ → Type 0) (destination : D
       may = subst (MayRunIn destination) (sym h.mode) may;
       chosen = subst (λ m. IsChosen (stock m) destination trees (model_of_plan p.plan).choice) (sym h.mode) (subst (λ (s : StockModel). IsChosen s destination trees (model_of_plan p.plan).choice) (sym told) h.chosen);
       own = h.own;
-      cost = h.cost ∙ ap (λ m. mode_cost m destination (model_of_plan p.plan).choice.plan) (sym h.mode);
+      cost = h.cost ∙ ap (λ m. mode_cost m destination (model_of_plan p.plan).choice.cover) (sym h.mode);
     },
   )
 
@@ -90,10 +90,10 @@ module _ (stock : ℕ → StockModel) (Usable : ℕ → Type 0) (destination : D
       by v other c (inr e) =
           let own = own_least n later k other (subst (λ m. CoversIn stock Usable destination trees m other) e c) in
           let mode = k.0 in
-          at (ap (λ m. mode_cost m destination other.plan) e) own (omega (arith, mode, e))
+          at (ap (λ m. mode_cost m destination other.cover) e) own (omega (arith, mode, e))
         where
-          at : mode_cost v destination other.plan ≡ mode_cost n destination other.plan → later.cost ≤ mode_cost n destination other.plan → later.plan.mode ≤ v → Least later.cost later.plan.mode v other
-          at s le m = elim (cases_lt later.cost (mode_cost v destination other.plan)) as (λ _. Least later.cost later.plan.mode v other) [
+          at : mode_cost v destination other.cover ≡ mode_cost n destination other.cover → later.cost ≤ mode_cost n destination other.cover → later.plan.mode ≤ v → Least later.cost later.plan.mode v other
+          at s le m = elim (cases_lt later.cost (mode_cost v destination other.cover)) as (λ _. Least later.cost later.plan.mode v other) [
             | inl l ↦ inl l
             | inr g ↦ inr (omega (arith, s, le, g), m)
           ]
@@ -110,10 +110,10 @@ module _ (stock : ℕ → StockModel) (Usable : ℕ → Type 0) (destination : D
           by v other c (inl l) = h.least v other l c
           by v other c (inr f) =
               let own = own_least n later k other (subst (λ m. CoversIn stock Usable destination trees m other) f c) in
-              let s : mode_cost v destination other.plan ≡ mode_cost n destination other.plan = ap (λ m. mode_cost m destination other.plan) f in
+              let s : mode_cost v destination other.cover ≡ mode_cost n destination other.cover = ap (λ m. mode_cost m destination other.cover) f in
               let le = leb-true known.cost later.cost e in
               let b = h.below in
-              elim (cases_lt known.cost (mode_cost v destination other.plan)) as (λ _. Least known.cost known.plan.mode v other) [
+              elim (cases_lt known.cost (mode_cost v destination other.cover)) as (λ _. Least known.cost known.plan.mode v other) [
                 | inl l ↦ inl l
                 | inr g ↦ inr (omega (arith, s, le, own, g), omega (arith, b, f))
               ]
@@ -128,14 +128,14 @@ module _ (stock : ℕ → StockModel) (Usable : ℕ → Type 0) (destination : D
               let gt = leb-false known.cost later.cost e in
               inl (less gt (h.least v other l c))
             where
-              less : later.cost < known.cost → Least known.cost known.plan.mode v other → later.cost < mode_cost v destination other.plan
+              less : later.cost < known.cost → Least known.cost known.plan.mode v other → later.cost < mode_cost v destination other.cover
               less gt (inl z) = omega (arith, gt, z)
               less gt (inr z) = let s = z.0 in omega (arith, gt, s)
           by v other c (inr f) =
               let own = own_least n later k other (subst (λ m. CoversIn stock Usable destination trees m other) f c) in
-              let s : mode_cost v destination other.plan ≡ mode_cost n destination other.plan = ap (λ m. mode_cost m destination other.plan) f in
+              let s : mode_cost v destination other.cover ≡ mode_cost n destination other.cover = ap (λ m. mode_cost m destination other.cover) f in
               let mode = k.0 in
-              elim (cases_lt later.cost (mode_cost v destination other.plan)) as (λ _. Least later.cost later.plan.mode v other) [
+              elim (cases_lt later.cost (mode_cost v destination other.cover)) as (λ _. Least later.cost later.plan.mode v other) [
                 | inl l ↦ inl l
                 | inr g ↦ inr (omega (arith, s, own, g), omega (arith, mode, f))
               ]

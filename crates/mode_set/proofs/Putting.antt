@@ -40,12 +40,12 @@ use Rattle.form_model.specs.Shapes.{is_plain, is_shape, plain_setting, shape_set
 use Rattle.form_set.specs.Listing.{AreFormModels, sides_of}
 use Rattle.form_set.specs.Promises.{IsForm, IsFormOf, KeepsBut, of_branch, of_jump, of_plain}
 use Rattle.form_set.specs.Static.{is_file_at}
-use Rattle.form_set.specs.Swaps.{Path, picks, swap_paths, swapped}
+use Rattle.operand_swaps.specs.Swaps.{Path, picks, swap_paths, swapped}
 use Rattle.form_set.specs.Words.{ForEachSetting}
 use Rattle.form_set.proofs.Editions.{shape_from}
 use Rattle.form_set.proofs.FormLaws.{form_at, plain_words}
 use Rattle.form_set.proofs.ShapeBits.{plain_meant, plain_of_setting, plain_told, shape_fits, shape_only, shape_set}
-use Rattle.form_set.proofs.SumSwaps.{plain_same, plain_stays}
+use Rattle.operand_swaps.proofs.SumSwaps.{plain_same, plain_stays}
 use Rattle.word_fit.specs.Fits.{Does, FitsGroup}
 use Rattle.word_fit.specs.Steps.{step_operation}
 use Rattle.mode_set.specs.declared.puts.ModeWord.{ModeWord}
@@ -55,50 +55,50 @@ use Rattle.mode_set.proofs.KeptForms.{listed, next_forms}
 
 -- ---- which forms put a number
 
-module _ (mode v : ℕ) (rule : FormModel) where
+module _ (mode v : ℕ) (form : FormModel) where
   some_bits : (o : Option ℕ) → o ≡ None → is_some o ≡ true → ⊥
   some_bits None e h = cc
   some_bits (Some bits) e h = cc
 
   -- one that goes into the mode puts what its value shows without a sum
-  pub put_found : rule.goal ≡ into_reg mode → (o : Option ℕ) → o ≡ plain_setting rule.value v →
-      MatchOption o (Puts mode v rule → ⊥) (λ bits. Puts mode v rule × (plain_setting rule.value v ≡ Some bits))
-  put_found goal None told = λ p. some_bits (plain_setting rule.value v) (sym told) (ap is_some (sym (plain_told rule.value p.shape v)) ∙ p.shown)
+  pub put_found : form.goal ≡ into_reg mode → (o : Option ℕ) → o ≡ plain_setting form.value v →
+      MatchOption o (Puts mode v form → ⊥) (λ bits. Puts mode v form × (plain_setting form.value v ≡ Some bits))
+  put_found goal None told = λ p. some_bits (plain_setting form.value v) (sym told) (ap is_some (sym (plain_told form.value p.shape v)) ∙ p.shown)
   put_found goal (Some bits) told =
-      let plain : is_plain rule.value ≡ true = plain_of_setting rule.value v bits (sym told) in (
-        record { goal = goal; shape = plain; shown = ap is_some (plain_told rule.value plain v ∙ sym told) },
+      let plain : is_plain form.value ≡ true = plain_of_setting form.value v bits (sym told) in (
+        record { goal = goal; shape = plain; shown = ap is_some (plain_told form.value plain v ∙ sym told) },
         sym told,
       )
 
 -- the mode that a list puts a number into is the one that is asked of
-pub can_put_at : (mode : ℕ) (rules : List FormModel) (to : ℕ) (p : CanPut (Some mode) rules to) → Puts mode to p.rule
-can_put_at mode rules to p = subst (λ m. Puts m to p.rule) (let same : p.mode ≡ mode = (let e = p.is in cc) in same) p.puts
+pub can_put_at : (mode : ℕ) (forms : List FormModel) (to : ℕ) (p : CanPut (Some mode) forms to) → Puts mode to p.form
+can_put_at mode forms to p = subst (λ m. Puts m to p.form) (let same : p.mode ≡ mode = (let e = p.is in cc) in same) p.puts
 
 -- a form that puts a number has a setting for it
-setting_of_put : (mode v : ℕ) (rule : FormModel) → Puts mode v rule → (bits : ℕ) × (plain_setting rule.value v ≡ Some bits)
-setting_of_put mode v rule puts = by (plain_setting rule.value v) refl (ap is_some (sym (plain_told rule.value puts.shape v)) ∙ puts.shown)
+setting_of_put : (mode v : ℕ) (form : FormModel) → Puts mode v form → (bits : ℕ) × (plain_setting form.value v ≡ Some bits)
+setting_of_put mode v form puts = by (plain_setting form.value v) refl (ap is_some (sym (plain_told form.value puts.shape v)) ∙ puts.shown)
   where
-    by : (o : Option ℕ) → plain_setting rule.value v ≡ o → is_some o ≡ true → (bits : ℕ) × (plain_setting rule.value v ≡ Some bits)
+    by : (o : Option ℕ) → plain_setting form.value v ≡ o → is_some o ≡ true → (bits : ℕ) × (plain_setting form.value v ≡ Some bits)
     by None e h = absurd cc
     by (Some bits) e h = (bits, e)
 
 -- what the code is told of a form's setting
-module _ (mode v : ℕ) (rule : FormModel) where
+module _ (mode v : ℕ) (form : FormModel) where
   abbrev pub IsPutSetting : Option ℕ → Type 0
-  IsPutSetting o = MatchOption o (Puts mode v rule → ⊥) (λ bits. Puts mode v rule × (plain_setting rule.value v ≡ Some bits))
+  IsPutSetting o = MatchOption o (Puts mode v form → ⊥) (λ bits. Puts mode v form × (plain_setting form.value v ≡ Some bits))
 
-  pub none_told : (o : Option ℕ) → IsPutSetting o → is_some o ≡ false → Puts mode v rule → ⊥
+  pub none_told : (o : Option ℕ) → IsPutSetting o → is_some o ≡ false → Puts mode v form → ⊥
   none_told None h e = h
   none_told (Some bits) h e = absurd (cc)
 
 -- ---- lists of forms
 
-with_forms : (netlist : Netlist) (special : Option ℕ) (patterns : List Pattern) (v : ℕ) (rules others : List FormModel) (number word : ℕ) → (f : FitsModeWord netlist special patterns rules v number word) → Contains others f.rule
+with_forms : (netlist : Netlist) (special : Option ℕ) (patterns : List Pattern) (v : ℕ) (forms others : List FormModel) (number word : ℕ) → (f : FitsModeWord netlist special patterns forms v number word) → Contains others f.form
     → FitsModeWord netlist special patterns others v number word
-with_forms netlist special patterns v rules others number word f among = record {
+with_forms netlist special patterns v forms others number word f among = record {
   mode = f.mode;
   is = f.is;
-  rule = f.rule;
+  form = f.form;
   among = among;
   puts = f.puts;
   named = f.named;
@@ -133,25 +133,25 @@ contained xs k x e = (k, slice_get_within xs k x e, get_or_from_slice_get xs k x
 module _ (mode v : ℕ) (forms : List Form) where
   -- none of the first forms does
   abbrev pub NonePuts : ℕ → Type 0
-  NonePuts n = (k : ℕ) (rule : FormModel) → k < n → slice_get (models_of_forms forms) k ≡ Some rule → Puts mode v rule → ⊥
+  NonePuts n = (k : ℕ) (form : FormModel) → k < n → slice_get (models_of_forms forms) k ≡ Some form → Puts mode v form → ⊥
 
   pub none_puts_first : NonePuts 0
-  none_puts_first k rule lt at = absurd (omega (arith, lt))
+  none_puts_first k form lt at = absurd (omega (arith, lt))
 
   module _ (i : ℕ) (form : Form) (lt : i < length forms) (is : form ≡ get_or forms i form) where
     pub none_puts_more : NonePuts i → (Puts mode v (model_of_form form) → ⊥) → NonePuts (i + 1)
-    none_puts_more before other k rule less at = elim (cases_lt k i) as (λ _. Puts mode v rule → ⊥) [
-      | inl l ↦ before k rule l at
+    none_puts_more before other k model less at = elim (cases_lt k i) as (λ _. Puts mode v model → ⊥) [
+      | inl l ↦ before k model l at
       | inr g ↦ (let own : k ≡ i = omega (arith, less, g) in
-          let same : Some rule ≡ Some (model_of_form form) = sym at ∙ ap (slice_get (models_of_forms forms)) own ∙ listed forms i form lt is in
-          λ puts. other (subst (Puts mode v) (same_Some rule (model_of_form form) same) puts))
+          let same : Some model ≡ Some (model_of_form form) = sym at ∙ ap (slice_get (models_of_forms forms)) own ∙ listed forms i form lt is in
+          λ puts. other (subst (Puts mode v) (same_Some model (model_of_form form) same) puts))
     ]
 
   pub can_put_none : (n : ℕ) → length forms ≤ n → NonePuts n → CanPut (Some mode) (models_of_forms forms) v → ⊥
   can_put_none n all none p =
-      let k = found_at (models_of_forms forms) p.rule p.among in
-      let within = slice_get_within (models_of_forms forms) k.0 p.rule k.1 in
-      none k.0 p.rule (omega (arith, within, length-map forms model_of_form, all)) k.1 (can_put_at mode (models_of_forms forms) v p)
+      let k = found_at (models_of_forms forms) p.form p.among in
+      let within = slice_get_within (models_of_forms forms) k.0 p.form k.1 in
+      none k.0 p.form (omega (arith, within, length-map forms model_of_form, all)) k.1 (can_put_at mode (models_of_forms forms) v p)
 
 -- ---- the storage of such a form
 
@@ -186,67 +186,67 @@ module _ (netlist : Netlist) (order : List ℕ) (keeps : KeepsRules netlist orde
   put_transfer choice i (write_at a e) changes gives t is plain =
       absurd (no_cells (slice_get netlist.storages mode) register (stores_cells netlist i mode a e (slice_get netlist.storages mode) gives))
 
-  module _ (reach : ℕ) (rules : List FormModel) (list : AreFormModels netlist reach 0 patterns rules) (v : ℕ) where
-    pub record IsPut (rule : FormModel) : Type 0 where
-      pub plain : is_plain rule.value ≡ true
-      pub at : slice_get patterns rule.pattern ≡ Some (into_mode rule.value)
+  module _ (reach : ℕ) (forms : List FormModel) (list : AreFormModels netlist reach 0 patterns forms) (v : ℕ) where
+    pub record IsPut (form : FormModel) : Type 0 where
+      pub plain : is_plain form.value ≡ true
+      pub at : slice_get patterns form.pattern ≡ Some (into_mode form.value)
       pub clobbers : ℕ
-      pub words : ForEachSetting (fields rule.value) (KeepsBut netlist (into_mode rule.value) clobbers)
-      pub terms : IsExprOf netlist rule.value
-      pub fits : ExprFits rule.value
+      pub words : ForEachSetting (fields form.value) (KeepsBut netlist (into_mode form.value) clobbers)
+      pub exprs : IsExprOf netlist form.value
+      pub fits : ExprFits form.value
 
-    of_kind : (rule : FormModel) → Puts mode v rule → (number : ℕ) (p : Pattern) → slice_get patterns number ≡ Some p → IsFormOf netlist reach number p rule → IsPut rule
-    of_kind rule puts number p at (of_jump h e) = absurd (let g : jumps _ ≡ into_reg mode = sym (ap (λ (r : FormModel). r.goal) e) ∙ puts.goal in cc)
-    of_kind rule puts number p at (of_branch choice parts h e) = absurd (let g : branches _ _ ≡ into_reg mode = sym (ap (λ (r : FormModel). r.goal) e) ∙ puts.goal in cc)
-    of_kind rule puts number p at (of_plain choice clobbers plain are e) =
+    of_kind : (form : FormModel) → Puts mode v form → (number : ℕ) (p : Pattern) → slice_get patterns number ≡ Some p → IsFormOf netlist reach number p form → IsPut form
+    of_kind form puts number p at (of_jump h e) = absurd (let g : jumps _ ≡ into_reg mode = sym (ap (λ (r : FormModel). r.goal) e) ∙ puts.goal in cc)
+    of_kind form puts number p at (of_branch choice parts h e) = absurd (let g : branches _ _ ≡ into_reg mode = sym (ap (λ (r : FormModel). r.goal) e) ∙ puts.goal in cc)
+    of_kind form puts number p at (of_plain choice clobbers plain are e) =
         let pattern : IsPattern netlist p = all_at (IsPattern netlist) patterns number p each at in
         let stored : p.storage ≡ mode = register_goal p.storage mode (p.storage == memory_id netlist.storages) (is_file_at netlist p.storage) (sym (ap (λ (r : FormModel). r.goal) e) ∙ puts.goal) in
         let gives : transfer_at netlist pattern.word mode ≡ p.move = ap (λ n. transfer_at netlist pattern.word n) (sym stored) ∙ pattern.given.gives in
-        let moved : p.move ≡ write rule.value = put_transfer choice pattern.word p.move pattern.changes gives rule.value (ap (λ (r : FormModel). r.value) e) puts.shape in
-        let same : p ≡ into_mode rule.value = (λ j. record { storage = stored j; move = moved j }) in
+        let moved : p.move ≡ write form.value = put_transfer choice pattern.word p.move pattern.changes gives form.value (ap (λ (r : FormModel). r.value) e) puts.shape in
+        let same : p ≡ into_mode form.value = (λ j. record { storage = stored j; move = moved j }) in
         record {
           plain = puts.shape;
           at = ap (λ n. slice_get patterns n) (ap (λ (r : FormModel). r.pattern) e) ∙ at ∙ ap (λ (q : Pattern). Some q) same;
           clobbers = clobbers;
           words = subst (λ (q : Pattern). ForEachSetting (transfer_fields q.move) (KeepsBut netlist q clobbers)) same (plain_words netlist p clobbers plain are);
-          terms = subst (IsTransferOf netlist) (pattern.given.gives ∙ moved) (move_exprs netlist order keeps pattern.word p.storage);
+          exprs = subst (IsTransferOf netlist) (pattern.given.gives ∙ moved) (move_exprs netlist order keeps pattern.word p.storage);
           fits = subst TransferFits (pattern.given.gives ∙ moved) (move_fits netlist (sound_of netlist order keeps) pattern.word p.storage);
         }
 
-    pub put_form : (k : ℕ) (rule : FormModel) → slice_get rules k ≡ Some rule → Puts mode v rule → IsPut rule
-    put_form k rule at puts =
-        let f : IsForm netlist reach 0 patterns rule = form_at netlist reach 0 patterns rules list k rule at in
-        of_kind rule puts f.place f.pattern f.at (subst (λ n. IsFormOf netlist reach n f.pattern rule) (let z : 0 + f.place ≡ f.place = omega arith in z) f.of)
+    pub put_form : (k : ℕ) (form : FormModel) → slice_get forms k ≡ Some form → Puts mode v form → IsPut form
+    put_form k form at puts =
+        let f : IsForm netlist reach 0 patterns form = form_at netlist reach 0 patterns forms list k form at in
+        of_kind form puts f.place f.pattern f.at (subst (λ n. IsFormOf netlist reach n f.pattern form) (let z : 0 + f.place ≡ f.place = omega arith in z) f.of)
 
-    module _ (rule : FormModel) (puts : Puts mode v rule) (put : IsPut rule) (bits : ℕ) (told : plain_setting rule.value v ≡ Some bits) where
-      shape : is_shape rule.value ≡ true
-      shape = shape_from 1 rule.value put.plain
+    module _ (form : FormModel) (puts : Puts mode v form) (put : IsPut form) (bits : ℕ) (told : plain_setting form.value v ≡ Some bits) where
+      shape : is_shape form.value ≡ true
+      shape = shape_from 1 form.value put.plain
 
-      fitted : ShapeFits (word_width netlist) rule.value
-      fitted = shape_fits netlist rule.value shape put.terms put.fits
+      fitted : ShapeFits (word_width netlist) form.value
+      fitted = shape_fits netlist form.value shape put.exprs put.fits
 
-      set : shape_setting rule.value v ≡ Some bits
-      set = plain_told rule.value put.plain v ∙ told
+      set : shape_setting form.value v ≡ Some bits
+      set = plain_told form.value put.plain v ∙ told
 
       memory_other : mode ≢ memory_id netlist.storages
       memory_other e = memory_no_register netlist.storages (subst (λ n. IsRegister (slice_get netlist.storages n)) e register)
 
       -- ---- it has a word
 
-      pub word_of_put : (others : List FormModel) → Contains others rule → (word : ℕ) × FitsModeWord netlist (Some mode) patterns others v rule.pattern word
+      pub word_of_put : (others : List FormModel) → Contains others form → (word : ℕ) × FitsModeWord netlist (Some mode) patterns others v form.pattern word
       word_of_put others among =
-          let w = put.words bits (shape_only (word_width netlist) rule.value shape fitted v bits set) in (
+          let w = put.words bits (shape_only (word_width netlist) form.value shape fitted v bits set) in (
             w.0,
             record {
               mode = mode;
               is = refl;
-              rule = rule;
+              form = form;
               among = among;
               puts = puts;
               named = refl;
               at = put.at;
               given = w.2.given;
-              value = shape_set (word_width netlist) rule.value shape fitted v bits set no_state w.0 (clean_below netlist order keeps w.0 w.2.given.clean) w.1;
+              value = shape_set (word_width netlist) form.value shape fitted v bits set no_state w.0 (clean_below netlist order keeps w.0 w.2.given.clean) w.1;
               steps = w.2.steps;
               memory = w.2.memory memory_other;
             },
@@ -256,15 +256,15 @@ module _ (netlist : Netlist) (order : List ℕ) (keeps : KeepsRules netlist orde
 
       module _ (pool : List Node) (table : PatternTable) (rows : row_patterns pool table.rows ≡ patterns) (told_file : table.file ≡ file_place netlist.storages) where
         abbrev own_step : Step
-        own_step = record { pattern = rule.pattern; setting = bits }
+        own_step = record { pattern = form.pattern; setting = bits }
 
-        opened : step_operation pool table own_step ≡ record { storage = mode; space = space_in (file_place netlist.storages) mode; move = write rule.value; setting = bits }
+        opened : step_operation pool table own_step ≡ record { storage = mode; space = space_in (file_place netlist.storages) mode; move = write form.value; setting = bits }
         opened =
             ap (λ f. operation_of f (row_patterns pool table.rows) own_step) told_file
             ∙ ap (λ ps. operation_of (file_place netlist.storages) ps own_step) rows
             ∙ ap (λ o. operation_or_none (file_place netlist.storages) o bits) put.at
 
-        changes : write rule.value ≢ keep
+        changes : write form.value ≢ keep
         changes e = cc
 
         none_live : (r : ℕ) → regs_of 0 r ≡ true → ⊥
@@ -280,7 +280,7 @@ module _ (netlist : Netlist) (order : List ℕ) (keeps : KeepsRules netlist orde
           keeps_cells word InMemory m = m
           keeps_cells word InFile m = ap (transfer_of netlist word (place_in InFile netlist.storages)) fileless
 
-          pub group_of_word : (word : ℕ) → IsWordOf netlist (into_mode rule.value) word → mean rule.value no_state word ≡ v → Steps netlist word → memory_transfer netlist word ≡ keep
+          pub group_of_word : (word : ℕ) → IsWordOf netlist (into_mode form.value) word → mean form.value no_state word ≡ v → Steps netlist word → memory_transfer netlist word ≡ keep
               → FitsGroup netlist (step_operation pool table) word (own_step ∷ []) (regs_of 0)
           group_of_word word given value steps memory = record {
             clean = given.clean;
@@ -289,7 +289,7 @@ module _ (netlist : Netlist) (order : List ℕ) (keeps : KeepsRules netlist orde
                 changes = changes;
                 gives = given.gives;
                 space = refl;
-                setting = plain_meant (word_width netlist) rule.value put.plain fitted v bits told word (clean_below netlist order keeps word given.clean) value;
+                setting = plain_meant (word_width netlist) form.value put.plain fitted v bits told word (clean_below netlist order keeps word given.clean) value;
               }),
               tt,
             );
@@ -298,20 +298,20 @@ module _ (netlist : Netlist) (order : List ℕ) (keeps : KeepsRules netlist orde
             registers = λ r reg live e. absurd (none_live r live);
           }
 
-          pub word_of_group : (others : List FormModel) → Contains others rule → (word : ℕ) → FitsGroup netlist (step_operation pool table) word (own_step ∷ []) (regs_of 0)
-              → FitsModeWord netlist (Some mode) patterns others v rule.pattern word
+          pub word_of_group : (others : List FormModel) → Contains others form → (word : ℕ) → FitsGroup netlist (step_operation pool table) word (own_step ∷ []) (regs_of 0)
+              → FitsModeWord netlist (Some mode) patterns others v form.pattern word
           word_of_group others among word f =
               let d = subst (Does netlist word) opened f.does.0 in
               record {
                 mode = mode;
                 is = refl;
-                rule = rule;
+                form = form;
                 among = among;
                 puts = puts;
                 named = refl;
                 at = put.at;
                 given = record { clean = f.clean; gives = d.gives };
-                value = shape_set (word_width netlist) rule.value shape fitted v bits set no_state word (clean_below netlist order keeps word f.clean) d.setting;
+                value = shape_set (word_width netlist) form.value shape fitted v bits set no_state word (clean_below netlist order keeps word f.clean) d.setting;
                 steps = f.steps;
                 memory = f.cells InMemory (ap (λ (o : Operation). (is_store o.move && same_space o.space InMemory) || false) opened);
               }
@@ -322,31 +322,31 @@ module _ (netlist : Netlist) (order : List ℕ) (keeps : KeepsRules netlist orde
           Least list known = IsLeastModeWord netlist (Some mode) patterns list v known
 
           -- a word of one more form is one of those before, or fits the form as a group of its own
-          own_or : (front : List FormModel) (number word : ℕ) → FitsModeWord netlist (Some mode) patterns (front ++ rule ∷ []) v number word
+          own_or : (front : List FormModel) (number word : ℕ) → FitsModeWord netlist (Some mode) patterns (front ++ form ∷ []) v number word
               → FitsModeWord netlist (Some mode) patterns front v number word ⊎ FitsGroup netlist (step_operation pool table) word (own_step ∷ []) (regs_of 0)
-          own_or front number word f = elim (Contains-append_cases front (rule ∷ []) f.rule f.among)
+          own_or front number word f = elim (Contains-append_cases front (form ∷ []) f.form f.among)
               as (λ _. FitsModeWord netlist (Some mode) patterns front v number word ⊎ FitsGroup netlist (step_operation pool table) word (own_step ∷ []) (regs_of 0)) [
-                | inl among ↦ inl (with_forms netlist (Some mode) patterns v (front ++ rule ∷ []) front number word f among)
-                | inr own ↦ inr (of_form f.mode f.rule (let e = f.is in let same : mode ≡ f.mode = cc in same) (only rule f.rule own) f.given f.value f.steps f.memory)
+                | inl among ↦ inl (with_forms netlist (Some mode) patterns v (front ++ form ∷ []) front number word f among)
+                | inr own ↦ inr (of_form f.mode f.form (let e = f.is in let same : mode ≡ f.mode = cc in same) (only form f.form own) f.given f.value f.steps f.memory)
               ]
             where
-              of_form : (id : ℕ) (other : FormModel) → mode ≡ id → rule ≡ other → IsWordOf netlist (record { storage = id; move = write other.value }) word → mean other.value no_state word ≡ v → Steps netlist word → memory_transfer netlist word ≡ keep
+              of_form : (id : ℕ) (other : FormModel) → mode ≡ id → form ≡ other → IsWordOf netlist (record { storage = id; move = write other.value }) word → mean other.value no_state word ≡ v → Steps netlist word → memory_transfer netlist word ≡ keep
                   → FitsGroup netlist (step_operation pool table) word (own_step ∷ []) (regs_of 0)
               of_form id other e same given value steps memory =
                   group_of_word word
                   (subst (λ (r : FormModel). IsWordOf netlist (into_mode r.value) word) (sym same) (subst (λ m. IsWordOf netlist (record { storage = m; move = write other.value }) word) (sym e) given))
                   (subst (λ (r : FormModel). mean r.value no_state word ≡ v) (sym same) value) steps memory
 
-          last : (front : List FormModel) → Contains (front ++ rule ∷ []) rule
-          last front = Contains-append_right front (rule ∷ []) rule (contained (rule ∷ []) 0 rule refl)
+          last : (front : List FormModel) → Contains (front ++ form ∷ []) form
+          last front = Contains-append_right front (form ∷ []) form (contained (form ∷ []) 0 form refl)
 
-          before : (front : List FormModel) (number word : ℕ) → FitsModeWord netlist (Some mode) patterns front v number word → FitsModeWord netlist (Some mode) patterns (front ++ rule ∷ []) v number word
-          before front number word f = with_forms netlist (Some mode) patterns v front (front ++ rule ∷ []) number word f (Contains-append_left front (rule ∷ []) f.rule f.among)
+          before : (front : List FormModel) (number word : ℕ) → FitsModeWord netlist (Some mode) patterns front v number word → FitsModeWord netlist (Some mode) patterns (front ++ form ∷ []) v number word
+          before front number word f = with_forms netlist (Some mode) patterns v front (front ++ form ∷ []) number word f (Contains-append_left front (form ∷ []) f.form f.among)
 
-          own_word : (front : List FormModel) (w : ModeWord) → IsStepWord netlist pool table own_step (Some w) → FitsModeWord netlist (Some mode) patterns (front ++ rule ∷ []) v w.pattern w.word
-          own_word front w h = subst (λ n. FitsModeWord netlist (Some mode) patterns (front ++ rule ∷ []) v n w.word) (sym h.0) (word_of_group (front ++ rule ∷ []) (last front) w.word h.1.is)
+          own_word : (front : List FormModel) (w : ModeWord) → IsStepWord netlist pool table own_step (Some w) → FitsModeWord netlist (Some mode) patterns (front ++ form ∷ []) v w.pattern w.word
+          own_word front w h = subst (λ n. FitsModeWord netlist (Some mode) patterns (front ++ form ∷ []) v n w.word) (sym h.0) (word_of_group (front ++ form ∷ []) (last front) w.word h.1.is)
 
-          pub one_more : (front : List FormModel) (known next : Option ModeWord) → Least front known → IsStepWord netlist pool table own_step next → Least (front ++ rule ∷ []) (lesser_of known next)
+          pub one_more : (front : List FormModel) (known next : Option ModeWord) → Least front known → IsStepWord netlist pool table own_step next → Least (front ++ form ∷ []) (lesser_of known next)
           one_more front None None none missing = λ number word f. elim (own_or front number word f) [ inl g ↦ none number word g | inr g ↦ missing word g ]
           one_more front (Some least) None h missing = record {
             fits = before front least.pattern least.word h.fits;
@@ -358,7 +358,7 @@ module _ (netlist : Netlist) (order : List ℕ) (keeps : KeepsRules netlist orde
           }
           one_more front (Some least) (Some w) k h = by (nat_le least.word w.word) refl
             where
-              by : (b : Bool) → nat_le least.word w.word ≡ b → Least (front ++ rule ∷ []) (if b then Some least else Some w)
+              by : (b : Bool) → nat_le least.word w.word ≡ b → Least (front ++ form ∷ []) (if b then Some least else Some w)
               by true e = record {
                 fits = before front least.pattern least.word k.fits;
                 least = λ number word f. elim (own_or front number word f) [
@@ -376,32 +376,32 @@ module _ (netlist : Netlist) (order : List ℕ) (keeps : KeepsRules netlist orde
 
     -- ---- a form that puts another number, or none, has no such word
 
-    pub one_other : (front : List FormModel) (rule : FormModel) (known : Option ModeWord) → (Puts mode v rule → ⊥) → IsLeastModeWord netlist (Some mode) patterns front v known → IsLeastModeWord netlist (Some mode) patterns (front ++ rule ∷ []) v known
-    one_other front rule known other h = by known h
+    pub one_other : (front : List FormModel) (form : FormModel) (known : Option ModeWord) → (Puts mode v form → ⊥) → IsLeastModeWord netlist (Some mode) patterns front v known → IsLeastModeWord netlist (Some mode) patterns (front ++ form ∷ []) v known
+    one_other front form known other h = by known h
       where
-        own_puts : (number word : ℕ) → FitsModeWord netlist (Some mode) patterns (front ++ rule ∷ []) v number word → FitsModeWord netlist (Some mode) patterns front v number word
-        own_puts number word f = elim (Contains-append_cases front (rule ∷ []) f.rule f.among) as (λ _. FitsModeWord netlist (Some mode) patterns front v number word) [
-          | inl among ↦ with_forms netlist (Some mode) patterns v (front ++ rule ∷ []) front number word f among
-          | inr own ↦ absurd (other (subst (Puts mode v) (sym (only rule f.rule own)) (subst (λ m. Puts m v f.rule) (let e = f.is in let same : f.mode ≡ mode = cc in same) f.puts)))
+        own_puts : (number word : ℕ) → FitsModeWord netlist (Some mode) patterns (front ++ form ∷ []) v number word → FitsModeWord netlist (Some mode) patterns front v number word
+        own_puts number word f = elim (Contains-append_cases front (form ∷ []) f.form f.among) as (λ _. FitsModeWord netlist (Some mode) patterns front v number word) [
+          | inl among ↦ with_forms netlist (Some mode) patterns v (front ++ form ∷ []) front number word f among
+          | inr own ↦ absurd (other (subst (Puts mode v) (sym (only form f.form own)) (subst (λ m. Puts m v f.form) (let e = f.is in let same : f.mode ≡ mode = cc in same) f.puts)))
         ]
 
-        by : (o : Option ModeWord) → IsLeastModeWord netlist (Some mode) patterns front v o → IsLeastModeWord netlist (Some mode) patterns (front ++ rule ∷ []) v o
+        by : (o : Option ModeWord) → IsLeastModeWord netlist (Some mode) patterns front v o → IsLeastModeWord netlist (Some mode) patterns (front ++ form ∷ []) v o
         by None none = λ number word f. none number word (own_puts number word f)
         by (Some w) k = record {
-          fits = with_forms netlist (Some mode) patterns v front (front ++ rule ∷ []) w.pattern w.word k.fits (Contains-append_left front (rule ∷ []) k.fits.rule k.fits.among);
+          fits = with_forms netlist (Some mode) patterns v front (front ++ form ∷ []) w.pattern w.word k.fits (Contains-append_left front (form ∷ []) k.fits.form k.fits.among);
           least = λ number word f. k.least number word (own_puts number word f);
         }
 
     -- ---- where a form puts the number there is a word
 
-    pub put_word : CanPut (Some mode) rules v → (number : ℕ) × (word : ℕ) × FitsModeWord netlist (Some mode) patterns rules v number word
+    pub put_word : CanPut (Some mode) forms v → (number : ℕ) × (word : ℕ) × FitsModeWord netlist (Some mode) patterns forms v number word
     put_word p =
-        let puts : Puts mode v p.rule = can_put_at mode rules v p in
-        let k = found_at rules p.rule p.among in
-        let put : IsPut p.rule = put_form k.0 p.rule k.1 puts in
-        let told = setting_of_put mode v p.rule puts in
-        let w = word_of_put p.rule puts put told.0 told.1 rules p.among in
-        (p.rule.pattern, w.0, w.1)
+        let puts : Puts mode v p.form = can_put_at mode forms v p in
+        let k = found_at forms p.form p.among in
+        let put : IsPut p.form = put_form k.0 p.form k.1 puts in
+        let told = setting_of_put mode v p.form puts in
+        let w = word_of_put p.form puts put told.0 told.1 forms p.among in
+        (p.form.pattern, w.0, w.1)
 
 -- ---- the forms of a list, one after the other
 
@@ -409,18 +409,18 @@ module _ (netlist : Netlist) (order : List ℕ) (keeps : KeepsRules netlist orde
     (mode : ℕ) (register : IsRegister (slice_get netlist.storages mode)) (edition : netlist.edition ≡ 1) (forms : List Form) (reach : ℕ) (list : AreFormModels netlist reach 0 (row_patterns pool table.rows) (models_of_forms forms)) (v : ℕ)
     (i : ℕ) (form : Form) (lt : i < length forms) (is : form ≡ get_or forms i form) where
   abbrev LeastOf : List FormModel → Option ModeWord → Type 0
-  LeastOf rules known = IsLeastModeWord netlist (Some mode) (row_patterns pool table.rows) rules v known
+  LeastOf models known = IsLeastModeWord netlist (Some mode) (row_patterns pool table.rows) models v known
 
   pub word_more : (known next : Option ModeWord) (bits : ℕ) → Puts mode v (model_of_form form) × (plain_setting (model_of_form form).value v ≡ Some bits)
       → LeastOf (models_of_forms (take i forms)) known → IsStepWord netlist pool table (record { pattern = form.pattern; setting = bits }) next
       → LeastOf (models_of_forms (take (i + 1) forms)) (lesser_of known next)
   word_more known next bits puts before step =
       let put = put_form netlist order keeps (row_patterns pool table.rows) each mode register reach (models_of_forms forms) list v i (model_of_form form) (listed forms i form lt is) puts.0 in
-      subst (λ rules. LeastOf rules (lesser_of known next)) (sym (next_forms forms i form lt is))
+      subst (λ models. LeastOf models (lesser_of known next)) (sym (next_forms forms i form lt is))
       (one_more netlist order keeps (row_patterns pool table.rows) each mode register reach (models_of_forms forms) list v (model_of_form form) puts.0 put bits puts.1 pool table refl told_file edition
       (models_of_forms (take i forms)) known next before step)
 
   pub word_other : (known : Option ModeWord) → (Puts mode v (model_of_form form) → ⊥) → LeastOf (models_of_forms (take i forms)) known → LeastOf (models_of_forms (take (i + 1) forms)) known
   word_other known other before =
-      subst (λ rules. LeastOf rules known) (sym (next_forms forms i form lt is))
+      subst (λ models. LeastOf models known) (sym (next_forms forms i form lt is))
       (one_other netlist order keeps (row_patterns pool table.rows) each mode register reach (models_of_forms forms) list v (models_of_forms (take i forms)) (model_of_form form) known other before)

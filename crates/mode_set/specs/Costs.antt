@@ -15,7 +15,7 @@ mode_words (suc v) = 2
 
 -- the cost of a job in a mode
 abbrev pub mode_cost : ℕ → DestinationModel → CoverModel → ℕ
-mode_cost v destination plan = job_cost destination plan + mode_words v
+mode_cost v destination cover = job_cost destination cover + mode_words v
 
 -- a test runs in mode 0
 abbrev pub MayRunIn : DestinationModel → ℕ → Type 0
@@ -46,8 +46,8 @@ pub record IsPlanned (stock : ℕ → StockModel) (Usable : ℕ → Type 0) (des
   pub may : MayRunIn destination planned.mode
   pub chosen : IsChosen (stock planned.mode) destination trees planned.choice
   pub least : (v : ℕ) (other : JobCoverModel) → CoversIn stock Usable destination trees v other →
-      (mode_cost planned.mode destination planned.choice.plan < mode_cost v destination other.plan)
-      ⊎ ((mode_cost planned.mode destination planned.choice.plan ≡ mode_cost v destination other.plan)
+      (mode_cost planned.mode destination planned.choice.cover < mode_cost v destination other.cover)
+      ⊎ ((mode_cost planned.mode destination planned.choice.cover ≡ mode_cost v destination other.cover)
       × (planned.mode ≤ v))
 
 -- the job has no cover in any mode that it may run in

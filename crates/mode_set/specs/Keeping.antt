@@ -23,30 +23,30 @@ use Rattle.net_model.specs.ModeRules.{base_at, modes_in}
 -- the clobbers of a form that goes into a register or into cells don't hold the mode; for a jump or
 -- a branch every setting has a word that keeps the data memory and the mode
 abbrev pub GoalKeeps : Netlist → Pattern → ℕ → FormModel → GoalModel → Type 0
-GoalKeeps netlist pattern mode rule (into_reg id) = bit_at rule.clobbers mode ≡ 0
-GoalKeeps netlist pattern mode rule into_memory = bit_at rule.clobbers mode ≡ 0
-GoalKeeps netlist pattern mode rule into_file = bit_at rule.clobbers mode ≡ 0
-GoalKeeps netlist pattern mode rule (jumps reach) = CanTurn netlist pattern mode
-GoalKeeps netlist pattern mode rule (branches when_one to) = CanTurn netlist pattern mode
+GoalKeeps netlist pattern mode form (into_reg id) = bit_at form.clobbers mode ≡ 0
+GoalKeeps netlist pattern mode form into_memory = bit_at form.clobbers mode ≡ 0
+GoalKeeps netlist pattern mode form into_file = bit_at form.clobbers mode ≡ 0
+GoalKeeps netlist pattern mode form (jumps reach) = CanTurn netlist pattern mode
+GoalKeeps netlist pattern mode form (branches when_one to) = CanTurn netlist pattern mode
 
 -- the form keeps the mode
-pub record FormKeeps (netlist : Netlist) (patterns : List Pattern) (mode : ℕ) (rule : FormModel) : Type 0 where
+pub record FormKeeps (netlist : Netlist) (patterns : List Pattern) (mode : ℕ) (form : FormModel) : Type 0 where
   pub pattern : Pattern
-  pub at : slice_get patterns rule.pattern ≡ Some pattern
-  pub keeps : GoalKeeps netlist pattern mode rule rule.goal
+  pub at : slice_get patterns form.pattern ≡ Some pattern
+  pub keeps : GoalKeeps netlist pattern mode form form.goal
 
 -- each form of a netlist without a mode register does
 abbrev pub FormKeepsMode : Netlist → List Pattern → Option ℕ → FormModel → Type 0
-FormKeepsMode netlist patterns None rule = Unit {0}
-FormKeepsMode netlist patterns (Some mode) rule = FormKeeps netlist patterns mode rule
+FormKeepsMode netlist patterns None form = Unit {0}
+FormKeepsMode netlist patterns (Some mode) form = FormKeeps netlist patterns mode form
 
 -- exactly those of a list that keep the mode, in their order
 abbrev pub AreKeeping : Netlist → List Pattern → Option ℕ → List FormModel → List FormModel → Type 0
 AreKeeping netlist patterns special [] kept = kept ≡ []
-AreKeeping netlist patterns special (rule ∷ rules) kept =
-    (later : List FormModel) × AreKeeping netlist patterns special rules later
-    × ((FormKeepsMode netlist patterns special rule × (kept ≡ rule ∷ later))
-    ⊎ ((FormKeepsMode netlist patterns special rule → ⊥) × (kept ≡ later)))
+AreKeeping netlist patterns special (form ∷ forms) kept =
+    (later : List FormModel) × AreKeeping netlist patterns special forms later
+    × ((FormKeepsMode netlist patterns special form × (kept ≡ form ∷ later))
+    ⊎ ((FormKeepsMode netlist patterns special form → ⊥) × (kept ≡ later)))
 
 -- ---- what a netlist is told in a mode
 
@@ -57,8 +57,8 @@ pub record Isa (netlist : Netlist) (v : ℕ) : Type 0 where
   pub all : List FormModel
   pub most : ℕ
   pub forms : AreForms (base_at netlist v) patterns all most
-  pub rules : List FormModel
-  pub kept : AreKeeping (base_at netlist v) patterns netlist.special all rules
+  pub keeping : List FormModel
+  pub kept : AreKeeping (base_at netlist v) patterns netlist.special all keeping
 
 -- the storage that holds the mode, where there is one, is a register
 abbrev pub IsModeRegister : Option ℕ → Netlist → Type 0
@@ -78,18 +78,18 @@ Isas netlist = (v : ℕ) → Isa netlist (held netlist v)
 
 -- the form puts a number into the mode: it goes into the mode register, and its value is a field
 -- shape that shows the number. The netlist of a mode is of the first edition
-pub record Puts (mode v : ℕ) (rule : FormModel) : Type 0 where
-  pub goal : rule.goal ≡ into_reg mode
-  pub shape : is_shape_in 1 rule.value ≡ true
-  pub shown : shows rule.value v ≡ true
+pub record Puts (mode v : ℕ) (form : FormModel) : Type 0 where
+  pub goal : form.goal ≡ into_reg mode
+  pub shape : is_shape_in 1 form.value ≡ true
+  pub shown : shows form.value v ≡ true
 
 -- some form of these puts a number into the mode
-pub record CanPut (special : Option ℕ) (rules : List FormModel) (to : ℕ) : Type 0 where
+pub record CanPut (special : Option ℕ) (forms : List FormModel) (to : ℕ) : Type 0 where
   pub mode : ℕ
   pub is : special ≡ Some mode
-  pub rule : FormModel
-  pub among : Contains rules rule
-  pub puts : Puts mode to rule
+  pub form : FormModel
+  pub among : Contains forms form
+  pub puts : Puts mode to form
 
 -- mode 0 can be used, and another where mode 0 can put it and it can put 0 back; `all` gives all forms
 -- of each mode

@@ -21,31 +21,31 @@ use Rattle.mode_set.specs.Keeping.{Puts}
 -- the word is of the pattern of this number, that of a form that puts the number into the mode; it
 -- puts it there, steps and keeps the data memory
 pub record FitsModeWord (netlist : Netlist) (special : Option ℕ) (patterns : List Pattern)
-    (rules : List FormModel) (to number word : ℕ) : Type 0 where
+    (forms : List FormModel) (to number word : ℕ) : Type 0 where
   pub mode : ℕ
   pub is : special ≡ Some mode
-  pub rule : FormModel
-  pub among : Contains rules rule
-  pub puts : Puts mode to rule
-  pub named : rule.pattern ≡ number
-  pub at : slice_get patterns rule.pattern ≡ Some (record { storage = mode; move = write rule.value })
-  pub given : IsWordOf netlist (record { storage = mode; move = write rule.value }) word
-  pub value : mean rule.value no_state word ≡ to
+  pub form : FormModel
+  pub among : Contains forms form
+  pub puts : Puts mode to form
+  pub named : form.pattern ≡ number
+  pub at : slice_get patterns form.pattern ≡ Some (record { storage = mode; move = write form.value })
+  pub given : IsWordOf netlist (record { storage = mode; move = write form.value }) word
+  pub value : mean form.value no_state word ≡ to
   pub steps : Steps netlist word
   pub memory : memory_transfer netlist word ≡ keep
 
 -- the least word of all these patterns, with the number of its own
 pub record IsModeWord (netlist : Netlist) (special : Option ℕ) (patterns : List Pattern)
-    (rules : List FormModel) (to number word : ℕ) : Type 0 where
-  pub fits : FitsModeWord netlist special patterns rules to number word
-  pub least : (other more : ℕ) → FitsModeWord netlist special patterns rules to other more → word ≤ more
+    (forms : List FormModel) (to number word : ℕ) : Type 0 where
+  pub fits : FitsModeWord netlist special patterns forms to number word
+  pub least : (other more : ℕ) → FitsModeWord netlist special patterns forms to other more → word ≤ more
 
 -- this one, or that there is none
 abbrev pub IsLeastModeWord : Netlist → Option ℕ → List Pattern → List FormModel → ℕ → Option ModeWord → Type 0
-IsLeastModeWord netlist special patterns rules to None =
-    (number word : ℕ) → FitsModeWord netlist special patterns rules to number word → ⊥
-IsLeastModeWord netlist special patterns rules to (Some w) =
-    IsModeWord netlist special patterns rules to w.pattern w.word
+IsLeastModeWord netlist special patterns forms to None =
+    (number word : ℕ) → FitsModeWord netlist special patterns forms to number word → ⊥
+IsLeastModeWord netlist special patterns forms to (Some w) =
+    IsModeWord netlist special patterns forms to w.pattern w.word
 
 -- the lesser of two words, and the one that is known where they are equal
 abbrev pub lesser_of : Option ModeWord → Option ModeWord → Option ModeWord

@@ -9,7 +9,7 @@ use Rattle.mode_set.specs.Costs.{PlanModel}
 -- the forms of a mode, so many temporary cells, and the cells of the register file; no forms past
 -- the last mode
 abbrev pub forms_stock : ℕ → Option Forms → StockModel
-forms_stock temps None = record { rules = []; temps = temps; file = 0 }
+forms_stock temps None = record { forms = []; temps = temps; file = 0 }
 forms_stock temps (Some forms) = stock_with forms.list.items temps forms.file
 
 abbrev pub stock_at : List Forms → ℕ → ℕ → StockModel

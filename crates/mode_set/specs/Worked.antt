@@ -37,10 +37,10 @@ abbrev load_in_zero : FormModel
 load_in_zero = record { pattern = 4; goal = into_reg 1; addr = None; value = read InMemory f 16; fields = 255; clobbers = 3; tied = None }
 
 abbrev in_zero : StockModel
-in_zero = record { rules = adding ∷ load_in_zero ∷ store ∷ []; temps = 0; file = 0 }
+in_zero = record { forms = adding ∷ load_in_zero ∷ store ∷ []; temps = 0; file = 0 }
 
 abbrev in_one : StockModel
-in_one = record { rules = load ∷ subtracting ∷ store ∷ []; temps = 0; file = 0 }
+in_one = record { forms = load ∷ subtracting ∷ store ∷ []; temps = 0; file = 0 }
 
 -- S := slice(I,0,0) puts 1 and 0 into the mode, and keeps nothing of it
 abbrev putting : FormModel
@@ -64,19 +64,19 @@ abbrev difference : ExprModel
 difference = bin Sub (read InMemory (const 8 0) 16) (read InMemory (const 8 1) 16)
 
 -- load, subtract, store
-abbrev plan : CoverModel
-plan = use_form 2 (operand_then 0 (use_form 1 (operand_then 0 (use_form 0 no_operands no_cuts) no_operands) no_cuts) no_operands) no_cuts
+abbrev worked_cover : CoverModel
+worked_cover = use_form 2 (operand_then 0 (use_form 1 (operand_then 0 (use_form 0 no_operands no_cuts) no_operands) no_cuts) no_operands) no_cuts
 
 abbrev stored_match : MatchModel
-stored_match = record { setting = 2; sites = operand (in_register 1) difference true ∷ [] }
+stored_match = record { setting = 2; leaves = operand (in_register 1) difference true ∷ [] }
 
 abbrev computed_match : MatchModel
-computed_match = record { setting = 1; sites = operand (in_register 1) (read InMemory (const 8 0) 16) false ∷ [] }
+computed_match = record { setting = 1; leaves = operand (in_register 1) (read InMemory (const 8 0) 16) false ∷ [] }
 
 abbrev loaded_match : MatchModel
-loaded_match = record { setting = 0; sites = [] }
+loaded_match = record { setting = 0; leaves = [] }
 
-covered : IsOrderly in_one (cell 2) difference true plan
+covered : IsOrderly in_one (cell 2) difference true worked_cover
 covered = (
   store,
   refl,
@@ -106,14 +106,14 @@ covered = (
 )
 
 -- it costs 5 in mode 1: three steps and two mode words
-cost_in_one : mode_cost 1 (cell 2) plan ≡ 5
+cost_in_one : mode_cost 1 (cell 2) worked_cover ≡ 5
 cost_in_one = refl
 
 abbrev stock_in : ℕ → StockModel
 stock_in zero = in_zero
 stock_in (suc v) = in_one
 
-covers_in_one : CoversIn stock_in (λ v. v ≤ 1) (cell 2) (difference ∷ []) 1 (record { which = 0; plan = plan })
+covers_in_one : CoversIn stock_in (λ v. v ≤ 1) (cell 2) (difference ∷ []) 1 (record { which = 0; cover = worked_cover })
 covers_in_one = record {
   can = omega arith;
   may = tt;
@@ -128,5 +128,5 @@ not_loaded : taken 0 load_in_zero (into 1) difference true ≡ None
 not_loaded = refl
 
 -- a sum costs 3 in mode 0, and would cost 5 where mode 1 had it
-cost_in_zero : mode_cost 0 (cell 2) plan ≡ 3
+cost_in_zero : mode_cost 0 (cell 2) worked_cover ≡ 3
 cost_in_zero = refl

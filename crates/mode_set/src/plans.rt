@@ -157,7 +157,7 @@ pub fn plan_job(
     ensures planned { IfOk result (λ plan. IsPlanned (stock_at forms.now temps) (UsableAt usable.now)
         (aim_destination job.now.aim) (trees_of job.now.trees.items) (model_of_plan plan)) }
     ensures cost { IfOk result (λ plan.
-        plan.cover.cost ≡ job_cost (aim_destination job.now.aim) (model_of_plan plan).choice.plan) }
+        plan.cover.cost ≡ job_cost (aim_destination job.now.aim) (model_of_plan plan).choice.cover) }
     ensures none { result ≡ Err CoverFault.NoCover → HasNoPlan (stock_at forms.now temps)
         (UsableAt usable.now) (aim_destination job.now.aim) (trees_of job.now.trees.items) }
 {

@@ -8,17 +8,14 @@ ghost use Rattle.form_set.specs.Listing.{AreForms};
 ghost use Rattle.mode_set.specs.Keeping.{CanPut, Puts};
 ghost use Rattle.mode_set.specs.ModeWords.{IsLeastModeWord, IsStepWord, lesser_of};
 ghost use Rattle.net_model.specs.Nets.{IsRegister};
-ghost use Rattle.transfer_set.specs.Ready.{IsReady};
-ghost use Rattle.transfer_set.specs.Rows.{row_patterns};
+ghost use Rattle.transfer_set.specs.Machines.{IsReadyFor, machine_netlist, machine_patterns};
 
 use bit_bdd::Book;
 use form_model::{Form, Forms, Goal, Step};
-use net_model::Checked;
 use nop_synth::word_for;
 use rec_bits::NoMemory;
 use std::alloc::Global;
-use sym_expr::Pool;
-use transfer_set::Patterns;
+use transfer_set::Machine;
 use tree_grammar::plain_setting_of;
 
 /// A word that puts a number into the mode, and the pattern that it is of.
@@ -61,24 +58,23 @@ pub fn can_put(forms: &[Form], mode: u32, value: u64) -> Result<bool, NoMemory>
 // changes, with the form's pattern.
 fn word_with(
     alloc: Global,
-    checked: &Checked,
+    machine: &Machine<'_>,
     book: &mut Book,
-    pool: &Pool,
-    patterns: &Patterns,
     form: &Form,
     setting: u64,
 ) -> Result<Option<ModeWord>, NoMemory>
-    requires ready { IsReady checked.now.netlist book.old pool.now patterns.now }
+    requires ready { IsReadyFor machine.now book.old }
     ensures grows { Extends book.old book.new }
-    ensures ready { IsReady checked.now.netlist book.new pool.now patterns.now }
-    ensures word { IfOk result (λ found. IsStepWord checked.now.netlist pool.now patterns.now
+    ensures ready { IsReadyFor machine.now book.new }
+    ensures word { IfOk result (λ found. IsStepWord (machine_netlist machine.now)
+        machine.now.pool.now machine.now.patterns.now
         (record { pattern = form.now.pattern; setting = setting }) found) }
 {
     let step = Step {
         pattern: form.pattern,
         setting,
     };
-    let found = word_for(alloc, checked, book, pool, patterns, &[step], 0)?;
+    let found = word_for(alloc, machine, book, &[step], 0)?;
     Ok(found.map(|word| ModeWord {
         pattern: form.pattern,
         word,
@@ -105,31 +101,29 @@ fn lesser(known: Option<ModeWord>, next: Option<ModeWord>) -> Option<ModeWord>
 /// memory is the only refusal.
 pub fn mode_word(
     alloc: Global,
-    checked: &Checked,
+    machine: &Machine<'_>,
     book: &mut Book,
-    pool: &Pool,
-    patterns: &Patterns,
     forms: &Forms,
     mode: u32,
     value: u64,
 ) -> Result<Option<ModeWord>, NoMemory>
-    requires ready { IsReady checked.now.netlist book.old pool.now patterns.now }
-    requires mode { IsRegister (slice_get checked.now.netlist.storages mode) }
-    requires edition { checked.now.netlist.edition ≡ 1 }
-    requires forms { (reach : ℕ) × AreForms checked.now.netlist (row_patterns pool.now patterns.now.rows)
+    requires ready { IsReadyFor machine.now book.old }
+    requires mode { IsRegister (slice_get (machine_netlist machine.now).storages mode) }
+    requires edition { (machine_netlist machine.now).edition ≡ 1 }
+    requires forms { (reach : ℕ) × AreForms (machine_netlist machine.now) (machine_patterns machine.now)
         (models_of_forms forms.now.list.items) reach }
     ensures grows { Extends book.old book.new }
-    ensures ready { IsReady checked.now.netlist book.new pool.now patterns.now }
-    ensures word { IfOk result (IsLeastModeWord checked.now.netlist (Some mode)
-        (row_patterns pool.now patterns.now.rows) (models_of_forms forms.now.list.items) value) }
+    ensures ready { IsReadyFor machine.now book.new }
+    ensures word { IfOk result (IsLeastModeWord (machine_netlist machine.now) (Some mode)
+        (machine_patterns machine.now) (models_of_forms forms.now.list.items) value) }
 {
     // what holds of a checked netlist is said here
-    let _netlist = checked.netlist();
+    let _netlist = machine.checked.netlist();
     let mut least = None;
     for form in &forms.list {
         let setting = put_setting(form, mode, value)?;
         if let Some(bits) = setting {
-            let next = word_with(alloc, checked, book, pool, patterns, form, bits)?;
+            let next = word_with(alloc, machine, book, form, bits)?;
             least = lesser(least, next);
         }
     }

@@ -1,7 +1,7 @@
 //! The first difference between a form and a tree.
 
-use cover::least_cost;
 use form_model::{Form, Forms, Tree};
+use least_costs::least_cost;
 use net_model::Expr;
 use rec_bits::NoMemory;
 use std::alloc::Global;

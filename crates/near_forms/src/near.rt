@@ -3,9 +3,9 @@
 use crate::differences::{Means, first_difference};
 use crate::text::Names;
 use crate::words::add_difference;
-use cover::part_destination;
 use cover_lacks::is_same;
 use form_model::{Form, Goal, Job, Tree};
+use least_costs::part_destination;
 use net_model::Expr;
 use rec_bits::NoMemory;
 use std::alloc::Global;
@@ -105,23 +105,6 @@ fn add_text(texts: &mut Vec<Vec<u8>>, text: Vec<u8>) -> Result<(), NoMemory> {
     Ok(())
 }
 
-// Adds the text of what is between a form and the tree, if the form comes near to it.
-fn add_near(
-    alloc: Global,
-    names: Names,
-    means: Means,
-    job: &Job,
-    tree: &Tree,
-    form: &Form,
-    texts: &mut Vec<Vec<u8>>,
-) -> Result<(), NoMemory> {
-    let Some(destination) = destination_near(form, job, tree) else {
-        return Ok(());
-    };
-    let text = near_text(alloc, names, means, form, destination, tree)?;
-    add_text(texts, text)
-}
-
 /// What is between each form that comes near to a tree and the tree, in words, where the tree is
 /// lacking of the job: for the forms with the tree's operator at their root, and where it is a tree
 /// of the job itself also for those that write or test a value as it is. In the order of the forms,
@@ -135,7 +118,10 @@ pub fn near_texts(
 ) -> Result<Vec<Vec<u8>>, NoMemory> {
     let mut texts = Vec::new(alloc);
     for form in &means.forms.list {
-        add_near(alloc, names, means, job, tree, form, &mut texts)?;
+        if let Some(destination) = destination_near(form, job, tree) {
+            let text = near_text(alloc, names, means, form, destination, tree)?;
+            add_text(&mut texts, text)?;
+        }
     }
     Ok(texts)
 }

@@ -5,8 +5,9 @@
 //! an order of its nets in which it keeps every rule, or refuses it with the first of N5 to N9 and
 //! N14 that it breaks (`found`). It accepts exactly where the rules are kept (`accepted`:
 //! `KeepsRules`) and refuses exactly where one is broken (`refused`: `FaultOf`), but for want of
-//! memory. `check_modes` does the same of what a netlist is in each of its modes (`AreModesOf`,
-//! `KeepsModes`, `ModeFaultOf`), where each rule is tried in all modes before the next.
+//! memory. `check_modes` does the same of what a netlist is in each of its modes
+//! (`AreModesOfNetlist`, `KeepsModes`, `ModeFaultOf`), where each rule is tried in all modes before
+//! the next.
 //!
 //! Invariant: the walk that orders the nets keeps its own path, of which each open net names the
 //! next, and every placed net stands behind all that it names (`specs/Inner/Walk`). The search for

@@ -123,8 +123,19 @@ pub fn emit(
             };
             push_net(nets, at, cells.width, gate)
         }
-        NetExpr::Case { sel, rows, rest } => emit_case(alloc, site, nets, at, sel, rows, rest),
+        NetExpr::Case { sel, rows, rest } => {
+            let written = Case { sel, rows, rest };
+            emit_case(alloc, site, nets, at, &written)
+        }
     }
+}
+
+/// A case as it is written.
+#[derive(Clone, Copy)]
+struct Case<'a> {
+    sel: &'a NetExpr,
+    rows: &'a [(Vec<u64>, NetExpr)],
+    rest: &'a Option<Box<NetExpr>>,
 }
 
 /// The nets of a case.
@@ -134,22 +145,22 @@ fn emit_case(
     site: &Site,
     nets: &mut Items<Net>,
     at: u64,
-    selector: &NetExpr,
-    rows: &[(Vec<u64>, NetExpr)],
-    other: &Option<Box<NetExpr>>,
+    written: &Case,
 ) -> Result<NetRef, NoMemory>
-    requires widths { IsSome (wide (scope_at (model_of_site site.now)) (case (model_of_net_expr selector.now)
-        (case_rows_of (map model_of_case_row rows.now)) (case_rest_of (other_of other.now)))) }
+    requires widths { IsSome (wide (scope_at (model_of_site site.now)) (case (model_of_net_expr written.now.sel.now)
+        (case_rows_of (map model_of_case_row written.now.rows.now)) (case_rest_of (other_of written.now.rest.now)))) }
     requires room { length nets.old
-        + count (case (model_of_net_expr selector.now) (case_rows_of (map model_of_case_row rows.now)) (case_rest_of (other_of other.now)))
+        + count (case (model_of_net_expr written.now.sel.now)
+        (case_rows_of (map model_of_case_row written.now.rows.now)) (case_rest_of (other_of written.now.rest.now)))
         < 2 ^ 32 }
     ensures { IfOk result (Emitted (model_of_site site.now) at
-        (case (model_of_net_expr selector.now) (case_rows_of (map model_of_case_row rows.now)) (case_rest_of (other_of other.now)))
+        (case (model_of_net_expr written.now.sel.now)
+        (case_rows_of (map model_of_case_row written.now.rows.now)) (case_rest_of (other_of written.now.rest.now)))
         nets.old nets.new) }
 {
-    let selector = emit(alloc, site, nets, at, selector)?;
-    let pairs = emit_rows(alloc, site, nets, at, rows)?;
-    let other = emit_rest(alloc, site, nets, at, other)?;
+    let selector = emit(alloc, site, nets, at, written.sel)?;
+    let pairs = emit_rows(alloc, site, nets, at, written.rows)?;
+    let other = emit_rest(alloc, site, nets, at, written.rest)?;
     match other {
         None => {
             let gate = Gate::Case {

@@ -9,7 +9,7 @@ ghost use Rattle.net_elab.specs.Inner.Emissions.{AllDriversWide, EmittedDrivers,
 ghost use Rattle.net_elab.specs.Inner.Sites.{model_of_site};
 
 use crate::expression::{emit, emit_if, push_net};
-use crate::part::emit_part;
+use crate::part::{ModuleBody, emit_part};
 use crate::site::{Site, Text};
 use net_model::{
     Cells, Code, Gate, Ident, Net, NetExpr, Netlist, RegisterKind, Space, Storage, Unit,
@@ -24,36 +24,44 @@ fn copy_of(alloc: Global, name: &Ident) -> Result<Name, NoMemory>
     Name::from_slice(alloc, name.name.as_slice())
 }
 
+/// How wide the words of an instruction memory are, and how many there are.
+#[derive(Clone, Copy)]
+struct CodeMeasures {
+    bits: u64,
+    size: u64,
+}
+
 /// An instruction memory, and the net of its word.
 fn emit_code(
     alloc: Global,
     text: &Text,
     netlist: &mut Netlist,
     name: &Ident,
-    bits: u64,
-    size: u64,
+    shape: CodeMeasures,
     counter: &Ident,
 ) -> Result<(), NoMemory>
-    requires keeps { ItemKeeps (map model_of_unit text.now) (code name.now bits size counter.now) }
-    requires room { HasRoom (map model_of_unit text.now) (code name.now bits size counter.now) netlist.old }
-    ensures { OnOk result (ItemDone (map model_of_unit text.now) (code name.now bits size counter.now)
+    requires keeps { ItemKeeps (map model_of_unit text.now) (code name.now shape.bits shape.size counter.now) }
+    requires room { HasRoom (map model_of_unit text.now) (code name.now shape.bits shape.size counter.now) netlist.old }
+    ensures { OnOk result (ItemDone (map model_of_unit text.now) (code name.now shape.bits shape.size counter.now)
         netlist.old netlist.new) }
 {
     let gate = Gate::Word(netlist.codes.len() as u32);
-    push_net(&mut netlist.nets, name.at, bits as u8, gate)?;
+    push_net(&mut netlist.nets, name.at, shape.bits as u8, gate)?;
     netlist.codes.push(Code {
         name: copy_of(alloc, name)?,
-        bits: bits as u8,
-        words: size as u32,
+        bits: shape.bits as u8,
+        words: shape.size as u32,
         counter: text.storage(&counter.name),
     })
 }
 
-/// Which register it is, and how wide.
+/// Which register it is, how wide, what it takes and when.
 #[derive(Clone, Copy)]
-struct Latch {
+struct Latch<'a> {
     kind: RegisterKind,
     width: u64,
+    input: &'a NetExpr,
+    when: &'a Option<NetExpr>,
 }
 
 /// A register, or the mode, with its nets.
@@ -62,20 +70,27 @@ fn emit_register(
     text: &Text,
     netlist: &mut Netlist,
     name: &Ident,
-    latch: Latch,
-    input: &NetExpr,
-    when: &Option<NetExpr>,
+    latch: &Latch,
 ) -> Result<(), NoMemory>
     requires keeps { ItemKeeps (map model_of_unit text.now)
-        (register latch.kind name.now latch.width (model_of_net_expr input.now) (when_of when.now)) }
+        (register latch.now.kind name.now latch.now.width (model_of_net_expr latch.now.input.now)
+        (when_of latch.now.when.now)) }
     requires room { HasRoom (map model_of_unit text.now)
-        (register latch.kind name.now latch.width (model_of_net_expr input.now) (when_of when.now)) netlist.old }
+        (register latch.now.kind name.now latch.now.width (model_of_net_expr latch.now.input.now)
+        (when_of latch.now.when.now)) netlist.old }
     ensures { OnOk result (ItemDone (map model_of_unit text.now)
-        (register latch.kind name.now latch.width (model_of_net_expr input.now) (when_of when.now)) netlist.old netlist.new) }
+        (register latch.now.kind name.now latch.now.width (model_of_net_expr latch.now.input.now)
+        (when_of latch.now.when.now)) netlist.old netlist.new) }
 {
     let site = Site::Top(text);
-    let input = emit(alloc, &site, &mut netlist.nets, name.at, input)?;
-    let when = emit_if(alloc, &site, &mut netlist.nets, name.at, when.as_ref())?;
+    let input = emit(alloc, &site, &mut netlist.nets, name.at, latch.input)?;
+    let when = emit_if(
+        alloc,
+        &site,
+        &mut netlist.nets,
+        name.at,
+        latch.when.as_ref(),
+    )?;
     let gate = Gate::Reg(netlist.storages.len() as u32);
     push_net(&mut netlist.nets, name.at, latch.width as u8, gate)?;
     netlist.storages.push(Storage::Register {
@@ -226,10 +241,11 @@ fn emit_instance(
     ensures { OnOk result (ItemDone (map model_of_unit text.now)
         (part name.now of.now (map binding_of links.now)) netlist.old netlist.new) }
 {
-    let ports = text.declared().ports(&of.name);
-    let equations = text.declared().equations(&of.name);
-    let nets = &mut netlist.nets;
-    emit_part(alloc, text, nets, name.at, links, ports, equations)
+    let body = ModuleBody {
+        ports: text.declared().ports(&of.name),
+        equations: text.declared().equations(&of.name),
+    };
+    emit_part(alloc, text, &mut netlist.nets, name.at, links, &body)
 }
 
 /// The nets, the storage and the code of an item.
@@ -249,7 +265,13 @@ pub fn emit_item(
             bits,
             size,
             counter,
-        } => emit_code(alloc, text, netlist, name, *bits, *size, counter),
+        } => {
+            let shape = CodeMeasures {
+                bits: *bits,
+                size: *size,
+            };
+            emit_code(alloc, text, netlist, name, shape, counter)
+        }
         Unit::Register {
             kind,
             name,
@@ -260,8 +282,10 @@ pub fn emit_item(
             let latch = Latch {
                 kind: *kind,
                 width: *width,
+                input,
+                when,
             };
-            emit_register(alloc, text, netlist, name, latch, input, when)
+            emit_register(alloc, text, netlist, name, &latch)
         }
         Unit::Memory {
             space,

@@ -199,26 +199,36 @@ fn emit_equations(
     Ok(())
 }
 
-/// The nets of a part, of a module with these ports and equations.
+/// The ports of a module, and the equations of its outputs.
+#[derive(Clone, Copy)]
+pub struct ModuleBody<'a> {
+    pub ports: &'a [Port],
+    pub equations: &'a [(Ident, NetExpr)],
+}
+
+/// The nets of a part, of a module with this body.
 pub fn emit_part(
     alloc: Global,
     text: &Text,
     nets: &mut Items<Net>,
     at: u64,
     links: &[(Ident, NetExpr)],
-    ports: &[Port],
-    equations: &[(Ident, NetExpr)],
+    body: &ModuleBody,
 ) -> Result<(), NoMemory>
-    requires narrow { AllByRecursion PortKeeps ports.now }
+    requires narrow { AllByRecursion PortKeeps body.now.ports.now }
     requires links { AllByRecursion
-        (PortFed false (in_text (map model_of_unit text.now)) (map binding_of links.now)) ports.now }
-    requires equations { AllByRecursion (PortFed true (in_module ports.now) (map binding_of equations.now)) ports.now }
-    requires room { length nets.old + count_part (map binding_of links.now) ports.now (map binding_of equations.now)
-        < 2 ^ 32 }
+        (PortFed false (in_text (map model_of_unit text.now)) (map binding_of links.now)) body.now.ports.now }
+    requires equations { AllByRecursion
+        (PortFed true (in_module body.now.ports.now) (map binding_of body.now.equations.now)) body.now.ports.now }
+    requires room { length nets.old
+        + count_part (map binding_of links.now) body.now.ports.now (map binding_of body.now.equations.now) < 2 ^ 32 }
     ensures { OnOk result (Grown (part_nets (map model_of_unit text.now) at (length nets.old)
-        (map binding_of links.now) ports.now (map binding_of equations.now))
-        (count_part (map binding_of links.now) ports.now (map binding_of equations.now)) nets.old nets.new) }
+        (map binding_of links.now) body.now.ports.now (map binding_of body.now.equations.now))
+        (count_part (map binding_of links.now) body.now.ports.now (map binding_of body.now.equations.now))
+        nets.old nets.new) }
 {
+    let ports = body.ports;
+    let equations = body.equations;
     let start = nets.len() as u32;
     let wire = start + count_inputs(links, ports);
     let first = wire + count_outputs(ports);

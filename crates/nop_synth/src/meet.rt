@@ -62,14 +62,13 @@ fn asks(mask: u64, bit: u8, width: u8) -> bool
     bit < width && (mask >> bit) & 1 == 1
 }
 
-// Those of some words that have a value's bit under a mask.
+// Those of some words that have a bit of a field's value, where the field has the bit.
 fn narrowed(
     alloc: Global,
     book: &mut Book,
     width: u8,
     set: SetId,
-    mask: u64,
-    value: u64,
+    field: FieldValue,
     bit: u8,
 ) -> Result<SetId, NoMemory>
     requires width { book.old.bits ≡ width }
@@ -78,13 +77,13 @@ fn narrowed(
     ensures grows { Extends book.old book.new }
     ensures within { IfOk result (λ id. id < length book.new.nodes) }
     ensures words { IfOk result (λ id. (word : ℕ) → word < 2 ^ width →
-        has_word book.new id word ≡ (has_word book.old set word && bit_agrees mask value word bit)) }
+        has_word book.new id word ≡ (has_word book.old set word && bit_agrees field.mask field.value word bit)) }
 {
-    if asks(mask, bit, width) {
-        let some = with_bit(alloc, book, set, bit, value)?;
+    if asks(field.mask, bit, width) {
+        let some = with_bit(alloc, book, set, bit, field.value)?;
         return Ok(some);
     }
-    if (value >> bit) & 1 == 1 {
+    if (field.value >> bit) & 1 == 1 {
         // the size tells that the first id is the empty set
         let _ = book.size();
         return Ok(0);
@@ -92,25 +91,24 @@ fn narrowed(
     Ok(set)
 }
 
-// Those of some words that have a value in the bits of a mask.
+// Those of some words that have a field's value.
 fn with_bits(
     alloc: Global,
     book: &mut Book,
     width: u8,
     set: SetId,
-    mask: u64,
-    value: u64,
+    field: FieldValue,
 ) -> Result<SetId, NoMemory>
     requires width { book.old.bits ≡ width }
     requires set { set < length book.old.nodes }
     ensures grows { Extends book.old book.new }
     ensures within { IfOk result (λ id. id < length book.new.nodes) }
     ensures words { IfOk result (λ id. (word : ℕ) → word < 2 ^ width →
-        has_word book.new id word ≡ (has_word book.old set word && has_field mask value word)) }
+        has_word book.new id word ≡ (has_word book.old set word && has_field field.mask field.value word)) }
 {
     let mut left = set;
     for bit in 0..64u8 {
-        left = narrowed(alloc, book, width, left, mask, value, bit)?;
+        left = narrowed(alloc, book, width, left, field, bit)?;
     }
     Ok(left)
 }
@@ -132,7 +130,7 @@ fn with_fields(
 {
     let mut left = set;
     for field in fields {
-        left = with_bits(alloc, book, width, left, field.mask, field.value)?;
+        left = with_bits(alloc, book, width, left, *field)?;
     }
     Ok(left)
 }

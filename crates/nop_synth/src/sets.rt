@@ -3,7 +3,7 @@
 ghost use Rattle.std.specs.Prelude.{◌≡◌, false, ◌<◌, [], ◌++◌, if◌then◌else◌, map, slice_get, IfOk, OnOk};
 ghost use Rattle.form_model.specs.Live.{group_writes, regs_of};
 ghost use Rattle.word_fit.specs.Fits.{group_stores};
-ghost use Rattle.word_fit.specs.Steps.{step_operation};
+ghost use Rattle.word_fit.specs.Machines.{machine_operation};
 ghost use Rattle.nop_synth.specs.Wanted.{cell_sets, group_sets, has_cells, is_wanted, jump_sets, keep_at, option_list, place_of, register_sets, row_fields, row_set, space_sets, step_field, step_set};
 
 use crate::meet::FieldValue;
@@ -12,8 +12,7 @@ use form_model::{RegSet, Step};
 use net_model::Space;
 use rec_bits::{Items, NoMemory};
 use std::alloc::Global;
-use sym_expr::Pool;
-use transfer_set::Patterns;
+use transfer_set::{Machine, Patterns};
 use word_fit::{stores, writes};
 
 // The words of the pattern of this number.
@@ -109,26 +108,21 @@ fn add_space(
 }
 
 // Adds the words that keep the memory and those that keep the file, each unless a step writes it.
-fn add_cells(
-    patterns: &Patterns,
-    _pool: &Pool,
-    sets: &mut Items<SetId>,
-    group: &[Step],
-) -> Result<(), NoMemory>
+fn add_cells(machine: &Machine<'_>, sets: &mut Items<SetId>, group: &[Step]) -> Result<(), NoMemory>
     ensures { OnOk result (sets.new ≡ sets.old
-        ++ cell_sets patterns.now (λ space. group_stores space (step_operation _pool.now patterns.now) group.now)) }
+        ++ cell_sets machine.now.patterns.now (λ space. group_stores space (machine_operation machine.now) group.now)) }
 {
     add_space(
-        patterns,
+        machine.patterns,
         sets,
         Space::Memory,
-        stores(patterns, Space::Memory, group),
+        stores(machine.patterns, Space::Memory, group),
     )?;
     add_space(
-        patterns,
+        machine.patterns,
         sets,
         Space::File,
-        stores(patterns, Space::File, group),
+        stores(machine.patterns, Space::File, group),
     )
 }
 
@@ -140,15 +134,15 @@ fn has_cells(patterns: &Patterns, storage: u32) -> bool
 }
 
 // Whether a register is to be kept.
-fn is_kept(patterns: &Patterns, _pool: &Pool, group: &[Step], live: RegSet, register: u32) -> bool
+fn is_kept(machine: &Machine<'_>, group: &[Step], live: RegSet, register: u32) -> bool
     requires { register < 16 }
     ensures { result
-        ≡ is_wanted patterns.now (regs_of live)
-        (group_writes (step_operation _pool.now patterns.now) group.now) register }
+        ≡ is_wanted machine.now.patterns.now (regs_of live)
+        (group_writes (machine_operation machine.now) group.now) register }
 {
     (live >> register) & 1 == 1
-        && !has_cells(patterns, register)
-        && !writes(patterns, group, register)
+        && !has_cells(machine.patterns, register)
+        && !writes(machine.patterns, group, register)
 }
 
 // Adds the words that keep a register, where that is asked for.
@@ -172,19 +166,18 @@ fn add_register(
 
 // Adds the words that keep the live registers that no step writes.
 fn add_registers(
-    patterns: &Patterns,
-    pool: &Pool,
+    machine: &Machine<'_>,
     sets: &mut Items<SetId>,
     group: &[Step],
     live: RegSet,
 ) -> Result<(), NoMemory>
     ensures { OnOk result (sets.new ≡ sets.old
-        ++ register_sets patterns.now (regs_of live)
-        (group_writes (step_operation pool.now patterns.now) group.now) 16) }
+        ++ register_sets machine.now.patterns.now (regs_of live)
+        (group_writes (machine_operation machine.now) group.now) 16) }
 {
     for register in 0..16u32 {
-        let kept = is_kept(patterns, pool, group, live, register);
-        add_register(patterns, sets, register, kept)?;
+        let kept = is_kept(machine, group, live, register);
+        add_register(machine.patterns, sets, register, kept)?;
     }
     Ok(())
 }
@@ -192,33 +185,31 @@ fn add_registers(
 // All sets that are to hold a word of the group.
 pub(crate) fn wanted_sets(
     alloc: Global,
-    patterns: &Patterns,
-    pool: &Pool,
+    machine: &Machine<'_>,
     group: &[Step],
     live: RegSet,
 ) -> Result<Items<SetId>, NoMemory>
     ensures { IfOk result (λ sets. sets
-        ≡ group_sets patterns.now group.now (regs_of live)
-        (λ space. group_stores space (step_operation pool.now patterns.now) group.now)
-        (group_writes (step_operation pool.now patterns.now) group.now)) }
+        ≡ group_sets machine.now.patterns.now group.now (regs_of live)
+        (λ space. group_stores space (machine_operation machine.now) group.now)
+        (group_writes (machine_operation machine.now) group.now)) }
 {
-    let mut sets = step_sets(alloc, patterns, group)?;
-    add_cells(patterns, pool, &mut sets, group)?;
-    add_registers(patterns, pool, &mut sets, group, live)?;
+    let mut sets = step_sets(alloc, machine.patterns, group)?;
+    add_cells(machine, &mut sets, group)?;
+    add_registers(machine, &mut sets, group, live)?;
     Ok(sets)
 }
 
 // The words that keep the memory, and those that keep registers.
 pub(crate) fn kept_sets(
     alloc: Global,
-    patterns: &Patterns,
-    pool: &Pool,
+    machine: &Machine<'_>,
     kept: RegSet,
 ) -> Result<Items<SetId>, NoMemory>
-    ensures { IfOk result (λ sets. sets ≡ jump_sets patterns.now (regs_of kept)) }
+    ensures { IfOk result (λ sets. sets ≡ jump_sets machine.now.patterns.now (regs_of kept)) }
 {
     let mut sets = Items::new(alloc);
-    add_space(patterns, &mut sets, Space::Memory, false)?;
-    add_registers(patterns, pool, &mut sets, &[], kept)?;
+    add_space(machine.patterns, &mut sets, Space::Memory, false)?;
+    add_registers(machine, &mut sets, &[], kept)?;
     Ok(sets)
 }

@@ -3,19 +3,17 @@
 ghost use Rattle.std.specs.Prelude.{◌≡◌, ℕ, IfOk, MatchOption};
 ghost use Rattle.bit_bdd.specs.Diagrams.{Extends};
 ghost use Rattle.form_model.specs.Live.{regs_of};
-ghost use Rattle.transfer_set.specs.Ready.{IsReady};
-ghost use Rattle.word_fit.specs.Fits.{FitsGroup, FitsTurning, IsLeastFit};
-ghost use Rattle.word_fit.specs.Steps.{step_operation};
+ghost use Rattle.transfer_set.specs.Machines.{IsReadyFor, machine_netlist};
+ghost use Rattle.word_fit.specs.Fits.{FitsTurning, IsLeastFit};
+ghost use Rattle.word_fit.specs.Machines.{machine_fits, machine_operation};
 
 use crate::meet::words_held;
 use crate::sets::{field_of, kept_sets, set_of, step_fields, wanted_sets};
 use bit_bdd::Book;
 use form_model::{RegSet, Step};
-use net_model::Checked;
 use rec_bits::NoMemory;
 use std::alloc::Global;
-use sym_expr::Pool;
-use transfer_set::Patterns;
+use transfer_set::Machine;
 
 /// The least word that fits a group of steps with a set of live registers, and `None` exactly where
 /// no word fits. A word fits where it does each step's transfer with its setting, steps, keeps the
@@ -27,32 +25,28 @@ use transfer_set::Patterns;
 /// grows, and what it held means what it meant. Want of memory is the only refusal.
 pub fn word_for(
     alloc: Global,
-    checked: &Checked,
+    machine: &Machine<'_>,
     book: &mut Book,
-    pool: &Pool,
-    patterns: &Patterns,
     group: &[Step],
     live: RegSet,
 ) -> Result<Option<u64>, NoMemory>
-    requires ready { IsReady checked.now.netlist book.old pool.now patterns.now }
+    requires ready { IsReadyFor machine.now book.old }
     ensures grows { Extends book.old book.new }
-    ensures ready { IsReady checked.now.netlist book.new pool.now patterns.now }
+    ensures ready { IsReadyFor machine.now book.new }
     ensures word { IfOk result (λ found. MatchOption found
-        ((word : ℕ) →
-        FitsGroup checked.now.netlist (step_operation pool.now patterns.now) word group.now (regs_of live) → ⊥)
-        (IsLeastFit (λ word. FitsGroup checked.now.netlist (step_operation pool.now patterns.now)
-        word group.now (regs_of live)))) }
+        ((word : ℕ) → machine_fits machine.now word group.now (regs_of live) → ⊥)
+        (IsLeastFit (λ word. machine_fits machine.now word group.now (regs_of live)))) }
 {
-    let width = checked.netlist().word_width();
+    let width = machine.checked.netlist().word_width();
     // the size tells that the first id is the empty set
     let _ = book.size();
-    let sets = wanted_sets(alloc, patterns, pool, group, live)?;
-    let fields = step_fields(alloc, patterns, group)?;
+    let sets = wanted_sets(alloc, machine, group, live)?;
+    let fields = step_fields(alloc, machine.patterns, group)?;
     let fitting = words_held(
         alloc,
         book,
         width,
-        patterns.step_set(),
+        machine.patterns.step_set(),
         sets.as_slice(),
         fields.as_slice(),
     )?;
@@ -68,28 +62,26 @@ pub fn word_for(
 /// read; the book grows, and what it held means what it meant. Want of memory is the only refusal.
 pub fn jump_word(
     alloc: Global,
-    checked: &Checked,
+    machine: &Machine<'_>,
     book: &mut Book,
-    pool: &Pool,
-    patterns: &Patterns,
     step: Step,
     kept: RegSet,
 ) -> Result<Option<u64>, NoMemory>
-    requires ready { IsReady checked.now.netlist book.old pool.now patterns.now }
+    requires ready { IsReadyFor machine.now book.old }
     ensures grows { Extends book.old book.new }
-    ensures ready { IsReady checked.now.netlist book.new pool.now patterns.now }
+    ensures ready { IsReadyFor machine.now book.new }
     ensures word { IfOk result (λ found. MatchOption found
         ((word : ℕ) →
-        FitsTurning checked.now.netlist word (step_operation pool.now patterns.now step) (regs_of kept) → ⊥)
+        FitsTurning (machine_netlist machine.now) word (machine_operation machine.now step) (regs_of kept) → ⊥)
         (IsLeastFit (λ word.
-        FitsTurning checked.now.netlist word (step_operation pool.now patterns.now step) (regs_of kept)))) }
+        FitsTurning (machine_netlist machine.now) word (machine_operation machine.now step) (regs_of kept)))) }
 {
-    let width = checked.netlist().word_width();
+    let width = machine.checked.netlist().word_width();
     // the size tells that the first id is the empty set
     let _ = book.size();
-    let sets = kept_sets(alloc, patterns, pool, kept)?;
-    let fields = [field_of(patterns, step)];
-    let set = set_of(patterns, step.pattern);
+    let sets = kept_sets(alloc, machine, kept)?;
+    let fields = [field_of(machine.patterns, step)];
+    let set = set_of(machine.patterns, step.pattern);
     let fitting = words_held(alloc, book, width, set, sets.as_slice(), &fields)?;
     Ok(book.least(fitting))
 }

@@ -91,7 +91,7 @@ module _ (line : Status → List ℕ) (net src part : List ℕ) where
   kept h fault = no_broken_of_any HasNoBank unbanked_role net h.entries fault h.file (has_bank h.entries.edition h.banked)
 
   not_text : HasBankedProgram net src → (other : Status) → no_text other → ⊥
-  not_text h = By-none SrcText (IsNoSrcText src) (λ at faulty. no_src_fault src h.listing at h.src_file.says faulty)
+  not_text h = By-none SrcText (IsNoSrcText src) (λ at faulty. no_src_fault src h.program at h.src_file.says faulty)
 
   not_broken : HasBankedProgram net src → (other : Status) → broken other → ⊥
   not_broken h = By-none Src (BreaksDualSrc net src) (λ fault breaks. none_broken net src part fault h breaks)
@@ -161,7 +161,7 @@ module _ (line : Status → List ℕ) (net src part : List ℕ) where
 
   answers_broken_src : (fault : SrcFault) → BreaksDualSrc net src fault → DualAnswers line net src part (Src fault) (line (Src fault))
   answers_broken_src fault breaks = past_net breaks.net_file (Src fault) (line (Src fault)) (inr (
-    By-none SrcText (IsNoSrcText src) (λ at faulty. no_src_fault src breaks.breaks.listing at breaks.breaks.says faulty),
+    By-none SrcText (IsNoSrcText src) (λ at faulty. no_src_fault src breaks.breaks.program at breaks.breaks.says faulty),
     inl ((fault, breaks, refl), refl),
   ))
 

@@ -58,7 +58,7 @@ module _ (line : Status → List ℕ) (net src : List ℕ) (Breaks : NetFault �
   -- ---- no stage refuses where there is nothing to refuse
 
   not_text : (P : Property) → TaskHolds net src P → (other : Status) → no_text other → ⊥
-  not_text P h = By-none SrcText (IsNoSrcText src) (λ at faulty. no_src_fault src h.task.listing at h.is.src_file.says faulty)
+  not_text P h = By-none SrcText (IsNoSrcText src) (λ at faulty. no_src_fault src h.task.program at h.is.src_file.says faulty)
 
   not_broken : (P : Property) → TaskHolds net src P → (other : Status) → broken other → ⊥
   not_broken P h = By-none Src (BreaksSrc net src) (λ fault breaks. none_broken net src P fault h breaks)
@@ -113,7 +113,7 @@ module _ (line : Status → List ℕ) (net src : List ℕ) (Breaks : NetFault �
 
     pub answers_broken_src : (fault : SrcFault) → BreaksSrc net src fault → FormAnswers line net src Breaks Later (Src fault) (line (Src fault))
     answers_broken_src fault breaks = past_net (record { entries = breaks.entries; file = breaks.net_file }) (Src fault) (line (Src fault)) (inr (
-      By-none SrcText (IsNoSrcText src) (λ at faulty. no_src_fault src breaks.breaks.listing at breaks.breaks.says faulty),
+      By-none SrcText (IsNoSrcText src) (λ at faulty. no_src_fault src breaks.breaks.program at breaks.breaks.says faulty),
       inl ((fault, breaks, refl), refl),
     ))
 

@@ -19,4 +19,4 @@ pub record IsWatched (memory : List ℕ) (clocks : ℕ) (out : List ℕ) (task :
   pub said : IsMemoryText task.netlist task.netlist.special memory start
   pub image : Image
   pub right : IsRightFor image task
-  pub trace : IsTraceText task.netlist image task.listing.vars (strace task.width task.listing) start clocks out
+  pub trace : IsTraceText task.netlist image task.program.vars (strace task.width task.program) start clocks out

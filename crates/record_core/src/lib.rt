@@ -53,4 +53,5 @@ mod tune;
 mod words;
 
 pub use call::record_call;
+pub use line::name_place;
 pub use status::Status;

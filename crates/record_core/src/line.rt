@@ -58,8 +58,8 @@ fn src_kind_name(kind: SrcKind) -> &'static str
     }
 }
 
-// Where the name stands that the rule's line tells, if it tells one.
-fn name_place(fault: NetFault) -> Option<u64>
+/// The offset at which the name stands that the line of a netlist's rule tells, if it tells one.
+pub fn name_place(fault: NetFault) -> Option<u64>
     ensures { result ≡ name_place fault }
 {
     match fault {

@@ -46,32 +46,32 @@ module _ (m : MemoryMap) (temps : ℕ) where
 
     told_job : (Is : JobModel → Type 0) → ((t : Bool) (a b : JobModel) → StandsFor m.word t a b → Is a → Is (job_of_told t b)) → (number : ℕ) → HasJob own number Is → HasJob (jobs_of_told turned new) number Is
     told_job Is kept number h =
-        let at = there number h.work h.at in
+        let at = there number h.job h.at in
         record {
-          work = job_of_told (turned number) (get_or new number h.work);
+          job = job_of_told (turned number) (get_or new number h.job);
           at = told_there turned new number ∙ ap (option_map (job_of_told (turned number))) at;
-          is = kept (turned number) h.work (get_or new number h.work) (r.each number h.work (get_or new number h.work) h.at at) h.is;
+          is = kept (turned number) h.job (get_or new number h.job) (r.each number h.job (get_or new number h.job) h.at at) h.is;
         }
 
     mutual
       stmt_told : (a : StmtModel) (tree : ℕ) → DoStmt m temps vars own tree a → DoStmt m temps vars (jobs_of_told turned new) tree a
       stmt_told (assign place e) tree d = told_job _ (does_kept _ _) tree d
-      stmt_told (choice test taken other) tree d = (told_job _ (tells_kept vars test) tree d.0, acts_told taken (tree + 1) d.1, else_told other (tree + 1 + statements_in taken) d.2)
-      stmt_told (while test body) tree d = (told_job _ (tells_kept vars test) tree d.0, acts_told body (tree + 1) d.1)
+      stmt_told (choice test taken other) tree d = (told_job _ (tells_kept vars test) tree d.0, stmts_told taken (tree + 1) d.1, else_told other (tree + 1 + statements_in taken) d.2)
+      stmt_told (while test body) tree d = (told_job _ (tells_kept vars test) tree d.0, stmts_told body (tree + 1) d.1)
       stmt_told (count counter at from to body) tree d = (
         told_job _ (does_kept _ _) tree d.0,
         told_job _ (tells_kept vars _) (tree + 1) d.1,
-        acts_told body (tree + 2) d.2,
+        stmts_told body (tree + 2) d.2,
         told_job _ (does_kept _ _) (tree + 2 + statements_in body) d.3,
       )
 
-      acts_told : (list : StmtsModel) (tree : ℕ) → DoStmts m temps vars own tree list → DoStmts m temps vars (jobs_of_told turned new) tree list
-      acts_told no_acts tree d = tt
-      acts_told (act a rest) tree d = (stmt_told a tree d.0, acts_told rest (tree + statements a) d.1)
+      stmts_told : (list : StmtsModel) (tree : ℕ) → DoStmts m temps vars own tree list → DoStmts m temps vars (jobs_of_told turned new) tree list
+      stmts_told no_acts tree d = tt
+      stmts_told (act a rest) tree d = (stmt_told a tree d.0, stmts_told rest (tree + statements a) d.1)
 
       else_told : (o : ElseModel) (tree : ℕ) → DoElse m temps vars own tree o → DoElse m temps vars (jobs_of_told turned new) tree o
       else_told without tree d = tt
-      else_told (otherwise body) tree d = acts_told body tree d
+      else_told (otherwise body) tree d = stmts_told body tree d
 
 pub program_told : (m : MemoryMap) (temps : ℕ) (l : ProgramModel) (turned : Turns) (own new : List JobModel) → AreRespelled m.word turned own new → DoProgram m temps l own → DoProgram m temps l (jobs_of_told turned new)
-program_told m temps l turned own new r d = acts_told m temps l.vars turned own new r (stmts_of l.body) 0 d
+program_told m temps l turned own new r d = stmts_told m temps l.vars turned own new r (stmts_of l.body) 0 d

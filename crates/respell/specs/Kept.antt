@@ -13,15 +13,15 @@ use Rattle.respell.specs.declared.jobs.Respelled.{Respelled}
 use Rattle.respell.specs.declared.jobs.Respelled.TheVariants.{Kept, Changed}
 
 -- the job has a plan of this cost
-pub record HasCost (stock : ℕ → StockModel) (Usable : ℕ → Type 0) (work : JobModel) (cost : ℕ) : Type 0 where
+pub record HasCost (stock : ℕ → StockModel) (Usable : ℕ → Type 0) (job : JobModel) (cost : ℕ) : Type 0 where
   pub planned : PlanModel
-  pub is : IsPlanned stock Usable work.destination work.trees planned
-  pub costs : cost ≡ mode_cost planned.mode work.destination planned.choice.plan
+  pub is : IsPlanned stock Usable job.destination job.trees planned
+  pub costs : cost ≡ mode_cost planned.mode job.destination planned.choice.cover
 
 -- what a job costs in its mode, or that it has no plan
 abbrev pub IsPrice : (ℕ → StockModel) → (ℕ → Type 0) → JobModel → Option ℕ → Type 0
-IsPrice stock Usable work (Some cost) = HasCost stock Usable work cost
-IsPrice stock Usable work None = HasNoPlan stock Usable work.destination work.trees
+IsPrice stock Usable job (Some cost) = HasCost stock Usable job cost
+IsPrice stock Usable job None = HasNoPlan stock Usable job.destination job.trees
 
 -- a job in place of another: respelled, with temporary cells for its trees, which are not too large,
 -- and with a plan that costs less than any of the other's

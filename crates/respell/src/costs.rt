@@ -1,7 +1,7 @@
 //! The least costs of classes by the forms, as far as the search knows them. What waits where is
 //! left to `cover`, so these costs only choose.
 
-use crate::index::Index;
+use crate::index::{Graph, Index};
 use crate::survey::Kind;
 use form_model::{Form, Goal};
 use net_model::Expr;
@@ -9,11 +9,10 @@ use rec_bits::NoMemory;
 use std::alloc::Global;
 use sym_expr::Node;
 use tree_grammar::{expr_width, fits_field, is_field_shape};
-use tree_laws::Classes;
 
 /// Where the value of a class is: in a register, in the file, or in a temporary cell.
 #[derive(Clone, Copy, PartialEq, Eq)]
-pub enum ClassHome {
+pub(crate) enum ClassHome {
     Register(u32),
     File,
     Cell,
@@ -43,22 +42,23 @@ const NONE: u64 = u64::MAX;
 
 /// The least cost of a value in its place, and the form that leaves it there.
 #[derive(Clone, Copy)]
-pub struct Least {
+pub(crate) struct Least {
     pub cost: u64,
     pub form: usize,
 }
 
 /// A job whose trees are listed.
 #[derive(Clone, Copy)]
-pub enum Listed {
+pub(crate) enum Listed {
     Cell { value: u64, address: u32 },
     Store { value: u64, address: u64 },
     Test { value: u64, opposite: u64 },
 }
 
-/// The form at the root of a job, and the classes that it covers.
+/// The form at the root of a job, what the job costs with it, and the classes that it covers.
 #[derive(Clone, Copy)]
-pub struct Root {
+pub(crate) struct Root {
+    pub cost: u64,
     pub form: usize,
     pub value: u64,
     /// The class of a store's address.
@@ -69,29 +69,24 @@ pub struct Root {
 
 /// For each class and place the least cost.
 #[derive(Drop)]
-pub struct Costs {
+pub(crate) struct Costs {
     rows: Vec<[Least; PLACES]>,
 }
 
 impl Costs {
-    /// The least costs of a table's classes.
-    pub fn new(
-        alloc: Global,
-        table: &Classes,
-        index: &Index,
-        forms: &[Form],
-    ) -> Result<Costs, NoMemory> {
+    /// The least costs of a table's classes by these forms.
+    pub(crate) fn new(alloc: Global, graph: Graph<'_>, forms: &[Form]) -> Result<Costs, NoMemory> {
         let none = Least {
             cost: NONE,
             form: 0,
         };
         let mut rows = Vec::new(alloc);
-        for _ in 0..table.len() {
+        for _ in 0..graph.table.len() {
             rows.push([none; PLACES])?;
         }
         let mut costs = Costs { rows };
         for _ in 0..SWEEPS {
-            if !costs.sweep(table, index, forms) {
+            if !costs.sweep(graph, forms) {
                 break;
             }
         }
@@ -99,7 +94,7 @@ impl Costs {
     }
 
     /// The least cost of a class in a place, and the form that leaves it there.
-    pub fn least(&self, class: u64, place: ClassHome) -> Option<Least> {
+    pub(crate) fn least(&self, class: u64, place: ClassHome) -> Option<Least> {
         let row = self.rows.get(class as usize)?;
         let least = *row.get(place.slot()?)?;
         if least.cost == NONE {
@@ -111,18 +106,18 @@ impl Costs {
 
     // Goes through all forms once, each at the classes that have a node of its kind. Whether some
     // cost became less.
-    fn sweep(&mut self, table: &Classes, index: &Index, forms: &[Form]) -> bool {
+    fn sweep(&mut self, graph: Graph<'_>, forms: &[Form]) -> bool {
         let mut changed = false;
         for (place, form) in forms.iter().enumerate() {
             match Kind::of_expr(&form.value) {
                 Some(Kind::Read) | None => {
-                    for class in index.heads() {
-                        changed |= self.try_form(table, index, *class, place, form);
+                    for class in graph.index.heads() {
+                        changed |= self.try_form(graph, *class, place, form);
                     }
                 }
                 Some(kind) => {
-                    for member in index.of_kind(kind) {
-                        changed |= self.try_form(table, index, member.class, place, form);
+                    for member in graph.index.of_kind(kind) {
+                        changed |= self.try_form(graph, member.class, place, form);
                     }
                 }
             }
@@ -131,18 +126,11 @@ impl Costs {
     }
 
     // Takes a form for a class where that is less.
-    fn try_form(
-        &mut self,
-        table: &Classes,
-        index: &Index,
-        class: u64,
-        place: usize,
-        form: &Form,
-    ) -> bool {
+    fn try_form(&mut self, graph: Graph<'_>, class: u64, place: usize, form: &Form) -> bool {
         let Some(to) = destination(form).and_then(ClassHome::slot) else {
             return false;
         };
-        let cost = self.fit(table, index, &form.value, class).saturating_add(1);
+        let cost = self.fit(graph, &form.value, class).saturating_add(1);
         let Some(row) = self.rows.get_mut(class as usize) else {
             return false;
         };
@@ -157,28 +145,28 @@ impl Costs {
 
     /// What an expression of a form costs where it is to have the value of a class.
     #[cycle(fit)]
-    pub fn fit(&self, table: &Classes, index: &Index, e: &Expr, class: u64) -> u64 {
-        let head = table.head(class);
+    pub(crate) fn fit(&self, graph: Graph<'_>, e: &Expr, class: u64) -> u64 {
+        let head = graph.table.head(class);
         if is_field_shape(e) {
-            return number_cost(index, e, head);
+            return number_cost(graph.index, e, head);
         }
         match e {
             Expr::Reg(id, width) => {
-                if table.width(head) == Some(*width) {
+                if graph.table.width(head) == Some(*width) {
                     self.waiting(head, ClassHome::Register(*id))
                 } else {
                     NONE
                 }
             }
             Expr::Cell(_, width) => {
-                if table.width(head) == Some(*width) {
+                if graph.table.width(head) == Some(*width) {
                     self.waiting(head, ClassHome::File)
                 } else {
                     NONE
                 }
             }
-            Expr::Read(addr, width) => self.read(table, index, addr, *width, head),
-            _ => self.operator(table, index, e, head),
+            Expr::Read(addr, width) => self.read(graph, addr, *width, head),
+            _ => self.operator(graph, e, head),
         }
     }
 
@@ -191,15 +179,15 @@ impl Costs {
 
     // A read: a cell of the class, or a temporary cell that its value is stored in.
     #[cycle(fit)]
-    fn read(&self, table: &Classes, index: &Index, addr: &Expr, width: u8, head: u64) -> u64 {
+    fn read(&self, graph: Graph<'_>, addr: &Expr, width: u8, head: u64) -> u64 {
         let mut best = NONE;
-        if is_field_shape(addr) && table.width(head) == Some(width) {
+        if is_field_shape(addr) && graph.table.width(head) == Some(width) {
             best = self.waiting(head, ClassHome::Cell);
         }
-        for node in index.nodes(head) {
+        for node in graph.index.nodes(head) {
             if let Node::Read(of, w) = *node {
                 if w == width {
-                    best = best.min(self.fit(table, index, addr, of));
+                    best = best.min(self.fit(graph, addr, of));
                 }
             }
         }
@@ -208,92 +196,73 @@ impl Costs {
 
     // An operator: the node of the class that costs least.
     #[cycle(fit)]
-    fn operator(&self, table: &Classes, index: &Index, e: &Expr, head: u64) -> u64 {
+    fn operator(&self, graph: Graph<'_>, e: &Expr, head: u64) -> u64 {
         let mut best = NONE;
-        for node in index.nodes(head) {
-            best = best.min(self.at_node(table, index, e, *node));
+        for node in graph.index.nodes(head) {
+            best = best.min(self.at_node(graph, e, *node));
         }
         best
     }
 
     /// What an operator's expression costs at a node.
     #[cycle(fit)]
-    pub fn at_node(&self, table: &Classes, index: &Index, e: &Expr, node: Node) -> u64 {
+    pub(crate) fn at_node(&self, graph: Graph<'_>, e: &Expr, node: Node) -> u64 {
         match (e, node) {
-            (Expr::Un(op, a), Node::Un(other, x)) if *op == other => self.fit(table, index, a, x),
+            (Expr::Un(op, a), Node::Un(other, x)) if *op == other => self.fit(graph, a, x),
             (Expr::Bin(op, a, b), Node::Bin(other, x, y)) if *op == other => self
-                .fit(table, index, a, x)
-                .saturating_add(self.fit(table, index, b, y)),
+                .fit(graph, a, x)
+                .saturating_add(self.fit(graph, b, y)),
             (Expr::Slice(a, hi, lo), Node::Slice(x, high, low)) if *hi == high && *lo == low => {
-                self.fit(table, index, a, x)
+                self.fit(graph, a, x)
             }
-            (Expr::Zext(a, w), Node::Zext(x, width)) if *w == width => {
-                self.fit(table, index, a, x)
-            }
-            (Expr::Sext(a, w), Node::Sext(x, width)) if *w == width => {
-                self.fit(table, index, a, x)
-            }
+            (Expr::Zext(a, w), Node::Zext(x, width)) if *w == width => self.fit(graph, a, x),
+            (Expr::Sext(a, w), Node::Sext(x, width)) if *w == width => self.fit(graph, a, x),
             _ => NONE,
         }
     }
 
-    /// The form at the root of a job that costs least, with that cost.
-    pub fn root(
-        &self,
-        table: &Classes,
-        index: &Index,
-        forms: &[Form],
-        job: Listed,
-    ) -> Option<(u64, Root)> {
+    /// The form at the root of a job that costs least.
+    pub(crate) fn root(&self, graph: Graph<'_>, forms: &[Form], job: Listed) -> Option<Root> {
         let mut best = NONE;
         let mut root = None;
         for (place, form) in forms.iter().enumerate() {
             for turned in [false, true] {
-                let (cost, tried) = self.root_at(table, index, form, place, job, turned);
-                if cost < best {
-                    best = cost;
-                    root = Some((cost, tried));
+                let tried = self.root_at(graph, form, place, job, turned);
+                if tried.cost < best {
+                    best = tried.cost;
+                    root = Some(tried);
                 }
             }
         }
         root
     }
 
-    // What a form costs at the root of a job, or of the opposite test.
+    // A form at the root of a job, or of the opposite test.
     fn root_at(
         &self,
-        table: &Classes,
-        index: &Index,
+        graph: Graph<'_>,
         form: &Form,
         place: usize,
         job: Listed,
         turned: bool,
-    ) -> (u64, Root) {
+    ) -> Root {
         let (value, address) = match job {
             Listed::Cell { value, .. } => (value, None),
             Listed::Store { value, address } => (value, Some(address)),
             Listed::Test { value, opposite } => (if turned { opposite } else { value }, None),
         };
-        let root = Root {
+        let at = self.target(graph, form, job, turned);
+        Root {
+            cost: at.saturating_add(self.fit(graph, &form.value, value)),
             form: place,
             value,
             address,
             turned,
-        };
-        let at = self.target(table, index, form, job, turned);
-        let cost = at.saturating_add(self.fit(table, index, &form.value, value));
-        (cost, root)
+        }
     }
 
     // What it costs that a form goes to a job's aim.
-    fn target(
-        &self,
-        table: &Classes,
-        index: &Index,
-        form: &Form,
-        job: Listed,
-        turned: bool,
-    ) -> u64 {
+    fn target(&self, graph: Graph<'_>, form: &Form, job: Listed, turned: bool) -> u64 {
         match (&form.goal, &form.addr, job) {
             (Goal::Memory, Some(addr), Listed::Cell { address, .. }) if !turned => {
                 match u8::try_from(expr_width(addr)) {
@@ -302,7 +271,7 @@ impl Costs {
                 }
             }
             (Goal::Memory, Some(addr), Listed::Store { address, .. }) if !turned => {
-                self.fit(table, index, addr, address).saturating_add(1)
+                self.fit(graph, addr, address).saturating_add(1)
             }
             (Goal::Branch { .. }, _, Listed::Test { .. }) => 1,
             _ => NONE,

@@ -1,6 +1,6 @@
 //! A job in another spelling.
 
-ghost use Rattle.std.specs.Prelude.{◌≡◌, ◌+◌, ◌↔◌, ℕ, Option, Some, IfOk, IfSome, IsTrue, length, slice_get};
+ghost use Rattle.std.specs.Prelude.{◌≡◌, ◌+◌, ◌↔◌, ◌∷◌, [], Some, IfOk, IfSome, IsTrue, length, slice_get};
 ghost use Rattle.rec_bits.specs.Operators.{IsWidth};
 ghost use Rattle.form_model.specs.Forms.{aim_destination};
 ghost use Rattle.form_model.specs.Trees.{model_of_tree};
@@ -13,16 +13,17 @@ ghost use Rattle.tree_laws.specs.Classes.{cell_bits};
 ghost use Rattle.tree_laws.specs.Equal.{AreEqual};
 ghost use Rattle.respell.specs.Kept.{IsAnswer, IsPrice};
 ghost use Rattle.respell.specs.Respelled.{IsRespelled, IsSameDestination, IsSpelled, ReadsNoMore};
-ghost use Rattle.respell.specs.Inner.Choosing.{IsBest, IsCheaper, IsFound, IsLess};
+ghost use Rattle.respell.specs.Inner.Choosing.{IsBest, IsCheaper, IsFound, IsLess, IsNoMore};
 
 use crate::costs::{Costs, Listed, Root};
+use crate::index::{Graph, Index};
 use crate::needs::{Limits, check_small};
 use crate::picks::Picks;
 use crate::reads::reads_no_more;
 use crate::search::Search;
 use crate::survey::Survey;
 use cover::CoverFault;
-use form_model::{Aim, Forms, Job, Tree};
+use form_model::{Aim, Form, Forms, Job, Tree};
 use mode_set::{Plan, plan_job};
 use rec_bits::{NoMemory, Op1};
 use std::alloc::Global;
@@ -51,6 +52,38 @@ struct Spelled {
 struct OtherTree {
     tree: Tree,
     turned: bool,
+}
+
+// A job as it is, with its first tree, and what it costs where it has a plan.
+#[derive(Clone, Copy)]
+struct OwnSpelling<'a> {
+    job: &'a Job,
+    tree: &'a Tree,
+    cost: Option<u64>,
+}
+
+// What a job costs by the forms of a mode: the costs over classes, and the form at its root.
+#[derive(Drop)]
+struct ModeCosts<'a> {
+    forms: &'a [Form],
+    costs: Costs,
+    root: Root,
+}
+
+// What a job costs after a round, over the classes of a table, by the forms of each mode that have
+// it; and whether the round changed the table.
+#[derive(Drop)]
+struct Outlook<'a> {
+    changed: bool,
+    index: Index,
+    modes: Vec<ModeCosts<'a>>,
+}
+
+impl<'a> Outlook<'a> {
+    // The least cost, as far as is known.
+    fn cost(&self) -> Option<u64> {
+        self.modes.iter().map(|mode| mode.root.cost).min()
+    }
 }
 
 // The best spelling that is known, and what is to be undercut: its cost, or that of the job's own.
@@ -144,114 +177,165 @@ impl<'a> Speller<'a> {
             IsFound (stock_at self.now.forms.now self.now.limits.temps) (UsableAt self.now.usable.now)
             self.now.limits.cell self.now.limits.temps self.now.limits.nodes own spelled.turned (model_of_job job.now) (model_of_job spelled.job))) }
     {
-        let Some(first) = job.trees.get(0) else {
+        let Some(tree) = job.trees.get(0) else {
             return Ok(None);
+        };
+        let own = OwnSpelling {
+            job,
+            tree,
+            cost: own,
         };
         let mut search = Search::new(alloc, self.limits.cell, &self.survey);
-        let Some(listed) = list_job(&mut search.table, job, first)? else {
-            return Ok(None);
-        };
-        self.grow(alloc, &mut search, listed)?;
-        self.cheapest(alloc, &search, job, first, listed, own)
+        match self.explore(alloc, &mut search, own)? {
+            Some(outlook) => self.cheapest(alloc, &search.table, &outlook, own),
+            None => Ok(None),
+        }
+    }
+
+    // Lists a job and applies laws. What it costs then; None where it can't be listed.
+    fn explore(
+        &self,
+        alloc: Global,
+        search: &mut Search<'_>,
+        own: OwnSpelling<'_>,
+    ) -> Result<Option<Outlook<'a>>, NoMemory>
+        ensures { cell_bits search.new.table ≡ cell_bits search.old.table }
+    {
+        match list_job(&mut search.table, own.job, own.tree)? {
+            Some(listed) => Ok(Some(self.grow(alloc, search, listed)?)),
+            None => Ok(None),
+        }
     }
 
     // Applies laws in rounds, as long as that changes the table and what the job costs, and there is
-    // room.
-    fn grow(&self, alloc: Global, search: &mut Search, listed: Listed) -> Result<(), NoMemory>
-        ensures { cell_bits search.new.table ≡ cell_bits search.old.table }
-    {
-        let mut known = None;
-        for _ in 0..ROUNDS {
-            let changed = search.round(alloc)?;
-            let cost = self.outlook(alloc, search, listed)?;
-            let stands = cost.is_some() && cost == known;
-            if !changed || stands || search.is_full() {
-                return Ok(());
-            }
-            known = cost;
-        }
-        Ok(())
-    }
-
-    // What a job costs over the classes of a table, as far as is known.
-    fn outlook(
+    // room. What it costs in the end.
+    fn grow(
         &self,
         alloc: Global,
-        search: &Search,
+        search: &mut Search<'_>,
         listed: Listed,
-    ) -> Result<Option<u64>, NoMemory> {
+    ) -> Result<Outlook<'a>, NoMemory>
+        ensures { cell_bits search.new.table ≡ cell_bits search.old.table }
+    {
+        let mut outlook = self.after_round(alloc, search, listed)?;
+        for _ in 1..ROUNDS {
+            if !outlook.changed || search.is_full() {
+                return Ok(outlook);
+            }
+            let known = outlook.cost();
+            outlook = self.after_round(alloc, search, listed)?;
+            if known.is_some() && outlook.cost() == known {
+                return Ok(outlook);
+            }
+        }
+        Ok(outlook)
+    }
+
+    // Applies laws in a round. What the job costs then, as far as is known.
+    fn after_round(
+        &self,
+        alloc: Global,
+        search: &mut Search<'_>,
+        listed: Listed,
+    ) -> Result<Outlook<'a>, NoMemory>
+        ensures { cell_bits search.new.table ≡ cell_bits search.old.table }
+    {
+        let changed = search.round(alloc)?;
         let index = search.index(alloc)?;
-        let mut least = None;
+        let graph = Graph {
+            table: &search.table,
+            index: &index,
+        };
+        let modes = self.mode_costs(alloc, graph, listed)?;
+        Ok(Outlook {
+            changed,
+            index,
+            modes,
+        })
+    }
+
+    // What a job costs by the forms of each mode that can be used, where they have it.
+    fn mode_costs(
+        &self,
+        alloc: Global,
+        graph: Graph<'_>,
+        listed: Listed,
+    ) -> Result<Vec<ModeCosts<'a>>, NoMemory> {
+        let mut modes = Vec::new(alloc);
         for (forms, can) in self.forms.iter().zip(self.usable) {
             if *can {
-                let costs = Costs::new(alloc, &search.table, &index, &forms.list)?;
-                if let Some((cost, _)) = costs.root(&search.table, &index, &forms.list, listed) {
-                    if is_less(cost, least) {
-                        least = Some(cost);
-                    }
+                let forms = forms.list.as_slice();
+                let costs = Costs::new(alloc, graph, forms)?;
+                if let Some(root) = costs.root(graph, forms, listed) {
+                    modes.push(ModeCosts { forms, costs, root })?;
                 }
             }
         }
-        Ok(least)
+        Ok(modes)
     }
 
     // The spelling of least cost by the forms of a mode, where one costs less than the job's own.
-    fn cheapest(
+    fn cheapest<'x>(
         &self,
         alloc: Global,
-        search: &Search,
-        job: &Job,
-        first: &Tree,
-        listed: Listed,
-        own: Option<u64>,
+        table: &'x Classes,
+        outlook: &'x Outlook<'x>,
+        own: OwnSpelling<'_>,
     ) -> Result<Option<Spelled>, NoMemory>
         requires modes { length self.now.usable.now ≡ length self.now.forms.now }
-        requires cell { cell_bits search.now.table ≡ self.now.limits.cell }
-        requires first { slice_get (trees_of job.now.trees.items) 0 ≡ Some (model_of_tree first.now) }
+        requires cell { cell_bits table.now ≡ self.now.limits.cell }
+        requires first { slice_get (trees_of own.job.now.trees.items) 0 ≡ Some (model_of_tree own.tree.now) }
         ensures { IfOk result (λ found. IfSome found (λ spelled.
             IsFound (stock_at self.now.forms.now self.now.limits.temps) (UsableAt self.now.usable.now)
-            self.now.limits.cell self.now.limits.temps self.now.limits.nodes own spelled.turned (model_of_job job.now) (model_of_job spelled.job))) }
+            self.now.limits.cell self.now.limits.temps self.now.limits.nodes own.entry.cost spelled.turned
+            (model_of_job own.entry.job.now) (model_of_job spelled.job))) }
     {
         let mut best = Best {
-            cost: own,
+            cost: own.cost,
             spelled: None,
         };
-        for (forms, can) in self.forms.iter().zip(self.usable) {
-            if *can {
-                best = self.better(alloc, search, forms, job, first, listed, best)?;
+        for mode in &outlook.modes {
+            let picks = Picks {
+                graph: Graph {
+                    table,
+                    index: &outlook.index,
+                },
+                costs: &mode.costs,
+                forms: mode.forms,
+            };
+            if let Some(other) = self.better(alloc, &picks, mode.root, own, best.cost)? {
+                best = other;
             }
         }
         Ok(best.spelled)
     }
 
-    // The best that is known, or the spelling by the forms of a mode where that costs less.
+    // The spelling by the forms of a mode, where it costs less than what is known.
     fn better(
         &self,
         alloc: Global,
-        search: &Search,
-        forms: &Forms,
-        job: &Job,
-        first: &Tree,
-        listed: Listed,
-        best: Best,
-    ) -> Result<Best, NoMemory>
+        picks: &Picks<'_>,
+        root: Root,
+        own: OwnSpelling<'_>,
+        known: Option<u64>,
+    ) -> Result<Option<Best>, NoMemory>
         requires modes { length self.now.usable.now ≡ length self.now.forms.now }
-        requires cell { cell_bits search.now.table ≡ self.now.limits.cell }
-        requires first { slice_get (trees_of job.now.trees.items) 0 ≡ Some (model_of_tree first.now) }
-        ensures { (own : Option ℕ) → IsBest (stock_at self.now.forms.now self.now.limits.temps) (UsableAt self.now.usable.now)
-            self.now.limits.cell self.now.limits.temps self.now.limits.nodes own (model_of_job job.now) best →
-            IfOk result (IsBest (stock_at self.now.forms.now self.now.limits.temps) (UsableAt self.now.usable.now)
-            self.now.limits.cell self.now.limits.temps self.now.limits.nodes own (model_of_job job.now)) }
+        requires cell { cell_bits picks.now.graph.table.now ≡ self.now.limits.cell }
+        requires first { slice_get (trees_of own.job.now.trees.items) 0 ≡ Some (model_of_tree own.tree.now) }
+        requires known { IsNoMore known own.cost }
+        ensures { IfOk result (λ found. IfSome found (IsBest (stock_at self.now.forms.now self.now.limits.temps)
+            (UsableAt self.now.usable.now) self.now.limits.cell self.now.limits.temps self.now.limits.nodes own.entry.cost
+            (model_of_job own.entry.job.now))) }
     {
-        let Some(other) = picked(alloc, search, forms, self.limits, job, first, listed)? else {
-            return Ok(best);
+        let Some(other) = picked(alloc, picks, self.limits, root, own)? else {
+            return Ok(None);
         };
-        match self.cheaper(alloc, &other.job, best.cost)? {
-            Some(cost) => Ok(Best {
+        match self.cheaper(alloc, &other.job, known)? {
+            Some(cost) => Ok(Some(Best {
                 cost: Some(cost),
                 spelled: Some(other),
-            }),
-            None => Ok(best),
+            })),
+            None => Ok(None),
         }
     }
 
@@ -317,36 +401,21 @@ fn list_job(table: &mut Classes, job: &Job, first: &Tree) -> Result<Option<Liste
     }
 }
 
-// The job by the trees that cost least over the classes of a table, by the forms of a mode.
+// The job by the trees that are picked, where there are some.
 fn picked(
     alloc: Global,
-    search: &Search,
-    forms: &Forms,
+    picks: &Picks<'_>,
     limits: Limits,
-    job: &Job,
-    first: &Tree,
-    listed: Listed,
+    root: Root,
+    own: OwnSpelling<'_>,
 ) -> Result<Option<Spelled>, NoMemory>
-    requires { slice_get (trees_of job.now.trees.items) 0 ≡ Some (model_of_tree first.now) }
+    requires { slice_get (trees_of own.job.now.trees.items) 0 ≡ Some (model_of_tree own.tree.now) }
     ensures respelled { IfOk result (λ found. IfSome found (λ spelled.
-        IsRespelled (cell_bits search.now.table) spelled.turned (model_of_job job.now) (model_of_job spelled.job))) }
+        IsRespelled (cell_bits picks.now.graph.table.now) spelled.turned (model_of_job own.entry.job.now) (model_of_job spelled.job))) }
     ensures small { IfOk result (λ found. IfSome found (λ spelled.
         IsSmall limits.cell limits.temps limits.nodes (model_of_job spelled.job))) }
 {
-    let table = &search.table;
-    let index = search.index(alloc)?;
-    let costs = Costs::new(alloc, table, &index, &forms.list)?;
-    let Some((_, root)) = costs.root(table, &index, &forms.list, listed) else {
-        return Ok(None);
-    };
-    let picks = Picks {
-        table,
-        index: &index,
-        costs: &costs,
-        forms: &forms.list,
-        limits,
-    };
-    match spelled_job(alloc, &picks, job, first, root) {
+    match spelled_job(alloc, picks, limits, root, own) {
         Ok(spelled) => Ok(Some(spelled)),
         Err(NoTree::Unlisted) => Ok(None),
         Err(NoTree::Memory) => Err(NoMemory),
@@ -356,58 +425,66 @@ fn picked(
 // The job by the trees whose nodes are picked for the form at its root.
 fn spelled_job(
     alloc: Global,
-    picks: &Picks,
-    job: &Job,
-    first: &Tree,
+    picks: &Picks<'_>,
+    limits: Limits,
     root: Root,
+    own: OwnSpelling<'_>,
 ) -> Result<Spelled, NoTree>
-    requires { slice_get (trees_of job.now.trees.items) 0 ≡ Some (model_of_tree first.now) }
+    requires { slice_get (trees_of own.job.now.trees.items) 0 ≡ Some (model_of_tree own.tree.now) }
     ensures respelled { IfOk result (λ spelled.
-        IsRespelled (cell_bits picks.now.table.now) spelled.turned (model_of_job job.now) (model_of_job spelled.job)) }
+        IsRespelled (cell_bits picks.now.graph.table.now) spelled.turned (model_of_job own.entry.job.now) (model_of_job spelled.job)) }
     ensures small { IfOk result (λ spelled.
-        IsSmall picks.now.limits.cell picks.now.limits.temps picks.now.limits.nodes (model_of_job spelled.job)) }
+        IsSmall limits.cell limits.temps limits.nodes (model_of_job spelled.job)) }
 {
-    let aim = spelled_aim(alloc, picks, &job.aim, root)?;
-    let other = spelled_tree(alloc, picks, &job.aim, first, root)?;
-    check_small(&aim, &other.tree, picks.limits)?;
+    let aim = spelled_aim(alloc, picks, &own.job.aim, root)?;
+    let other = spelled_tree(alloc, picks, root, own)?;
+    check_small(&aim, &other.tree, limits)?;
     let turned = other.turned;
-    let mut trees = Vec::new(alloc);
-    trees.push(other.tree)?;
+    let trees = one_tree(alloc, other.tree)?;
     Ok(Spelled {
         job: Job { aim, trees },
         turned,
     })
 }
 
+// The list of a tree alone.
+fn one_tree(alloc: Global, tree: Tree) -> Result<Vec<Tree>, NoTree>
+    ensures { IfOk result (λ trees. trees.items ≡ tree ∷ []) }
+{
+    let mut trees = Vec::new(alloc);
+    trees.push(tree)?;
+    Ok(trees)
+}
+
 // The tree that is equal to a job's first, or for a test the opposite that is asked for.
 fn spelled_tree(
     alloc: Global,
-    picks: &Picks,
-    aim: &Aim,
-    first: &Tree,
+    picks: &Picks<'_>,
     root: Root,
+    own: OwnSpelling<'_>,
 ) -> Result<OtherTree, NoTree>
-    ensures spelled { IfOk result (λ other. IsSpelled (cell_bits picks.now.table.now) other.turned
-        (aim_destination aim.now) (model_of_tree first.now) (model_of_tree other.tree)) }
-    ensures reads { IfOk result (λ other. ReadsNoMore (cell_bits picks.now.table.now)
-        (model_of_tree first.now) (model_of_tree other.tree)) }
+    ensures spelled { IfOk result (λ other. IsSpelled (cell_bits picks.now.graph.table.now) other.turned
+        (aim_destination own.entry.job.now.aim) (model_of_tree own.entry.tree.now) (model_of_tree other.tree)) }
+    ensures reads { IfOk result (λ other. ReadsNoMore (cell_bits picks.now.graph.table.now)
+        (model_of_tree own.entry.tree.now) (model_of_tree other.tree)) }
 {
+    let table = picks.graph.table;
     let nodes = picks.value(alloc, root)?;
-    let turned = matches!(aim, Aim::Test) && root.turned;
+    let turned = matches!(own.job.aim, Aim::Test) && root.turned;
     let tree = if turned {
-        picks.table.opposite_tree(alloc, first, &nodes)?
+        table.opposite_tree(alloc, own.tree, &nodes)?
     } else {
-        picks.table.equal_tree(alloc, first, &nodes)?
+        table.equal_tree(alloc, own.tree, &nodes)?
     };
-    if !reads_no_more(picks.table, first, &tree) {
+    if !reads_no_more(table, own.tree, &tree) {
         return Err(NoTree::Unlisted);
     }
     Ok(OtherTree { tree, turned })
 }
 
 // The aim, where a store's address is an equal tree.
-fn spelled_aim(alloc: Global, picks: &Picks, aim: &Aim, root: Root) -> Result<Aim, NoTree>
-    ensures { IfOk result (λ other. IsSameDestination (cell_bits picks.now.table.now)
+fn spelled_aim(alloc: Global, picks: &Picks<'_>, aim: &Aim, root: Root) -> Result<Aim, NoTree>
+    ensures { IfOk result (λ other. IsSameDestination (cell_bits picks.now.graph.table.now)
         (aim_destination aim.now) (aim_destination other)) }
 {
     match aim {
@@ -419,15 +496,21 @@ fn spelled_aim(alloc: Global, picks: &Picks, aim: &Aim, root: Root) -> Result<Ai
 }
 
 // An address that is equal to a store's.
-fn spelled_address(alloc: Global, picks: &Picks, address: &Tree, root: Root) -> Result<Tree, NoTree>
-    ensures equal { IfOk result (λ other. AreEqual (cell_bits picks.now.table.now)
+fn spelled_address(
+    alloc: Global,
+    picks: &Picks<'_>,
+    address: &Tree,
+    root: Root,
+) -> Result<Tree, NoTree>
+    ensures equal { IfOk result (λ other. AreEqual (cell_bits picks.now.graph.table.now)
         (model_of_tree address.now) (model_of_tree other)) }
-    ensures reads { IfOk result (λ other. ReadsNoMore (cell_bits picks.now.table.now)
+    ensures reads { IfOk result (λ other. ReadsNoMore (cell_bits picks.now.graph.table.now)
         (model_of_tree address.now) (model_of_tree other)) }
 {
     let nodes = picks.address(alloc, root)?;
-    let other = picks.table.equal_tree(alloc, address, &nodes)?;
-    if !reads_no_more(picks.table, address, &other) {
+    let table = picks.graph.table;
+    let other = table.equal_tree(alloc, address, &nodes)?;
+    if !reads_no_more(table, address, &other) {
         return Err(NoTree::Unlisted);
     }
     Ok(other)

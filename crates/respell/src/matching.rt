@@ -1,6 +1,6 @@
 //! Where a side of a rule stands in a table.
 
-use crate::index::Index;
+use crate::index::Graph;
 use rec_bits::{NoMemory, mask};
 use std::alloc::Global;
 use sym_expr::Node;
@@ -14,12 +14,19 @@ const NUMBERS: usize = 8;
 
 const WAITING: usize = 16;
 
-/// What is known of a rule's variables, and which parts have still to be found in which classes.
+/// A part of a rule that has to be found in a class.
 #[derive(Clone, Copy)]
-pub struct Partial {
+struct Asked {
+    part: u8,
+    class: u64,
+}
+
+/// What is known of a rule's variables, and which parts have still to be found.
+#[derive(Clone, Copy)]
+struct Partial {
     trees: [Option<u64>; TREES],
     numbers: [Option<u64>; NUMBERS],
-    waiting: [(u8, u64); WAITING],
+    waiting: [Asked; WAITING],
     count: usize,
 }
 
@@ -28,7 +35,7 @@ impl Partial {
         Partial {
             trees: [None; TREES],
             numbers: [None; NUMBERS],
-            waiting: [(0, 0); WAITING],
+            waiting: [Asked { part: 0, class: 0 }; WAITING],
             count: 0,
         }
     }
@@ -36,17 +43,17 @@ impl Partial {
     // With a part that has to be found in a class.
     fn asking(mut self, part: u8, class: u64) -> Option<Partial> {
         let place = self.count;
-        *self.waiting.get_mut(place)? = (part, class);
+        *self.waiting.get_mut(place)? = Asked { part, class };
         self.count = place + 1;
         Some(self)
     }
 
     // With the next part that waits taken out.
-    fn next(mut self) -> Option<(Partial, u8, u64)> {
+    fn next(mut self) -> Option<(Partial, Asked)> {
         let last = self.count.checked_sub(1)?;
-        let (part, class) = *self.waiting.get(last)?;
+        let asked = *self.waiting.get(last)?;
         self.count = last;
-        Some((self, part, class))
+        Some((self, asked))
     }
 
     // With a class for a variable, where it has none yet or this one.
@@ -202,27 +209,29 @@ impl Partial {
         None
     }
 
-    // These values; a variable without one has the greatest number there is, which is no class and
-    // no width, nor a place of a bit.
+    // These values.
     fn choice(&self, alloc: Global) -> Result<Choice, NoMemory> {
-        let mut choice = Choice {
-            classes: Vec::new(alloc),
-            numbers: Vec::new(alloc),
-        };
-        for class in self.trees {
-            choice.classes.push(class.unwrap_or(u64::MAX))?;
-        }
-        for number in self.numbers {
-            choice.numbers.push(number.unwrap_or(u64::MAX))?;
-        }
-        Ok(choice)
+        Ok(Choice {
+            classes: values(alloc, &self.trees)?,
+            numbers: values(alloc, &self.numbers)?,
+        })
     }
+}
+
+// The values of variables; one without has the greatest number there is, which is no class and no
+// width, nor a place of a bit.
+fn values(alloc: Global, known: &[Option<u64>]) -> Result<Vec<u64>, NoMemory> {
+    let mut values = Vec::new(alloc);
+    for value in known {
+        values.push(value.unwrap_or(u64::MAX))?;
+    }
+    Ok(values)
 }
 
 /// What is looked for: a side of a rule, with the widths that are tried for numbers that
 /// nothing gives.
 #[derive(Clone, Copy)]
-pub struct Sought<'a> {
+pub(crate) struct Sought<'a> {
     pub rule: &'a Rule,
     pub side: u8,
     pub widths: &'a [u8],
@@ -230,7 +239,7 @@ pub struct Sought<'a> {
 
 impl<'a> Sought<'a> {
     /// The part at the root of the side.
-    pub fn root(self) -> Option<Part> {
+    pub(crate) fn root(self) -> Option<Part> {
         match self.rule.parts.get(self.side as usize) {
             Some(part) => Some(*part),
             None => None,
@@ -239,31 +248,40 @@ impl<'a> Sought<'a> {
 }
 
 /// The values of a rule's variables at which one of its sides has a node at its root.
-pub fn matches(
+pub(crate) fn matches(
     alloc: Global,
-    table: &Classes,
-    index: &Index,
-    sought: Sought,
+    graph: Graph<'_>,
+    sought: Sought<'_>,
     root: Part,
     node: Node,
 ) -> Result<Vec<Choice>, NoMemory> {
-    let mut open = Vec::new(alloc);
     let mut found = Vec::new(alloc);
     if let Some(first) = Partial::none().at_node(root, node) {
-        open.push(first)?;
-    }
-    for _ in 0..STEPS {
-        let Some(partial) = open.pop() else {
-            return Ok(found);
-        };
-        match partial.next() {
-            Some((rest, part, class)) => {
-                expand(&mut open, table, index, sought.rule, rest, part, class)?;
-            }
-            None => settle(alloc, &mut found, table, sought, partial)?,
-        }
+        complete(alloc, graph, sought, first, &mut found)?;
     }
     Ok(found)
+}
+
+// Adds the values of the matches that a partial one leads to.
+fn complete(
+    alloc: Global,
+    graph: Graph<'_>,
+    sought: Sought<'_>,
+    first: Partial,
+    found: &mut Vec<Choice>,
+) -> Result<(), NoMemory> {
+    let mut open = Vec::new(alloc);
+    open.push(first)?;
+    for _ in 0..STEPS {
+        let Some(partial) = open.pop() else {
+            break;
+        };
+        match partial.next() {
+            Some((rest, asked)) => expand(&mut open, graph, sought.rule, rest, asked)?,
+            None => settle(alloc, found, graph.table, sought, partial)?,
+        }
+    }
+    Ok(())
 }
 
 // Adds the values of a match, or those for each width where one number is open.
@@ -297,21 +315,19 @@ const STEPS: usize = 1000;
 // for itself when the index was made; two of these may have been joined since.
 fn expand(
     open: &mut Vec<Partial>,
-    table: &Classes,
-    index: &Index,
+    graph: Graph<'_>,
     rule: &Rule,
     rest: Partial,
-    part: u8,
-    class: u64,
+    asked: Asked,
 ) -> Result<(), NoMemory> {
-    match rule.parts.get(part as usize) {
+    match rule.parts.get(asked.part as usize) {
         Some(Part::Tree(x)) => {
-            if let Some(next) = rest.with_tree(*x, table.head(class)) {
+            if let Some(next) = rest.with_tree(*x, graph.table.head(asked.class)) {
                 open.push(next)?;
             }
         }
         Some(part) => {
-            for node in index.nodes(class) {
+            for node in graph.index.nodes(asked.class) {
                 if let Some(next) = rest.at_node(*part, *node) {
                     open.push(next)?;
                 }

@@ -24,7 +24,7 @@ pub struct Limits {
 
 /// Nothing where a tree with its aim needs no more than that. A tree that goes to a temporary cell
 /// is no job of a program.
-pub fn check_small(aim: &Aim, tree: &Tree, limits: Limits) -> Result<(), NoTree>
+pub(crate) fn check_small(aim: &Aim, tree: &Tree, limits: Limits) -> Result<(), NoTree>
     ensures { OnOk result (IsSmall limits.cell limits.temps limits.nodes
         (record { destination = aim_destination aim.now; trees = model_of_tree tree.now ∷ [] })) }
 {

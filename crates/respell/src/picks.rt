@@ -1,23 +1,20 @@
 //! The nodes of the trees that cost least, in order.
 
 use crate::costs::{ClassHome, Costs, Root};
-use crate::index::Index;
-use crate::needs::Limits;
+use crate::index::Graph;
 use form_model::Form;
 use net_model::Expr;
 use std::alloc::Global;
 use sym_expr::Node;
 use tree_grammar::is_field_shape;
-use tree_laws::{Classes, NoTree};
+use tree_laws::NoTree;
 
 /// What trees are picked from.
 #[derive(Clone, Copy)]
-pub struct Picks<'a> {
-    pub table: &'a Classes,
-    pub index: &'a Index,
+pub(crate) struct Picks<'a> {
+    pub graph: Graph<'a>,
     pub costs: &'a Costs,
     pub forms: &'a [Form],
-    pub limits: Limits,
 }
 
 /// How many nodes a tree has at most: trees of programs have at most 255.
@@ -32,7 +29,7 @@ struct Asked<'a> {
 
 impl<'a> Picks<'a> {
     /// The nodes of the value of a job.
-    pub fn value(&self, alloc: Global, root: Root) -> Result<Vec<Node>, NoTree> {
+    pub(crate) fn value(&self, alloc: Global, root: Root) -> Result<Vec<Node>, NoTree> {
         let Some(form) = self.forms.get(root.form) else {
             return Err(NoTree::Unlisted);
         };
@@ -46,31 +43,36 @@ impl<'a> Picks<'a> {
     }
 
     /// The nodes of the address of a store.
-    pub fn address(&self, alloc: Global, root: Root) -> Result<Vec<Node>, NoTree> {
+    pub(crate) fn address(&self, alloc: Global, root: Root) -> Result<Vec<Node>, NoTree> {
         let (Some(form), Some(class)) = (self.forms.get(root.form), root.address) else {
             return Err(NoTree::Unlisted);
         };
         match &form.addr {
-            Some(addr) => self.nodes(
-                alloc,
-                Asked {
-                    by: addr,
-                    class: class,
-                },
-            ),
+            Some(addr) => self.nodes(alloc, Asked { by: addr, class }),
             None => Err(NoTree::Unlisted),
         }
     }
 
     // The nodes of what is asked for, a node before its operands.
     fn nodes(&self, alloc: Global, asked: Asked<'a>) -> Result<Vec<Node>, NoTree> {
-        let mut open = Vec::new(alloc);
         let mut nodes = Vec::new(alloc);
+        self.put_all(alloc, &mut nodes, asked)?;
+        Ok(nodes)
+    }
+
+    // Puts the nodes of what is asked for.
+    fn put_all(
+        &self,
+        alloc: Global,
+        nodes: &mut Vec<Node>,
+        asked: Asked<'a>,
+    ) -> Result<(), NoTree> {
+        let mut open = Vec::new(alloc);
         open.push(asked)?;
         for _ in 0..NODES {
             match open.pop() {
-                Some(next) => self.put(&mut open, &mut nodes, next)?,
-                None => return Ok(nodes),
+                Some(next) => self.put(&mut open, nodes, next)?,
+                None => return Ok(()),
             }
         }
         Err(NoTree::Unlisted)
@@ -85,7 +87,7 @@ impl<'a> Picks<'a> {
         asked: Asked<'a>,
     ) -> Result<(), NoTree> {
         let e = asked.by;
-        let head = self.table.head(asked.class);
+        let head = self.graph.table.head(asked.class);
         if is_field_shape(e) {
             return self.put_number(nodes, head);
         }
@@ -99,7 +101,7 @@ impl<'a> Picks<'a> {
 
     // The number that a class is.
     fn put_number(&self, nodes: &mut Vec<Node>, class: u64) -> Result<(), NoTree> {
-        for node in self.index.nodes(self.table.head(class)) {
+        for node in self.graph.index.nodes(self.graph.table.head(class)) {
             if let Node::Const { .. } = node {
                 nodes.push(*node)?;
                 return Ok(());
@@ -145,9 +147,9 @@ impl<'a> Picks<'a> {
         };
         let mut best = stored;
         let mut picked = None;
-        for node in self.index.nodes(head) {
+        for node in self.graph.index.nodes(head) {
             if let Node::Read(of, w) = *node {
-                let cost = self.costs.fit(self.table, self.index, addr, of);
+                let cost = self.costs.fit(self.graph, addr, of);
                 if w == width && cost < best {
                     best = cost;
                     picked = Some(*node);
@@ -179,8 +181,8 @@ impl<'a> Picks<'a> {
     ) -> Result<(), NoTree> {
         let mut best = u64::MAX;
         let mut picked = None;
-        for node in self.index.nodes(head) {
-            let cost = self.costs.at_node(self.table, self.index, e, *node);
+        for node in self.graph.index.nodes(head) {
+            let cost = self.costs.at_node(self.graph, e, *node);
             if cost < best {
                 best = cost;
                 picked = Some(*node);

@@ -10,7 +10,7 @@ use tree_laws::Classes;
 
 /// Whether each address at which the new tree reads is equal to one at which the old tree reads, as
 /// far as a table knows.
-pub fn reads_no_more(table: &Classes, old: &Tree, new: &Tree) -> bool
+pub(crate) fn reads_no_more(table: &Classes, old: &Tree, new: &Tree) -> bool
     ensures { result ≡ true → ReadsNoMore (cell_bits table.now) (model_of_tree old.now) (model_of_tree new.now) }
 {
     match new {

@@ -6,14 +6,14 @@ use tree_laws::{Part, Rule};
 
 /// Which of a rule's sides is looked for; the other one is listed.
 #[derive(Clone, Copy)]
-pub struct Side {
+pub(crate) struct Side {
     pub found: u8,
     pub listed: u8,
 }
 
 impl Side {
     /// The rule as it is written.
-    pub fn of(rule: &Rule) -> Side {
+    pub(crate) fn of(rule: &Rule) -> Side {
         Side {
             found: rule.from,
             listed: rule.to,
@@ -21,7 +21,7 @@ impl Side {
     }
 
     /// The other way round.
-    pub fn turned(self) -> Side {
+    pub(crate) fn turned(self) -> Side {
         Side {
             found: self.listed,
             listed: self.found,
@@ -31,7 +31,7 @@ impl Side {
 
 /// Whether forms have all operators of the side that is listed, but for those that the other side
 /// has as well. A lone variable is found everywhere, so it is never looked for.
-pub fn is_wanted(rule: &Rule, side: Side, survey: &Survey) -> bool {
+pub(crate) fn is_wanted(rule: &Rule, side: Side, survey: &Survey) -> bool {
     if let Some(Part::Tree(_)) = rule.parts.get(side.found as usize) {
         return false;
     }
@@ -76,7 +76,7 @@ fn is_known(part: Part, survey: &Survey) -> bool {
 }
 
 /// The kind of a part's root; a variable's tree has none.
-pub fn kind_of(part: Part) -> Option<Kind> {
+pub(crate) fn kind_of(part: Part) -> Option<Kind> {
     match part {
         Part::Tree(_) => None,
         Part::Const(..) => Some(Kind::Number),

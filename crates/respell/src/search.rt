@@ -6,7 +6,7 @@ ghost use Rattle.std.specs.List.{AllByRecursion};
 ghost use Rattle.tree_laws.specs.Classes.{cell_bits};
 ghost use Rattle.tree_laws.specs.Rules.{RuleHolds};
 
-use crate::index::Index;
+use crate::index::{Graph, Index};
 use crate::matching::{Sought, matches};
 use crate::rules::{Side, is_wanted, kind_of};
 use crate::seeds;
@@ -31,7 +31,7 @@ const CLOSINGS: usize = 32;
 
 /// A table of classes in which the laws are applied.
 #[derive(Drop)]
-pub struct Search<'a> {
+pub(crate) struct Search<'a> {
     pub table: Classes,
     survey: &'a Survey<'a>,
     // The places of the nodes over classes that stand for others, as far as these are known, and
@@ -44,7 +44,7 @@ pub struct Search<'a> {
 
 impl<'a> Search<'a> {
     /// A table without classes, over cells of so many bits.
-    pub fn new(alloc: Global, cell: u8, survey: &'a Survey<'a>) -> Search<'a>
+    pub(crate) fn new(alloc: Global, cell: u8, survey: &'a Survey<'a>) -> Search<'a>
         requires { IsWidth cell }
         ensures { cell_bits result.table ≡ cell }
     {
@@ -58,30 +58,25 @@ impl<'a> Search<'a> {
     }
 
     /// The nodes of the table as it is.
-    pub fn index(&self, alloc: Global) -> Result<Index, NoMemory> {
+    pub(crate) fn index(&self, alloc: Global) -> Result<Index, NoMemory> {
         Index::new(alloc, &self.table, &self.places)
     }
 
     /// Whether no further law is applied.
-    pub fn is_full(&self) -> bool {
+    pub(crate) fn is_full(&self) -> bool {
         let classes = self.table.len();
         classes >= JOINED || classes.saturating_sub(self.joins) >= CLASSES
     }
 
     /// Lists what laws begin with, and applies each law. Whether the table changed.
-    pub fn round(&mut self, alloc: Global) -> Result<bool, NoMemory>
+    pub(crate) fn round(&mut self, alloc: Global) -> Result<bool, NoMemory>
         ensures { cell_bits self.new.table ≡ cell_bits self.old.table }
     {
         let joins = self.joins;
         let nodes = self.table.node_count();
         self.seed(alloc)?;
         let index = self.index(alloc)?;
-        self.apply_all(alloc, &index, narrow_rules())?;
-        self.apply_all(alloc, &index, shifts_rules())?;
-        self.apply_all(alloc, &index, extend_rules())?;
-        self.apply_all(alloc, &index, sums_rules())?;
-        self.apply_all(alloc, &index, compare_rules())?;
-        self.apply_all(alloc, &index, numbers_rules())?;
+        self.apply_laws(alloc, &index)?;
         Ok(joins != self.joins || nodes != self.table.node_count())
     }
 
@@ -91,16 +86,37 @@ impl<'a> Search<'a> {
     {
         self.close(alloc)?;
         let index = self.index(alloc)?;
+        self.seed_each(&index)?;
+        drop(index);
+        self.close(alloc)
+    }
+
+    // The same at the classes and nodes of an index, as long as there is room.
+    fn seed_each(&mut self, index: &Index) -> Result<(), NoMemory>
+        ensures { cell_bits self.new.table ≡ cell_bits self.old.table }
+    {
         for class in index.heads() {
             if self.is_full() {
-                break;
+                return Ok(());
             }
             seeds::at_class(&mut self.table, self.survey, *class)?;
             for node in index.nodes(*class) {
                 seeds::at_node(&mut self.table, self.survey, *class, *node)?;
             }
         }
-        self.close(alloc)
+        Ok(())
+    }
+
+    // Applies each law.
+    fn apply_laws(&mut self, alloc: Global, index: &Index) -> Result<(), NoMemory>
+        ensures { cell_bits self.new.table ≡ cell_bits self.old.table }
+    {
+        self.apply_all(alloc, index, narrow_rules())?;
+        self.apply_all(alloc, index, shifts_rules())?;
+        self.apply_all(alloc, index, extend_rules())?;
+        self.apply_all(alloc, index, sums_rules())?;
+        self.apply_all(alloc, index, compare_rules())?;
+        self.apply_all(alloc, index, numbers_rules())
     }
 
     // Applies each rule of a list both ways.
@@ -167,7 +183,11 @@ impl<'a> Search<'a> {
             if self.is_full() {
                 return Ok(());
             }
-            for choice in matches(alloc, &self.table, index, sought, root, member.node)? {
+            let graph = Graph {
+                table: &self.table,
+                index,
+            };
+            for choice in matches(alloc, graph, sought, root, member.node)? {
                 let joined = self.table.apply(alloc, sought.rule, &choice)?;
                 self.count(joined);
             }
@@ -194,6 +214,14 @@ impl<'a> Search<'a> {
         ensures { cell_bits self.new.table ≡ cell_bits self.old.table }
     {
         self.note()?;
+        self.places = self.closed_places(alloc)?;
+        self.note()
+    }
+
+    // The places of the nodes over classes that stand for others; each other node is listed again.
+    fn closed_places(&mut self, alloc: Global) -> Result<Vec<usize>, NoMemory>
+        ensures { cell_bits self.new.table ≡ cell_bits self.old.table }
+    {
         let mut places = Vec::new(alloc);
         for index in 0..self.places.len() {
             let Some((place, node)) = self.node_at(index) else {
@@ -206,8 +234,7 @@ impl<'a> Search<'a> {
                 self.count(joined);
             }
         }
-        self.places = places;
-        self.note()
+        Ok(places)
     }
 
     // One of the places, with its node.

@@ -9,7 +9,7 @@ use sym_expr::Node;
 use tree_laws::Classes;
 
 /// Lists a class's extensions that forms have, with their low bits.
-pub fn at_class(table: &mut Classes, survey: &Survey, class: u64) -> Result<(), NoMemory>
+pub(crate) fn at_class(table: &mut Classes, survey: &Survey, class: u64) -> Result<(), NoMemory>
     ensures { cell_bits table.new ≡ cell_bits table.old }
 {
     for extension in survey.extensions() {
@@ -20,7 +20,12 @@ pub fn at_class(table: &mut Classes, survey: &Survey, class: u64) -> Result<(), 
 
 /// Lists what a node of a class gives: an operator over wider operands, bits of a shifted value, or
 /// a number as one that forms have.
-pub fn at_node(table: &mut Classes, survey: &Survey, class: u64, node: Node) -> Result<(), NoMemory>
+pub(crate) fn at_node(
+    table: &mut Classes,
+    survey: &Survey,
+    class: u64,
+    node: Node,
+) -> Result<(), NoMemory>
     ensures { cell_bits table.new ≡ cell_bits table.old }
 {
     match node {

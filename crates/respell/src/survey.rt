@@ -9,7 +9,7 @@ use tree_grammar::{expr_width, fits_field, is_field_shape};
 
 /// An operator of trees without its operands.
 #[derive(Clone, Copy, PartialEq, Eq)]
-pub enum Kind {
+pub(crate) enum Kind {
     Number,
     Read,
     Un(Op1),
@@ -22,7 +22,7 @@ pub enum Kind {
 impl Kind {
     /// The kind of an expression of a form, where a field shape is a number. A register and a cell
     /// of the file have none.
-    pub fn of_expr(e: &Expr) -> Option<Kind> {
+    pub(crate) fn of_expr(e: &Expr) -> Option<Kind> {
         if is_field_shape(e) {
             return Some(Kind::Number);
         }
@@ -39,7 +39,7 @@ impl Kind {
     }
 
     /// The kind of a node of a tree.
-    pub fn of_node(node: Node) -> Option<Kind> {
+    pub(crate) fn of_node(node: Node) -> Option<Kind> {
         match node {
             Node::Const { .. } => Some(Kind::Number),
             Node::Read(..) => Some(Kind::Read),
@@ -56,7 +56,7 @@ impl Kind {
 
 /// An extension up to so many bits.
 #[derive(Clone, Copy, PartialEq, Eq)]
-pub struct Extension {
+pub(crate) struct Extension {
     pub signed: bool,
     pub width: u8,
 }
@@ -80,14 +80,14 @@ impl Extension {
 
 /// An operator one of whose operands is an extension.
 #[derive(Clone, Copy, PartialEq, Eq)]
-pub struct Widening {
+pub(crate) struct Widening {
     pub op: Op2,
     pub by: Extension,
 }
 
 /// A shift of a value of so many bits by a number that the form gives.
 #[derive(Clone, Copy)]
-pub struct Shift<'a> {
+pub(crate) struct Shift<'a> {
     pub op: Op2,
     pub width: u8,
     by: &'a Expr,
@@ -95,21 +95,21 @@ pub struct Shift<'a> {
 
 impl<'a> Shift<'a> {
     /// Whether the form shifts by so many places.
-    pub fn shows(&self, places: u64) -> bool {
+    pub(crate) fn shows(&self, places: u64) -> bool {
         fits_field(self.by, self.width, places)
     }
 }
 
 /// Bits of a value, from the first place down to the second.
 #[derive(Clone, Copy, PartialEq, Eq)]
-pub struct Field {
+pub(crate) struct Field {
     pub hi: u8,
     pub lo: u8,
 }
 
 /// The operators that forms have, and what stands beside an operator in one of them.
 #[derive(Drop)]
-pub struct Survey<'a> {
+pub(crate) struct Survey<'a> {
     kinds: Vec<Kind>,
     widenings: Vec<Widening>,
     extensions: Vec<Extension>,
@@ -121,7 +121,11 @@ pub struct Survey<'a> {
 
 impl<'a> Survey<'a> {
     /// The operators of the forms of each mode that can be used.
-    pub fn new(alloc: Global, forms: &'a [Forms], usable: &[bool]) -> Result<Survey<'a>, NoMemory> {
+    pub(crate) fn new(
+        alloc: Global,
+        forms: &'a [Forms],
+        usable: &[bool],
+    ) -> Result<Survey<'a>, NoMemory> {
         let mut survey = Survey {
             kinds: Vec::new(alloc),
             widenings: Vec::new(alloc),
@@ -140,38 +144,38 @@ impl<'a> Survey<'a> {
     }
 
     /// Whether some form has the operator.
-    pub fn has(&self, kind: Kind) -> bool {
+    pub(crate) fn has(&self, kind: Kind) -> bool {
         self.kinds.contains(&kind)
     }
 
     /// The extensions beside operators.
-    pub fn widenings(&self) -> &[Widening] {
+    pub(crate) fn widenings(&self) -> &[Widening] {
         &self.widenings
     }
 
     /// The extensions.
-    pub fn extensions(&self) -> &[Extension] {
+    pub(crate) fn extensions(&self) -> &[Extension] {
         &self.extensions
     }
 
     /// The widths of extensions and of what they extend: what is tried for the variable of a law
     /// that nothing else gives. More numbers would make the tables of classes grow past use.
-    pub fn widths(&self) -> &[u8] {
+    pub(crate) fn widths(&self) -> &[u8] {
         &self.widths
     }
 
     /// The shifts by numbers.
-    pub fn shifts(&self) -> &[Shift<'a>] {
+    pub(crate) fn shifts(&self) -> &[Shift<'a>] {
         &self.shifts
     }
 
     /// The bits that slices take.
-    pub fn fields(&self) -> &[Field] {
+    pub(crate) fn fields(&self) -> &[Field] {
         &self.fields
     }
 
     /// Whether some form has a number of so many bits with this value.
-    pub fn shows(&self, width: u8, value: u64) -> bool {
+    pub(crate) fn shows(&self, width: u8, value: u64) -> bool {
         self.numbers.iter().any(|shape| expr_width(shape) == u64::from(width)
             && fits_field(shape, width, value))
     }

@@ -109,15 +109,15 @@ module _ (netlist : Netlist) (order : List ℕ) (keeps : KeepsRules netlist orde
 
   pub jump_does : (special : Option ℕ) (patterns : List Pattern) (i to : ℕ) → IsJumpMade netlist special patterns i to → DoesGoto netlist i to
   jump_does special patterns i to h =
-      let f : FitsJump netlist i (record { storage = counter_of netlist.codes; space = space_in (file_place netlist.storages) (counter_of netlist.codes); move = write h.rule.value; setting = h.bits }) =
-      jump_opened netlist patterns i h.rule.pattern h.bits _ h.form.is h.word in
-      let fit : WordFitsExpr h.rule.value i = value_fits i h.rule.value f.clean f.does.gives in
+      let f : FitsJump netlist i (record { storage = counter_of netlist.codes; space = space_in (file_place netlist.storages) (counter_of netlist.codes); move = write h.jump.value; setting = h.bits }) =
+      jump_opened netlist patterns i h.jump.pattern h.bits _ h.form.is h.word in
+      let fit : WordFitsExpr h.jump.value i = value_fits i h.jump.value f.clean f.does.gives in
       record {
         clean = f.clean;
         jump = record {
-          to_term = h.rule.value;
+          to_term = h.jump.value;
           move = f.does.gives;
-          to_is = record { fixed = shape_fixed h.rule.value to h.bits h.shown; is = mean_under h.rule.value no_state i h.bits fit f.does.setting ∙ setting_means h.rule.value no_state to h.bits h.shown };
+          to_is = record { fixed = shape_fixed h.jump.value to h.bits h.shown; is = mean_under h.jump.value no_state i h.bits fit f.does.setting ∙ setting_means h.jump.value no_state to h.bits h.shown };
         };
         keeps = record { move = f.memory };
       }
@@ -157,7 +157,7 @@ module _ (netlist : Netlist) (order : List ℕ) (keeps : KeepsRules netlist orde
   sides_fit false i c x y f = (f.0, f.2)
 
   -- what a branch word's bits mean: those of the condition and those of the target
-  pub record BranchParts (patterns : List Pattern) (rule : FormModel) (when_one : Bool) (way : TargetModel) (form : IsBranchForm netlist patterns rule when_one way) (i setting bits : ℕ) : Type 0 where
+  pub record BranchParts (patterns : List Pattern) (branch : FormModel) (when_one : Bool) (way : TargetModel) (form : IsBranchForm netlist patterns branch when_one way) (i setting bits : ℕ) : Type 0 where
     pub clean : IsClean netlist i
     pub jump : FitsJump netlist i (record { storage = counter_of netlist.codes; space = space_in (file_place netlist.storages) (counter_of netlist.codes); move = write (select form.condition (one_side when_one form.target form.step) (one_side when_one form.step form.target)); setting = bit_or setting bits })
     pub test_fits : WordFitsExpr form.condition i
@@ -165,12 +165,12 @@ module _ (netlist : Netlist) (order : List ℕ) (keeps : KeepsRules netlist orde
     pub test : bit_and i (fields form.condition) ≡ setting
     pub target : bit_and i (fields form.target) ≡ bits
 
-  pub branch_parts : (patterns : List Pattern) (rule : FormModel) (when_one : Bool) (way : TargetModel) (form : IsBranchForm netlist patterns rule when_one way) (i setting bits : ℕ)
-      → bit_and setting (fields form.condition) ≡ setting → bit_and bits (fields form.target) ≡ bits → FitsJump netlist i (operation_in netlist patterns (record { pattern = rule.pattern; setting = bit_or setting bits }))
-      → BranchParts patterns rule when_one way form i setting bits
-  branch_parts patterns rule when_one way form i setting bits e g h =
+  pub branch_parts : (patterns : List Pattern) (branch : FormModel) (when_one : Bool) (way : TargetModel) (form : IsBranchForm netlist patterns branch when_one way) (i setting bits : ℕ)
+      → bit_and setting (fields form.condition) ≡ setting → bit_and bits (fields form.target) ≡ bits → FitsJump netlist i (operation_in netlist patterns (record { pattern = branch.pattern; setting = bit_or setting bits }))
+      → BranchParts patterns branch when_one way form i setting bits
+  branch_parts patterns branch when_one way form i setting bits e g h =
       let f : FitsJump netlist i (record { storage = counter_of netlist.codes; space = space_in (file_place netlist.storages) (counter_of netlist.codes); move = write (select form.condition (one_side when_one form.target form.step) (one_side when_one form.step form.target)); setting = bit_or setting bits }) =
-      jump_opened netlist patterns i rule.pattern (bit_or setting bits) _ form.is h in
+      jump_opened netlist patterns i branch.pattern (bit_or setting bits) _ form.is h in
       let w : WordFitsExpr form.condition i × WordFitsExpr form.target i = sides_fit when_one i form.condition form.target form.step (value_fits i _ f.clean f.does.gives) in
       let p : Sides i (bit_or setting bits) form.condition form.target = sides_of when_one i (bit_or setting bits) form.condition form.target form.step f.does.setting in
       record {
@@ -183,10 +183,10 @@ module _ (netlist : Netlist) (order : List ℕ) (keeps : KeepsRules netlist orde
       }
 
   -- a branch word goes to its target, or on
-  pub branch_does : (patterns : List Pattern) (rule : FormModel) (when_one : Bool) (way : TargetModel) (form : IsBranchForm netlist patterns rule when_one way) (i setting bits at to : ℕ)
-      → BranchParts patterns rule when_one way form i setting bits → ((s : State) → IsAt netlist at s → mean form.target s i ≡ to) → at + 1 < 2 ^ counter_width netlist
+  pub branch_does : (patterns : List Pattern) (branch : FormModel) (when_one : Bool) (way : TargetModel) (form : IsBranchForm netlist patterns branch when_one way) (i setting bits at to : ℕ)
+      → BranchParts patterns branch when_one way form i setting bits → ((s : State) → IsAt netlist at s → mean form.target s i ≡ to) → at + 1 < 2 ^ counter_width netlist
       → (special : Option ℕ) → KeepsMode special netlist i → DoesBranch netlist special i form.condition when_one at to
-  branch_does patterns rule when_one way form i setting bits at to p leads b special mode = record {
+  branch_does patterns branch when_one way form i setting bits at to p leads b special mode = record {
     clean = p.clean;
     keeps = record { move = p.jump.memory };
     mode = mode;

@@ -30,7 +30,7 @@ use Rattle.net_model.specs.ModeRules.{base_at}
 use Rattle.right_code.specs.Cuts.{Cut, cuts_of, join_cut, join_first, join_zero, plan_at, plan_choices, plans_at, plans_of}
 use Rattle.right_code.specs.Tasks.{Task, task_jobs}
 use Rattle.right_code.proofs.Covered.{covered_of}
-use Rattle.right_code.specs.Works.{AllOne}
+use Rattle.right_code.specs.FlowJobs.{AllOne}
 
 -- a job that goes nowhere is a test's
 pub as_test : (job : JobModel) → job.destination ≡ tested → test_of job ≡ job
@@ -103,23 +103,23 @@ module _ (task : Task) (isas : Isas task.netlist) where
   cuts_jobs (job ∷ jobs) [] c = absurd c
   cuts_jobs (job ∷ jobs) (planned ∷ plans) c = ap (λ (list : List JobModel). job ∷ list) (cuts_jobs jobs plans c.2) ∙ sym (join_jobs planned.mode job planned.choice (cuts_of jobs plans))
 
-  plans_both : (jobs works : List JobModel) (plans others : List PlanModel) → PlansCovered jobs plans → PlansCovered works others → PlansCovered (jobs ++ works) (plans ++ others)
-  plans_both [] works [] others c d = d
-  plans_both [] works (planned ∷ plans) others c d = absurd c
-  plans_both (job ∷ jobs) works [] others c d = absurd c
-  plans_both (job ∷ jobs) works (planned ∷ plans) others c d = (c.0, c.1, plans_both jobs works plans others c.2 d)
+  plans_both : (jobs later : List JobModel) (plans others : List PlanModel) → PlansCovered jobs plans → PlansCovered later others → PlansCovered (jobs ++ later) (plans ++ others)
+  plans_both [] later [] others c d = d
+  plans_both [] later (planned ∷ plans) others c d = absurd c
+  plans_both (job ∷ jobs) later [] others c d = absurd c
+  plans_both (job ∷ jobs) later (planned ∷ plans) others c d = (c.0, c.1, plans_both jobs later plans others c.2 d)
 
-  module _ (reads : (v : ℕ) → AllReadWords task.width (isas v).rules) (most : ℕ) (small : AllSmall task.width (temp_count task.width task.listing) most (task_jobs task)) (one : AllOne (task_jobs task))
+  module _ (reads : (v : ℕ) → AllReadWords task.width (isas v).keeping) (most : ℕ) (small : AllSmall task.width (temp_count task.width task.program) most (task_jobs task)) (one : AllOne (task_jobs task))
       (plans : List PlanModel) (planned : ArePlans task isas plans) where
     -- ---- the jobs of blocks
 
-    pair_at : (works : List JobModel) (plans : List PlanModel) (k : ℕ) → AllSmall task.width (temp_count task.width task.listing) most works → AllOne works → AllPlanned (mode_stock task isas) (IsUsable task.netlist isas) works plans
-        → PlansCovered (job_list (slice_get works k)) (plans_of (slice_get plans k))
+    pair_at : (jobs : List JobModel) (plans : List PlanModel) (k : ℕ) → AllSmall task.width (temp_count task.width task.program) most jobs → AllOne jobs → AllPlanned (mode_stock task isas) (IsUsable task.netlist isas) jobs plans
+        → PlansCovered (job_list (slice_get jobs k)) (plans_of (slice_get plans k))
     pair_at [] [] k s o c = tt
     pair_at [] (d ∷ plans) k s o c = absurd c
-    pair_at (t ∷ works) [] k s o c = absurd c
-    pair_at (t ∷ works) (d ∷ plans) zero s o c = (covered_of task.width (own_kit d.mode).stock (reads d.mode) most t d.choice s.0 c.0.chosen, o.0, tt)
-    pair_at (t ∷ works) (d ∷ plans) (suc k) s o c = pair_at works plans k s.1 o.1 c.1
+    pair_at (t ∷ jobs) [] k s o c = absurd c
+    pair_at (t ∷ jobs) (d ∷ plans) zero s o c = (covered_of task.width (own_kit d.mode).stock (reads d.mode) most t d.choice s.0 c.0.chosen, o.0, tt)
+    pair_at (t ∷ jobs) (d ∷ plans) (suc k) s o c = pair_at jobs plans k s.1 o.1 c.1
 
     place_covered : (o : Option Flow) → PlansCovered (job_at (task_jobs task) o) (plan_at plans o)
     place_covered None = tt
@@ -135,11 +135,11 @@ module _ (task : Task) (isas : Isas task.netlist) where
 
     -- ---- tests
 
-    pub test_plan : (works : List JobModel) (plans : List PlanModel) (k : ℕ) (job : JobModel) → AllSmall task.width (temp_count task.width task.listing) most works → AllPlanned (mode_stock task isas) (IsUsable task.netlist isas) works plans → slice_get works k ≡ Some job → job.destination ≡ tested
+    pub test_plan : (jobs : List JobModel) (plans : List PlanModel) (k : ℕ) (job : JobModel) → AllSmall task.width (temp_count task.width task.program) most jobs → AllPlanned (mode_stock task isas) (IsUsable task.netlist isas) jobs plans → slice_get jobs k ≡ Some job → job.destination ≡ tested
         → (d : PlanModel) × (slice_get plans k ≡ Some d) × IsCovered (own_kit 0).stock job d.choice
     test_plan [] plans k job s c e aim = absurd (cc e)
-    test_plan (t ∷ works) [] k job s c e aim = absurd c
-    test_plan (t ∷ works) (d ∷ plans) zero job s c e aim =
+    test_plan (t ∷ jobs) [] k job s c e aim = absurd c
+    test_plan (t ∷ jobs) (d ∷ plans) zero job s c e aim =
         let same : t ≡ job = (λ (x y : JobModel) (h : Some x ≡ Some y). one_of x y h) t job e in
         let goes : t.destination ≡ tested = ap (λ (x : JobModel). x.destination) same ∙ aim in
         let mode : d.mode ≡ 0 = subst (λ (x : DestinationModel). MayRunIn x d.mode) goes c.0.may in
@@ -147,7 +147,7 @@ module _ (task : Task) (isas : Isas task.netlist) where
       where
         one_of : (x y : JobModel) → Some x ≡ Some y → x ≡ y
         one_of x y h = cc
-    test_plan (t ∷ works) (d ∷ plans) (suc k) job s c e aim = test_plan works plans k job s.1 c.1 e aim
+    test_plan (t ∷ jobs) (d ∷ plans) (suc k) job s c e aim = test_plan jobs plans k job s.1 c.1 e aim
 
 -- addresses of the data memory have some bits
 some_addresses : (netlist : Netlist) (storages : List Storage) → AllByRecursion (StorageKeeps netlist) storages → memory_count storages ≡ 1 → 1 ≤ memory_addr_width storages

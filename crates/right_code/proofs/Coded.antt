@@ -52,22 +52,22 @@ is_end Inner = false
 is_end (Test f) = false
 is_end (Jump to) = false
 
-pub ended : (rules : List FormModel) (flow : List Flow) (n : ℕ) (p : LayoutPart) → FitsPart rules flow n Ended p → (is_end p ≡ true) × (1 ≤ room p)
-ended rules flow n End h = (refl, omega arith)
-ended rules flow n (Block block words) h = absurd h
-ended rules flow n Inner h = absurd h
-ended rules flow n (Test f) h = absurd h
-ended rules flow n (Jump to) h = absurd h
+pub ended : (forms : List FormModel) (flow : List Flow) (n : ℕ) (p : LayoutPart) → FitsPart forms flow n Ended p → (is_end p ≡ true) × (1 ≤ room p)
+ended forms flow n End h = (refl, omega arith)
+ended forms flow n (Block block words) h = absurd h
+ended forms flow n Inner h = absurd h
+ended forms flow n (Test f) h = absurd h
+ended forms flow n (Jump to) h = absurd h
 
 -- behind such a part the end still stands
-pub before_end : (rules : List FormModel) (flow : List Flow) (end : ℕ) (parts : List LayoutPart) (k : ℕ) (p : LayoutPart) → IsFlow flow end → PartsFit rules flow 0 flow parts → slice_get parts k ≡ Some p → is_end p ≡ false
+pub before_end : (forms : List FormModel) (flow : List Flow) (end : ℕ) (parts : List LayoutPart) (k : ℕ) (p : LayoutPart) → IsFlow flow end → PartsFit forms flow 0 flow parts → slice_get parts k ≡ Some p → is_end p ≡ false
     → address parts k + room p < total parts
-before_end rules flow end parts k p f fit e stays =
-    let n : length parts ≡ length flow = fit_length rules flow 0 flow parts fit in
+before_end forms flow end parts k p f fit e stays =
+    let n : length parts ≡ length flow = fit_length forms flow 0 flow parts fit in
     let long : length flow ≡ end + 1 = f.long in
     let l : k < length parts = there parts k p e in
-    let at = part_at rules flow 0 flow parts end end Ended fit f.last (omega arith) in
-    let last = ended rules flow end at.0 at.2 in
+    let at = part_at forms flow 0 flow parts end end Ended fit f.last (omega arith) in
+    let last = ended forms flow end at.0 at.2 in
     let one : 1 ≤ room at.0 = last.1 in
     let ne : k ≡ end → ⊥ = (λ z. other p at.0 (sym e ∙ ap (slice_get parts) z ∙ at.1) stays last.0) in
     let le : k + 1 ≤ end = less k end ne (omega (arith, n, long, l)) in
@@ -151,10 +151,10 @@ module _ (m : Machine) (kit : Kit) (are : IsKit m 0 kit) (image : Image) where
 
   -- code that is made of its parts is made as the flow wants it
   pub made_is : (flow : List Flow) (jobs : List JobModel) (parts : List LayoutPart) (end : ℕ) → IsFlow flow end → IsMadeCode m kit image flow jobs parts
-      → IsMade m.netlist image m.temps kit.stock.rules flow jobs parts
+      → IsMade m.netlist image m.temps kit.stock.forms flow jobs parts
   made_is flow jobs parts end f made =
       let base : Netlist = kit.netlist in
-      let rules : List FormModel = kit.stock.rules in
+      let forms : List FormModel = kit.stock.forms in
       let few : counter_width kit.netlist ≤ 64 = counter_narrow (slice_get kit.netlist.storages (counter_of kit.netlist.codes)) are.keeps.roles.counter in
       let full : total parts ≤ code_size kit.netlist.codes = made.room in
       let big : total parts ≤ 2 ^ counter_width kit.netlist = within 0 kit are (total parts) full in
@@ -162,13 +162,13 @@ module _ (m : Machine) (kit : Kit) (are : IsKit m 0 kit) (image : Image) where
         fit = made.fit;
         marks = made.marks;
         blocks = λ at n block words b e.
-            (let l : address parts at + words < total parts = before_end kit.stock.rules flow end parts at (Block block words) f made.fit e refl in
+            (let l : address parts at + words < total parts = before_end kit.stock.forms flow end parts at (Block block words) f made.fit e refl in
             block_done _ (address parts at) words (made.blocks at n block words b e) (omega (arith, l, full)));
         forks = λ at fork e job has.
-            (let l : address parts at + (fork.words + branch_words fork.next fork.long) < total parts = before_end kit.stock.rules flow end parts at (Test fork) f made.fit e refl in
+            (let l : address parts at + (fork.words + branch_words fork.next fork.long) < total parts = before_end kit.stock.forms flow end parts at (Test fork) f made.fit e refl in
             let one : 1 ≤ branch_words fork.next fork.long = one_word fork.next fork.long in
             let wide : 2 ^ counter_width kit.netlist ≤ 2 ^ 64 = powers (counter_width kit.netlist) few in
-            subst (λ t. DoesFork m.netlist image t job (form_at_one (slice_get kit.stock.rules fork.form)) fork (address parts at) (address parts fork.to) (address parts fork.other)) are.temps
+            subst (λ t. DoesFork m.netlist image t job (form_at_one (slice_get kit.stock.forms fork.form)) fork (address parts at) (address parts fork.to) (address parts fork.other)) are.temps
             (fork_does m.netlist kit.netlist are.base are.order are.keeps image kit.patterns kit.stock are.sized are.formed job _ fork (address parts at) (address parts fork.to) (address parts fork.other) (made.forks at fork e job has) few
             (omega (arith, l, one, big)) (omega (arith, l, one, big, wide)) (λ z. let three : 3 ≤ branch_words fork.next fork.long = three_words fork.next fork.long z in omega (arith, l, three, big))));
         jumps = λ at to e. leads m.netlist kit.netlist are.base are.order are.keeps image kit.patterns kit.stock are.sized are.formed (address parts at) (address parts to) (made.jumps at to e);
@@ -182,5 +182,5 @@ module _ (m : Machine) (kit : Kit) (are : IsKit m 0 kit) (image : Image) where
       → length (words_of image) ≡ total parts → TracesRight m.netlist image (strace mem.word l)
   code_right mem l turned jobs parts kept wide held room places only does made long =
       let f : IsFlow (turned_flow turned (program_flow l)) (places_in (stmts_of l.body)) = turned_is_flow turned (program_flow l) (places_in (stmts_of l.body)) (program_is_flow l) in
-      turned_right m.netlist image mem m.temps l turned jobs kit.stock.rules parts kept wide held room places only does
+      turned_right m.netlist image mem m.temps l turned jobs kit.stock.forms parts kept wide held room places only does
       (made_is (turned_flow turned (program_flow l)) jobs parts (places_in (stmts_of l.body)) f made) long

@@ -41,14 +41,14 @@ cells_for bits temps most destination (x ∷ trees) zero t h e = subst (λ y. tr
 cells_for bits temps most destination (x ∷ trees) (suc k) t h e = cells_for bits temps most destination trees k t h.3 e
 
 -- the chosen cover of a job of small trees
-pub covered_of : (bits : ℕ) (stock : StockModel) → AllReadWords bits stock.rules → (most : ℕ) (work : JobModel) (choice : JobCoverModel) → IsSmall bits stock.temps most work → IsChosen stock work.destination work.trees choice → IsCovered stock work choice
-covered_of bits stock reads most work choice small c =
-    let few : cut_count choice.plan ≤ tree_temps bits work.destination c.covers.tree = chosen_few bits stock reads work.destination work.trees choice c in
-    let t : tree_temps bits work.destination c.covers.tree ≤ stock.temps = cells_for bits stock.temps most work.destination work.trees choice.which c.covers.tree small.trees c.covers.used in
+pub covered_of : (bits : ℕ) (stock : StockModel) → AllReadWords bits stock.forms → (most : ℕ) (job : JobModel) (choice : JobCoverModel) → IsSmall bits stock.temps most job → IsChosen stock job.destination job.trees choice → IsCovered stock job choice
+covered_of bits stock reads most job choice small c =
+    let few : cut_count choice.cover ≤ tree_temps bits job.destination c.covers.tree = chosen_few bits stock reads job.destination job.trees choice c in
+    let t : tree_temps bits job.destination c.covers.tree ≤ stock.temps = cells_for bits stock.temps most job.destination job.trees choice.which c.covers.tree small.trees c.covers.used in
     record {
-      trees = all_trees bits stock.temps most work.destination work.trees small.trees;
-      destination = tree_destination work.destination small.destination;
-      goes = of_job work.destination small.destination;
+      trees = all_trees bits stock.temps most job.destination job.trees small.trees;
+      destination = tree_destination job.destination small.destination;
+      goes = of_job job.destination small.destination;
       covers = c.covers;
       few = omega (arith, few, t);
     }

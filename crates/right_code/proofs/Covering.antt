@@ -22,11 +22,11 @@ module _ (stock : ℕ → StockModel) (Usable : ℕ → Type 0) where
   planned_more (j ∷ jobs) (c ∷ plans) job planned h k = (h.0, planned_more jobs plans job planned h.1 k)
 
   pub costs_more : (jobs : List JobModel) (plans : List PlanModel) (job : JobModel) (planned : PlanModel) → AllPlanned stock Usable jobs plans →
-      plan_costs (jobs ++ job ∷ []) (plans ++ planned ∷ []) ≡ plan_costs jobs plans ++ mode_cost planned.mode job.destination planned.choice.plan ∷ []
+      plan_costs (jobs ++ job ∷ []) (plans ++ planned ∷ []) ≡ plan_costs jobs plans ++ mode_cost planned.mode job.destination planned.choice.cover ∷ []
   costs_more [] [] job planned h = refl
   costs_more [] (c ∷ plans) job planned h = absurd h
   costs_more (j ∷ jobs) [] job planned h = absurd h
-  costs_more (j ∷ jobs) (c ∷ plans) job planned h = ap (λ (l : List ℕ). mode_cost c.mode j.destination c.choice.plan ∷ l) (costs_more jobs plans job planned h.1)
+  costs_more (j ∷ jobs) (c ∷ plans) job planned h = ap (λ (l : List ℕ). mode_cost c.mode j.destination c.choice.cover ∷ l) (costs_more jobs plans job planned h.1)
 
   -- there are as many plans as jobs
   pub planned_length : (jobs : List JobModel) (plans : List PlanModel) → AllPlanned stock Usable jobs plans → length plans ≡ length jobs

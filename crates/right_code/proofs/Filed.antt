@@ -8,11 +8,11 @@ use Rattle.net_model.specs.Exprs.{ExprModel, word, reg, const, read, un, bin, sl
 use Rattle.form_model.specs.Matches.{HomeModel, in_file}
 use Rattle.form_model.specs.Shapes.{is_plain, is_shape, shows_below}
 use Rattle.form_set.specs.Static.{reads_shown}
-use Rattle.form_set.specs.Swaps.{Path, can_swap, ordered, swap_at, swaps_here}
+use Rattle.operand_swaps.specs.Swaps.{Path, can_swap, ordered, swap_at, swaps_here}
 use Rattle.form_set.specs.Targets.{first_of}
 use Rattle.form_set.specs.Tied.{behind, operand_count, same_expr, tied_place}
 use Rattle.form_set.proofs.ShapeBits.{both_plain}
-use Rattle.form_set.proofs.SumSwaps.{plain_same}
+use Rattle.operand_swaps.proofs.SumSwaps.{plain_same}
 use Rattle.form_set.proofs.TiedLaws.{either_tied, expr_is}
 use Rattle.emit_seq.specs.Formed.{CellsShown, homes_in}
 

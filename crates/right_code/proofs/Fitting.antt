@@ -37,7 +37,7 @@ use Rattle.right_code.specs.Inner.Laid.{AreSectionsReady, IsBlockReady, IsLaidCo
 use Rattle.right_code.specs.Words.{AreGroupWords, StandItems}
 use Rattle.right_code.proofs.Coded.{there}
 use Rattle.right_code.proofs.Inside.{get_there}
-use Rattle.right_code.specs.Works.{IsTestJob, AreFlowJobs}
+use Rattle.right_code.specs.FlowJobs.{IsTestJob, AreFlowJobs}
 use Rattle.right_code.proofs.Tasks.{test_job_of}
 
 -- ---- a block begins at a part of a block
@@ -162,20 +162,20 @@ module _ (netlist : Netlist) (special : Option ℕ) (patterns : List Pattern) (w
   PartFits (Jump to) = Unit {0}
   PartFits End = Unit {0}
 
-  part_fits : (rules : List FormModel) (jump : Option FormModel) (addresses : List ℕ) (at : ℕ) (p : LayoutPart) → PartFits p → ItemsFit (part_items rules jump addresses at p)
-  part_fits rules jump addresses at (Block block size) h = groups_fit block size 0 (λ k l. h k (omega (arith, l)))
-  part_fits rules jump addresses at Inner h = tt
-  part_fits rules jump addresses at (Test f) h =
+  part_fits : (forms : List FormModel) (jump : Option FormModel) (addresses : List ℕ) (at : ℕ) (p : LayoutPart) → PartFits p → ItemsFit (part_items forms jump addresses at p)
+  part_fits forms jump addresses at (Block block size) h = groups_fit block size 0 (λ k l. h k (omega (arith, l)))
+  part_fits forms jump addresses at Inner h = tt
+  part_fits forms jump addresses at (Test f) h =
       fit_on (groups f.block 0 f.words) (_ ∷ behind jump f.next f.long (slice_index addresses f.to) (slice_index addresses f.other)) (groups_fit f.block f.words 0 (λ k l. h k (omega (arith, l))))
       (behind_fit jump f.next f.long (slice_index addresses f.to) (slice_index addresses f.other))
-  part_fits rules jump addresses at (Jump to) h = tt
-  part_fits rules jump addresses at End h = tt
+  part_fits forms jump addresses at (Jump to) h = tt
+  part_fits forms jump addresses at End h = tt
 
-  items_fit : (rules : List FormModel) (jump : Option FormModel) (addresses : List ℕ) (at : ℕ) (parts : List LayoutPart) → ((k : ℕ) (p : LayoutPart) → slice_get parts k ≡ Some p → PartFits p) → ItemsFit (items_from rules jump addresses at parts)
-  items_fit rules jump addresses at [] h = tt
-  items_fit rules jump addresses at (p ∷ parts) h =
-      fit_on (part_items rules jump addresses at p) (items_from rules jump addresses (at + room p) parts) (part_fits rules jump addresses at p (h 0 p refl))
-      (items_fit rules jump addresses (at + room p) parts (λ k q e. h (suc k) q e))
+  items_fit : (forms : List FormModel) (jump : Option FormModel) (addresses : List ℕ) (at : ℕ) (parts : List LayoutPart) → ((k : ℕ) (p : LayoutPart) → slice_get parts k ≡ Some p → PartFits p) → ItemsFit (items_from forms jump addresses at parts)
+  items_fit forms jump addresses at [] h = tt
+  items_fit forms jump addresses at (p ∷ parts) h =
+      fit_on (part_items forms jump addresses at p) (items_from forms jump addresses (at + room p) parts) (part_fits forms jump addresses at p (h 0 p refl))
+      (items_fit forms jump addresses (at + room p) parts (λ k q e. h (suc k) q e))
 
   stand_fit : (code : List ℕ) (at : ℕ) (items : List Item) (a : ℕ) → ItemsFit items → StandItems netlist special patterns words code at items → a < length items → WordFits netlist (slice_index code (at + a))
   stand_fit code at [] a f s l = absurd (omega (arith, l))
@@ -196,19 +196,19 @@ module _ (netlist : Netlist) (special : Option ℕ) (patterns : List Pattern) (w
   ]
 
 -- a part that is a block begins one
-begins : (rules : List FormModel) (flow : List Flow) (at : ℕ) (g : Flow) (block size : ℕ) → FitsPart rules flow at g (Block block size) → (continues flow at ≡ false) × (is_assign (Some g) ≡ true)
-begins rules flow at (Assign tree) block size h = (h, refl)
-begins rules flow at (Tested tree a b) block size h = absurd h
-begins rules flow at (Jumped to) block size h = absurd h
-begins rules flow at Ended block size h = absurd h
+begins : (forms : List FormModel) (flow : List Flow) (at : ℕ) (g : Flow) (block size : ℕ) → FitsPart forms flow at g (Block block size) → (continues flow at ≡ false) × (is_assign (Some g) ≡ true)
+begins forms flow at (Assign tree) block size h = (h, refl)
+begins forms flow at (Tested tree a b) block size h = absurd h
+begins forms flow at (Jumped to) block size h = absurd h
+begins forms flow at Ended block size h = absurd h
 
-pub block_at : (rules : List FormModel) (flow : List Flow) (parts : List LayoutPart) (k block size : ℕ) → PartsFit rules flow 0 flow parts → slice_get parts k ≡ Some (Block block size) → (n : ℕ) × IsAssignBlock flow k n
-block_at rules flow parts k block size fit e =
+pub block_at : (forms : List FormModel) (flow : List Flow) (parts : List LayoutPart) (k block size : ℕ) → PartsFit forms flow 0 flow parts → slice_get parts k ≡ Some (Block block size) → (n : ℕ) × IsAssignBlock flow k n
+block_at forms flow parts k block size fit e =
     let l : k < length parts = there parts k (Block block size) e in
-    let m : length parts ≡ length flow = fit_length rules flow 0 flow parts fit in
+    let m : length parts ≡ length flow = fit_length forms flow 0 flow parts fit in
     let g = get_there flow k (omega (arith, l, m)) in
-    let q = part_at rules flow 0 flow parts k k g.0 fit g.1 (omega arith) in
-    let b = begins rules flow k g.0 block size (subst (λ x. FitsPart rules flow k g.0 x) (one q.0 (Block block size) (sym q.1 ∙ e)) q.2) in
+    let q = part_at forms flow 0 flow parts k k g.0 fit g.1 (omega arith) in
+    let b = begins forms flow k g.0 block size (subst (λ x. FitsPart forms flow k g.0 x) (one q.0 (Block block size) (sym q.1 ∙ e)) q.2) in
     block_from flow k (length flow) 1 b.0 (omega arith) (omega arith) (λ i h. let z : k ≡ k + i = omega (arith, h) in subst (λ j. is_assign (slice_get flow j) ≡ true) z (ap is_assign g.1 ∙ b.1)) (λ i h some. absurd (omega (arith, h, some)))
   where
     one : (x y : LayoutPart) → Some x ≡ Some y → x ≡ y
@@ -218,20 +218,20 @@ block_at rules flow parts k block size fit e =
 pub code_fits : (m : Machine) (kit : Kit) (are : IsKit m 0 kit) (image : Image) (flow : List Flow) (jobs : List JobModel) (parts : List LayoutPart) (reach : ℕ) → AreFlowJobs jobs flow → IsLaidCode m kit image flow jobs parts reach
     → 1 ≤ length (words_of image) → (a : ℕ) → WordFits kit.netlist (slice_index (words_of image) a)
 code_fits m kit are image flow jobs parts reach tests laid some =
-    let rules : List FormModel = kit.stock.rules in
-    let fit : PartsFit kit.stock.rules flow 0 flow parts = settled_fit kit.stock.rules flow laid.layout.sizes laid.layout.settings parts laid.layout.settled in
+    let forms : List FormModel = kit.stock.forms in
+    let fit : PartsFit kit.stock.forms flow 0 flow parts = settled_fit kit.stock.forms flow laid.layout.sizes laid.layout.branches parts laid.layout.settled in
     let n = laid.long in
-    let items = items_length kit.stock.rules (jump_form kit.stock.rules reach) (starts parts) 0 parts in
-    all_fit kit.netlist m.netlist.special kit.patterns laid.words (words_of image) (items_from kit.stock.rules (jump_form kit.stock.rules reach) (starts parts) 0 parts)
-    (items_fit kit.netlist m.netlist.special kit.patterns laid.words kit.stock.rules (jump_form kit.stock.rules reach) (starts parts) 0 parts (λ k p e. by fit k p e)) laid.stand (n ∙ sym (items_length kit.stock.rules (jump_form kit.stock.rules reach) (starts parts) 0 parts)) (omega (arith, n, items, some))
+    let items = items_length kit.stock.forms (jump_form kit.stock.forms reach) (starts parts) 0 parts in
+    all_fit kit.netlist m.netlist.special kit.patterns laid.words (words_of image) (items_from kit.stock.forms (jump_form kit.stock.forms reach) (starts parts) 0 parts)
+    (items_fit kit.netlist m.netlist.special kit.patterns laid.words kit.stock.forms (jump_form kit.stock.forms reach) (starts parts) 0 parts (λ k p e. by fit k p e)) laid.stand (n ∙ sym (items_length kit.stock.forms (jump_form kit.stock.forms reach) (starts parts) 0 parts)) (omega (arith, n, items, some))
   where
-    by : PartsFit kit.stock.rules flow 0 flow parts → (k : ℕ) (p : LayoutPart) → slice_get parts k ≡ Some p → PartFits kit.netlist m.netlist.special kit.patterns laid.words p
+    by : PartsFit kit.stock.forms flow 0 flow parts → (k : ℕ) (p : LayoutPart) → slice_get parts k ≡ Some p → PartFits kit.netlist m.netlist.special kit.patterns laid.words p
     by fit k (Block block size) e =
-        let b = block_at kit.stock.rules flow parts k block size fit e in
+        let b = block_at kit.stock.forms flow parts k block size fit e in
         let r = laid.blocks k b.0 block size b.1 e in
         let long : size ≡ length (laid.words block) = r.long in
         (λ i l. all_at (WordFits kit.netlist) (laid.words block) i (sections_fit m kit are r.sections (laid.words block) r.ready) (omega (arith, l, long)))
     by fit k Inner e = tt
-    by fit k (Test f) e = let t : IsTestJob jobs f.tree = test_job_of jobs kit.stock.rules flow parts k f fit tests e in let r = laid.forks k f e t.work t.at in least_fit kit.netlist m.netlist.special kit.patterns laid.words f.block r.groups r.live f.words r.least r.long
+    by fit k (Test f) e = let t : IsTestJob jobs f.tree = test_job_of jobs kit.stock.forms flow parts k f fit tests e in let r = laid.forks k f e t.job t.at in least_fit kit.netlist m.netlist.special kit.patterns laid.words f.block r.groups r.live f.words r.least r.long
     by fit k (Jump to) e = tt
     by fit k End e = tt

@@ -43,25 +43,25 @@ use Rattle.right_code.proofs.Walked.{filed, walked}
 use Rattle.right_code.proofs.Branching.{mean_under, BranchParts, branch_parts, branch_does, jump_does}
 use Rattle.right_code.proofs.Ways.{way_bits, way_leads}
 
-condition_is : (stock : StockModel) (plan : CoverModel) → condition_of stock plan ≡ (cover_form stock plan).value
+condition_is : (stock : StockModel) (cover : CoverModel) → condition_of stock cover ≡ (cover_form stock cover).value
 condition_is stock (use_form k ps cs) = refl
 
 -- the setting of a branch has bits of its condition alone
-pub setting_within : (stock : StockModel) (tree : ExprModel) (plan : CoverModel) → IsOrderly stock tested tree true plan
-    → bit_and (branch_setting stock tree plan) (fields (cover_form stock plan).value) ≡ branch_setting stock tree plan
-setting_within stock tree plan o =
-    subst (λ c. bit_and (branch_setting stock tree plan) (fields c) ≡ branch_setting stock tree plan) (condition_is stock plan) (branch_in stock tree plan o)
+pub setting_within : (stock : StockModel) (tree : ExprModel) (cover : CoverModel) → IsOrderly stock tested tree true cover
+    → bit_and (branch_setting stock tree cover) (fields (cover_form stock cover).value) ≡ branch_setting stock tree cover
+setting_within stock tree cover o =
+    subst (λ c. bit_and (branch_setting stock tree cover) (fields c) ≡ branch_setting stock tree cover) (condition_is stock cover) (branch_in stock tree cover o)
 
 -- `base` is what the netlist is in mode 0
-module _ (netlist base : Netlist) (basis : IsBase netlist netlist.special 0 base) (order : List ℕ) (keeps : KeepsRules base order) (image : Image) (patterns : List Pattern) (stock : StockModel) (sized : stock.file ≡ size_in InFile base.storages) (formed : AreFormed (file_place base.storages) patterns (length base.storages) stock.file stock.rules) where
+module _ (netlist base : Netlist) (basis : IsBase netlist netlist.special 0 base) (order : List ℕ) (keeps : KeepsRules base order) (image : Image) (patterns : List Pattern) (stock : StockModel) (sized : stock.file ≡ size_in InFile base.storages) (formed : AreFormed (file_place base.storages) patterns (length base.storages) stock.file stock.forms) where
   -- behind a test's words the condition has the value of its tree
-  pub operands_do : (job : JobModel) (choice : JobCoverModel) (at n : ℕ) (when_one : Bool) (way : TargetModel) (form : IsBranchForm base patterns (cover_form stock choice.plan) when_one way) (i bits : ℕ)
+  pub operands_do : (job : JobModel) (choice : JobCoverModel) (at n : ℕ) (when_one : Bool) (way : TargetModel) (form : IsBranchForm base patterns (cover_form stock choice.cover) when_one way) (i bits : ℕ)
       → IsTestMade base netlist.special patterns stock image job choice at n
-      → BranchParts base order keeps patterns (cover_form stock choice.plan) when_one way form i (branch_setting stock (tree_used (test_of job) choice) choice.plan) bits
+      → BranchParts base order keeps patterns (cover_form stock choice.cover) when_one way form i (branch_setting stock (tree_used (test_of job) choice) choice.cover) bits
       → at + n < 2 ^ counter_width base → DoesOperands netlist image stock.temps job i form.condition at n
   operands_do job choice at n when_one way form i bits made p b =
       let used : ExprModel = tree_used (test_of job) choice in
-      let setting : ℕ = branch_setting stock used choice.plan in
+      let setting : ℕ = branch_setting stock used choice.cover in
       let is : used ≡ made.covered.covers.tree = ap tree_or_none made.covered.covers.used in
       let t : is_tree used ≡ true = subst (λ x. is_tree x ≡ true) (sym is) (used_tree job.trees choice.which made.covered.covers.tree made.covered.trees made.covered.covers.used) in
       record {
@@ -73,28 +73,28 @@ module _ (netlist base : Netlist) (basis : IsBase netlist netlist.special 0 base
             let w : WalksTo netlist 0 image at (length made.words) made.live s u =
             walked netlist base 0 basis order keeps image (operation_in base patterns) made.live (job_steps stock (test_of job) choice) made.groups made.words at s made.means made.fit made.kept here.here here.mode made.stand (subst (λ k. at + k < 2 ^ counter_width base) made.long b) in
             let there : IsAt base at s = at_in netlist base at s (sym basis.storages) (sym basis.codes) here.here in
-            let h : LeaveValue stock (file_place base.storages) patterns tested used choice.plan s =
-            subst (λ x. LeaveValue stock (file_place base.storages) patterns tested x choice.plan s) (sym is)
+            let h : LeaveValue stock (file_place base.storages) patterns tested used choice.cover s =
+            subst (λ x. LeaveValue stock (file_place base.storages) patterns tested x choice.cover s) (sym is)
             (leaves stock (file_place base.storages) patterns (length base.storages) formed (test_of job) choice s made.covered there.state.regs (filed base stock.file s sized there.state) (record { reads = lie.reads; destination = tt; below = lie.below })) in
-            let c : ExprModel = condition_of stock choice.plan in
+            let c : ExprModel = condition_of stock choice.cover in
             let a : AgreeOn (λ r. occurs r c) (has_read c) w.last u = record { cells = λ e. by_space (λ space. held w.last space ≡ held u space) w.agree.cells w.agree.file; regs = λ r e. w.agree.regs r (made.wants r (reads_occurs c setting r ∙ e)) } in (
               w.last,
               subst (λ k. Walks netlist image at s k w.last) (sym made.long) w.walks,
               w.mode,
               ap (drop stock.temps) w.agree.cells ∙ same_behind stock.temps u.cells s.cells h.cells (λ c le. h.others c le (λ z. z)),
-              mean_under form.condition w.last i setting p.test_fits p.test ∙ sym (form.alike.means w.last setting) ∙ ap (λ x. mean x w.last setting) (sym (condition_is stock choice.plan))
-                  ∙ mean_alike (condition_of stock choice.plan) setting w.last u a ∙ h.value ∙ tree_mean used s t,
+              mean_under form.condition w.last i setting p.test_fits p.test ∙ sym (form.alike.means w.last setting) ∙ ap (λ x. mean x w.last setting) (sym (condition_is stock choice.cover))
+                  ∙ mean_alike (condition_of stock choice.cover) setting w.last u a ∙ h.value ∙ tree_mean used s t,
             ));
       }
 
   -- the setting of a test's branch has bits of the condition alone
-  test_setting : (job : JobModel) (choice : JobCoverModel) (at n : ℕ) (when_one : Bool) (way : TargetModel) (form : IsBranchForm base patterns (cover_form stock choice.plan) when_one way) → IsTestMade base netlist.special patterns stock image job choice at n
-      → bit_and (branch_setting stock (tree_used (test_of job) choice) choice.plan) (fields form.condition) ≡ branch_setting stock (tree_used (test_of job) choice) choice.plan
+  test_setting : (job : JobModel) (choice : JobCoverModel) (at n : ℕ) (when_one : Bool) (way : TargetModel) (form : IsBranchForm base patterns (cover_form stock choice.cover) when_one way) → IsTestMade base netlist.special patterns stock image job choice at n
+      → bit_and (branch_setting stock (tree_used (test_of job) choice) choice.cover) (fields form.condition) ≡ branch_setting stock (tree_used (test_of job) choice) choice.cover
   test_setting job choice at n when_one way form made =
       let used : ExprModel = tree_used (test_of job) choice in
       let is : used ≡ made.covered.covers.tree = ap tree_or_none made.covered.covers.used in
-      let o : IsOrderly stock tested used true choice.plan = subst (λ x. IsOrderly stock tested x true choice.plan) (sym is) made.covered.covers.orderly in
-      subst (λ k. bit_and (branch_setting stock used choice.plan) k ≡ branch_setting stock used choice.plan) form.same_fields (setting_within stock used choice.plan o)
+      let o : IsOrderly stock tested used true choice.cover = subst (λ x. IsOrderly stock tested x true choice.cover) (sym is) made.covered.covers.orderly in
+      subst (λ k. bit_and (branch_setting stock used choice.cover) k ≡ branch_setting stock used choice.cover) form.same_fields (setting_within stock used choice.cover o)
 
   -- the word of a jump leads to its address
   pub leads : (at to : ℕ) → IsJumpMade base netlist.special patterns (image_word image at) to → GoesTo netlist image at to
@@ -111,17 +111,17 @@ module _ (netlist base : Netlist) (basis : IsBase netlist netlist.special 0 base
       → DoesFork netlist image stock.temps job when_one f at to other
   fork_does job when_one f at to other made few b le far =
       let used : ExprModel = tree_used (test_of job) made.choice in
-      let setting : ℕ = branch_setting stock used made.choice.plan in
+      let setting : ℕ = branch_setting stock used made.choice.cover in
       let i : ℕ = image_word image (at + f.words) in
       let e : bit_and setting (fields made.form.condition) ≡ setting = test_setting job made.choice at f.words when_one made.way made.form made.operands in
-      let p : BranchParts base order keeps patterns (cover_form stock made.choice.plan) when_one made.way made.form i setting made.bits =
-      branch_parts base order keeps patterns (cover_form stock made.choice.plan) when_one made.way made.form i setting made.bits e
+      let p : BranchParts base order keeps patterns (cover_form stock made.choice.cover) when_one made.way made.form i setting made.bits =
+      branch_parts base order keeps patterns (cover_form stock made.choice.cover) when_one made.way made.form i setting made.bits e
       (way_bits base made.way made.form.target (at + f.words) to f.long made.bits made.form.goes made.shown) made.word in
       record {
         condition = made.form.condition;
         operands = operands_do job made.choice at f.words when_one made.way made.form i made.bits made.operands p (omega (arith, b));
         branch = branches netlist image base basis (sound_of base order keeps) made.form.condition when_one (at + f.words) (if f.long then at + f.words + 2 else to)
-            (branch_does base order keeps patterns (cover_form stock made.choice.plan) when_one made.way made.form i setting made.bits (at + f.words) (if f.long then at + f.words + 2 else to) p
+            (branch_does base order keeps patterns (cover_form stock made.choice.cover) when_one made.way made.form i setting made.bits (at + f.words) (if f.long then at + f.words + 2 else to) p
             (λ s here. way_leads base made.way made.form.target (at + f.words) to f.long made.bits i s made.form.goes made.shown p.target_fits p.target few (omega (arith, b)) le far here) b netlist.special made.mode);
         behind = behind_does f.next f.long (at + f.words) to other made.behind;
       }

@@ -29,14 +29,14 @@ module _ (netlist : Netlist) (order : List ℕ) (keeps : KeepsRules netlist orde
   known = known_of netlist order keeps patterns are
 
   pub part : ArePart kept all
-  part k rule at = part_of netlist patterns o all kept keeping k rule at
+  part k form at = part_of netlist patterns o all kept keeping k form at
 
   -- what the forms that keep the mode give to steps, and to jumps and branches
   pub given_forms : FormsGive netlist patterns (memory_width netlist.storages) (size_in InFile netlist.storages) kept
   given_forms = record {
-    formed = λ k rule at. (let p = part k rule at in are_formed netlist order keeps some patterns known most all forms.list p.0 rule p.1);
+    formed = λ k form at. (let p = part k form at in are_formed netlist order keeps some patterns known most all forms.list p.0 form p.1);
     shared = λ j k a b ha hb e. (let p = part j a ha in let q = part k b hb in are_shared netlist order keeps some patterns known most all forms.list p.0 q.0 a b p.1 q.1 e);
-    reads = λ k rule at. (let p = part k rule at in all_read netlist order keeps some patterns known most all forms.list p.0 rule p.1);
+    reads = λ k form at. (let p = part k form at in all_read netlist order keeps some patterns known most all forms.list p.0 form p.1);
   }
 
   pub given_turns : 1 ≤ greatest_reach kept → AreTurns netlist patterns kept (greatest_reach kept)
@@ -44,22 +44,22 @@ module _ (netlist : Netlist) (order : List ℕ) (keeps : KeepsRules netlist orde
 
   -- ---- words of jumps and branches
 
-  own_pattern : (a b : Pattern) (rule : FormModel) → slice_get patterns rule.pattern ≡ Some a → slice_get patterns rule.pattern ≡ Some b → a ≡ b
-  own_pattern a b rule p q = one a b (sym p ∙ q)
+  own_pattern : (a b : Pattern) (form : FormModel) → slice_get patterns form.pattern ≡ Some a → slice_get patterns form.pattern ≡ Some b → a ≡ b
+  own_pattern a b form p q = one a b (sym p ∙ q)
     where
       one : (a b : Pattern) → Some a ≡ Some b → a ≡ b
       one a b e = cc
 
-  turn_keeps : (p : Option ℕ) → IsModeRegister p netlist → (rule : FormModel) → FormKeepsMode netlist patterns p rule → is_control_goal rule.goal ≡ true → (pattern : Pattern) → slice_get patterns rule.pattern ≡ Some pattern
+  turn_keeps : (p : Option ℕ) → IsModeRegister p netlist → (form : FormModel) → FormKeepsMode netlist patterns p form → is_control_goal form.goal ≡ true → (pattern : Pattern) → slice_get patterns form.pattern ≡ Some pattern
       → CanJump netlist pattern → ForEachSetting (transfer_fields pattern.move) (TurnsWith netlist p pattern)
-  turn_keeps None has rule f g pattern at can = λ setting is. (let w = can setting is in (w.0, w.1, record { given = w.2.given; memory = w.2.memory; mode = tt }))
-  turn_keeps (Some mode) has rule f g pattern at can = λ setting is.
-      let both : ForEachSetting (transfer_fields f.pattern.move) (WordKeepsBoth netlist f.pattern mode) = of_goal rule.goal g f.keeps in
-      let own : ForEachSetting (transfer_fields pattern.move) (WordKeepsBoth netlist pattern mode) = subst (λ (q : Pattern). ForEachSetting (transfer_fields q.move) (WordKeepsBoth netlist q mode)) (own_pattern f.pattern pattern rule f.at at) both in
+  turn_keeps None has form f g pattern at can = λ setting is. (let w = can setting is in (w.0, w.1, record { given = w.2.given; memory = w.2.memory; mode = tt }))
+  turn_keeps (Some mode) has form f g pattern at can = λ setting is.
+      let both : ForEachSetting (transfer_fields f.pattern.move) (WordKeepsBoth netlist f.pattern mode) = of_goal form.goal g f.keeps in
+      let own : ForEachSetting (transfer_fields pattern.move) (WordKeepsBoth netlist pattern mode) = subst (λ (q : Pattern). ForEachSetting (transfer_fields q.move) (WordKeepsBoth netlist q mode)) (own_pattern f.pattern pattern form f.at at) both in
       let w = own setting is in
       (w.0, w.1, record { given = w.2.given; memory = w.2.memory; mode = (has, w.2.special) })
     where
-      of_goal : (k : GoalModel) → is_control_goal k ≡ true → GoalKeeps netlist f.pattern mode rule k → ForEachSetting (transfer_fields f.pattern.move) (WordKeepsBoth netlist f.pattern mode)
+      of_goal : (k : GoalModel) → is_control_goal k ≡ true → GoalKeeps netlist f.pattern mode form k → ForEachSetting (transfer_fields f.pattern.move) (WordKeepsBoth netlist f.pattern mode)
       of_goal (into_reg id) e h = absurd (cc e)
       of_goal into_memory e h = absurd (cc e)
       of_goal into_file e h = absurd (cc e)
@@ -67,7 +67,7 @@ module _ (netlist : Netlist) (order : List ℕ) (keeps : KeepsRules netlist orde
       of_goal (branches when_one to) e h = h
 
   pub given_words : IsModeRegister o netlist → AllTurn netlist o patterns kept
-  given_words has k rule at g =
-      let p = part k rule at in
-      let c = turn_can netlist order keeps some patterns known most all forms p.0 rule p.1 g in
-      record { pattern = c.pattern; at = c.at; is = c.is; can = turn_keeps o has rule (kept_form netlist patterns o all kept keeping k rule at) g c.pattern c.at c.can }
+  given_words has k form at g =
+      let p = part k form at in
+      let c = turn_can netlist order keeps some patterns known most all forms p.0 form p.1 g in
+      record { pattern = c.pattern; at = c.at; is = c.is; can = turn_keeps o has form (kept_form netlist patterns o all kept keeping k form at) g c.pattern c.at c.can }

@@ -13,6 +13,7 @@ use Rattle.src_trees.specs.Turned.{Turns, turned_flow}
 use Rattle.src_trees.specs.Flows.{places_for, places_in, places_else, else_entry, asked, flow_of, flow_in, flow_else, program_flow}
 use Rattle.branch_fix.specs.Parts.{form_at_one, fork_to, branch_or_zero, blocks_before, tests_before, part_for, place_part, parts_from, parts_of, room, starts, FitsPart, PartsFit}
 use Rattle.branch_fix.specs.Rounds.{goal_shows, form_shows, widened, widened_from, round, rounds}
+use Rattle.branch_fix.specs.declared.outline.Branch.{Branch}
 use Rattle.branch_fix.specs.declared.part.BranchedTest.{BranchedTest}
 use Rattle.branch_fix.specs.declared.part.LayoutPart.{LayoutPart}
 use Rattle.branch_fix.specs.declared.part.LayoutPart.TheVariants.{Block, Inner, Test, Jump, End}
@@ -108,48 +109,48 @@ get_there [] k l = absurd (omega (arith, l))
 get_there (x ∷ xs) zero l = (x, refl)
 get_there (x ∷ xs) (suc k) l = get_there xs k (omega (arith, l))
 
-fork_upto : (rules : List FormModel) (flow : List Flow) (at n : ℕ) (g : Flow) (f : BranchedTest) → FitsPart rules flow at g (Test f) → Upto n (g ∷ []) → (f.to ≤ n) × (f.other ≤ n)
-fork_upto rules flow at n (Tested tree one none) f h u = (subst (λ k. k ≤ n) (sym h.2) (side (form_at_one (slice_get rules f.form)) one none u.0 u.1), subst (λ k. k ≤ n) (sym h.3) (side (form_at_one (slice_get rules f.form)) none one u.1 u.0))
+fork_upto : (forms : List FormModel) (flow : List Flow) (at n : ℕ) (g : Flow) (f : BranchedTest) → FitsPart forms flow at g (Test f) → Upto n (g ∷ []) → (f.to ≤ n) × (f.other ≤ n)
+fork_upto forms flow at n (Tested tree one none) f h u = (subst (λ k. k ≤ n) (sym h.2) (side (form_at_one (slice_get forms f.form)) one none u.0 u.1), subst (λ k. k ≤ n) (sym h.3) (side (form_at_one (slice_get forms f.form)) none one u.1 u.0))
   where
     side : (b : Bool) (x y : ℕ) → x ≤ n → y ≤ n → (if b then x else y) ≤ n
     side true x y l k = l
     side false x y l k = k
-fork_upto rules flow at n (Assign tree) f h u = absurd h
-fork_upto rules flow at n (Jumped to) f h u = absurd h
-fork_upto rules flow at n Ended f h u = absurd h
+fork_upto forms flow at n (Assign tree) f h u = absurd h
+fork_upto forms flow at n (Jumped to) f h u = absurd h
+fork_upto forms flow at n Ended f h u = absurd h
 
-jump_upto : (rules : List FormModel) (flow : List Flow) (at n : ℕ) (g : Flow) (to : ℕ) → FitsPart rules flow at g (Jump to) → Upto n (g ∷ []) → to ≤ n
-jump_upto rules flow at n (Jumped place) to h u = let l = u.0 in omega (arith, h, l)
-jump_upto rules flow at n (Assign tree) to h u = absurd h
-jump_upto rules flow at n (Tested tree one none) to h u = absurd h
-jump_upto rules flow at n Ended to h u = absurd h
+jump_upto : (forms : List FormModel) (flow : List Flow) (at n : ℕ) (g : Flow) (to : ℕ) → FitsPart forms flow at g (Jump to) → Upto n (g ∷ []) → to ≤ n
+jump_upto forms flow at n (Jumped place) to h u = let l = u.0 in omega (arith, h, l)
+jump_upto forms flow at n (Assign tree) to h u = absurd h
+jump_upto forms flow at n (Tested tree one none) to h u = absurd h
+jump_upto forms flow at n Ended to h u = absurd h
 
 -- what stands at a part's place in the flow
-fits_at : (rules : List FormModel) (flow : List Flow) (parts : List LayoutPart) (k n : ℕ) (p : LayoutPart) → PartsFit rules flow 0 flow parts → slice_get parts k ≡ Some p → Upto n flow → (g : Flow) × FitsPart rules flow k g p × Upto n (g ∷ [])
-fits_at rules flow parts k n p fit e u =
+fits_at : (forms : List FormModel) (flow : List Flow) (parts : List LayoutPart) (k n : ℕ) (p : LayoutPart) → PartsFit forms flow 0 flow parts → slice_get parts k ≡ Some p → Upto n flow → (g : Flow) × FitsPart forms flow k g p × Upto n (g ∷ [])
+fits_at forms flow parts k n p fit e u =
     let l : k < length parts = there parts k p e in
-    let m : length parts ≡ length flow = fit_length rules flow 0 flow parts fit in
+    let m : length parts ≡ length flow = fit_length forms flow 0 flow parts fit in
     let g = get_there flow k (omega (arith, l, m)) in
-    let q = part_at rules flow 0 flow parts k k g.0 fit g.1 (omega arith) in
-    (g.0, subst (λ x. FitsPart rules flow k g.0 x) (one q.0 p (sym q.1 ∙ e)) q.2, upto_get n flow k g.0 u g.1)
+    let q = part_at forms flow 0 flow parts k k g.0 fit g.1 (omega arith) in
+    (g.0, subst (λ x. FitsPart forms flow k g.0 x) (one q.0 p (sym q.1 ∙ e)) q.2, upto_get n flow k g.0 u g.1)
   where
     one : (x y : LayoutPart) → Some x ≡ Some y → x ≡ y
     one x y e = cc
 
-pub ways_inside : (rules : List FormModel) (flow : List Flow) (parts : List LayoutPart) (end : ℕ) → PartsFit rules flow 0 flow parts → length flow ≡ end + 1 → Upto end flow → (at : ℕ) (f : BranchedTest) → slice_get parts at ≡ Some (Test f) → (f.to < length parts) × (f.other < length parts)
-ways_inside rules flow parts end fit long u at f e =
-    let m : length parts ≡ length flow = fit_length rules flow 0 flow parts fit in
-    let g = fits_at rules flow parts at end (Test f) fit e u in
-    let h = fork_upto rules flow at end g.0 f g.1 g.2 in
+pub ways_inside : (forms : List FormModel) (flow : List Flow) (parts : List LayoutPart) (end : ℕ) → PartsFit forms flow 0 flow parts → length flow ≡ end + 1 → Upto end flow → (at : ℕ) (f : BranchedTest) → slice_get parts at ≡ Some (Test f) → (f.to < length parts) × (f.other < length parts)
+ways_inside forms flow parts end fit long u at f e =
+    let m : length parts ≡ length flow = fit_length forms flow 0 flow parts fit in
+    let g = fits_at forms flow parts at end (Test f) fit e u in
+    let h = fork_upto forms flow at end g.0 f g.1 g.2 in
     let a = h.0 in
     let b = h.1 in
     (omega (arith, m, long, a), omega (arith, m, long, b))
 
-pub goals_inside : (rules : List FormModel) (flow : List Flow) (parts : List LayoutPart) (end : ℕ) → PartsFit rules flow 0 flow parts → length flow ≡ end + 1 → Upto end flow → (at to : ℕ) → slice_get parts at ≡ Some (Jump to) → to < length parts
-goals_inside rules flow parts end fit long u at to e =
-    let m : length parts ≡ length flow = fit_length rules flow 0 flow parts fit in
-    let g = fits_at rules flow parts at end (Jump to) fit e u in
-    let h = jump_upto rules flow at end g.0 to g.1 g.2 in
+pub goals_inside : (forms : List FormModel) (flow : List Flow) (parts : List LayoutPart) (end : ℕ) → PartsFit forms flow 0 flow parts → length flow ≡ end + 1 → Upto end flow → (at to : ℕ) → slice_get parts at ≡ Some (Jump to) → to < length parts
+goals_inside forms flow parts end fit long u at to e =
+    let m : length parts ≡ length flow = fit_length forms flow 0 flow parts fit in
+    let g = fits_at forms flow parts at end (Jump to) fit e u in
+    let h = jump_upto forms flow at end g.0 to g.1 g.2 in
     omega (arith, m, long, h)
 
 -- ---- only relative branches become three words
@@ -159,17 +160,17 @@ IsWide (absolute shape) = ⊥
 IsWide (relative shape) = Unit {0}
 
 abbrev pub AreWide : List FormModel → List LayoutPart → Type 0
-AreWide rules parts = (at : ℕ) (f : BranchedTest) (turn : FormModel) (when_one : Bool) (way : TargetModel) → slice_get parts at ≡ Some (Test f) → slice_get rules f.form ≡ Some turn → turn.goal ≡ branches when_one way → f.long ≡ true → IsWide way
+AreWide forms parts = (at : ℕ) (f : BranchedTest) (turn : FormModel) (when_one : Bool) (way : TargetModel) → slice_get parts at ≡ Some (Test f) → slice_get forms f.form ≡ Some turn → turn.goal ≡ branches when_one way → f.long ≡ true → IsWide way
 
-new_short : (rules : List FormModel) (flow : List Flow) (sizes : List ℕ) (forks : List (ℕ × ℕ)) (g : Flow) (at block test : ℕ) (f : BranchedTest) → part_for rules flow sizes forks g at block test ≡ Test f → f.long ≡ false
-new_short rules flow sizes forks (Assign tree) at block test f e = by (continues flow at) e
+new_short : (forms : List FormModel) (flow : List Flow) (sizes : List ℕ) (forks : List Branch) (g : Flow) (at block test : ℕ) (f : BranchedTest) → part_for forms flow sizes forks g at block test ≡ Test f → f.long ≡ false
+new_short forms flow sizes forks (Assign tree) at block test f e = by (continues flow at) e
   where
     by : (c : Bool) → (if c then Inner else Block block (slice_index sizes block)) ≡ Test f → f.long ≡ false
     by true e = absurd (cc e)
     by false e = absurd (cc e)
-new_short rules flow sizes forks (Tested tree one none) at block test f e = by (form_at_one (slice_get rules (branch_or_zero (slice_get forks test)).0)) e
+new_short forms flow sizes forks (Tested tree one none) at block test f e = by (form_at_one (slice_get forms (branch_or_zero (slice_get forks test)).form)) e
   where
-    by : (w : Bool) → (if w then fork_to tree block (slice_index sizes block) (branch_or_zero (slice_get forks test)).0 (branch_or_zero (slice_get forks test)).1 at one none else fork_to tree block (slice_index sizes block) (branch_or_zero (slice_get forks test)).0 (branch_or_zero (slice_get forks test)).1 at none one) ≡ Test f → f.long ≡ false
+    by : (w : Bool) → (if w then fork_to tree block (slice_index sizes block) (branch_or_zero (slice_get forks test)).form (branch_or_zero (slice_get forks test)).setting at one none else fork_to tree block (slice_index sizes block) (branch_or_zero (slice_get forks test)).form (branch_or_zero (slice_get forks test)).setting at none one) ≡ Test f → f.long ≡ false
     by true e = is _ f e
       where
         is : (x y : BranchedTest) → Test x ≡ Test y → y.long ≡ x.long
@@ -178,15 +179,15 @@ new_short rules flow sizes forks (Tested tree one none) at block test f e = by (
       where
         is : (x y : BranchedTest) → Test x ≡ Test y → y.long ≡ x.long
         is x y e = cc
-new_short rules flow sizes forks (Jumped to) at block test f e = absurd (cc e)
-new_short rules flow sizes forks Ended at block test f e = absurd (cc e)
+new_short forms flow sizes forks (Jumped to) at block test f e = absurd (cc e)
+new_short forms flow sizes forks Ended at block test f e = absurd (cc e)
 
-all_short : (rules : List FormModel) (flow : List Flow) (sizes : List ℕ) (forks : List (ℕ × ℕ)) (rest : List Flow) (at k : ℕ) (f : BranchedTest) → slice_get (parts_from rules flow sizes forks rest at) k ≡ Some (Test f) → f.long ≡ false
-all_short rules flow sizes forks [] at k f e = absurd (cc e)
-all_short rules flow sizes forks (g ∷ rest) at k f e =
-    by k (place_part rules flow sizes forks g at) (parts_from rules flow sizes forks rest (at + 1))
-    (new_short rules flow sizes forks g at (blocks_before flow at) (tests_before flow at) f)
-    (λ n. all_short rules flow sizes forks rest (at + 1) n f) e
+all_short : (forms : List FormModel) (flow : List Flow) (sizes : List ℕ) (forks : List Branch) (rest : List Flow) (at k : ℕ) (f : BranchedTest) → slice_get (parts_from forms flow sizes forks rest at) k ≡ Some (Test f) → f.long ≡ false
+all_short forms flow sizes forks [] at k f e = absurd (cc e)
+all_short forms flow sizes forks (g ∷ rest) at k f e =
+    by k (place_part forms flow sizes forks g at) (parts_from forms flow sizes forks rest (at + 1))
+    (new_short forms flow sizes forks g at (blocks_before flow at) (tests_before flow at) f)
+    (λ n. all_short forms flow sizes forks rest (at + 1) n f) e
   where
     one : (x y : LayoutPart) → Some x ≡ Some y → x ≡ y
     one x y e = cc
@@ -196,31 +197,31 @@ all_short rules flow sizes forks (g ∷ rest) at k f e =
     by (suc k) p ps new more e = more k e
 
 -- a test after a round
-record From (rules : List FormModel) (addresses : List ℕ) (parts : List LayoutPart) (k : ℕ) (g : BranchedTest) : Type 0 where
+record From (forms : List FormModel) (addresses : List ℕ) (parts : List LayoutPart) (k : ℕ) (g : BranchedTest) : Type 0 where
   old : BranchedTest
   at : slice_get parts k ≡ Some (Test old)
   place : ℕ
-  is : g ≡ widened rules addresses place old
+  is : g ≡ widened forms addresses place old
 
-test_from : (rules : List FormModel) (addresses : List ℕ) (at : ℕ) (parts : List LayoutPart) (k : ℕ) (g : BranchedTest) → slice_get (widened_from rules addresses at parts) k ≡ Some (Test g) → From rules addresses parts k g
-test_from rules addresses at [] k g e = absurd (cc e)
-test_from rules addresses at (Test f ∷ parts) zero g e = record { old = f; at = refl; place = at; is = same _ g e }
+test_from : (forms : List FormModel) (addresses : List ℕ) (at : ℕ) (parts : List LayoutPart) (k : ℕ) (g : BranchedTest) → slice_get (widened_from forms addresses at parts) k ≡ Some (Test g) → From forms addresses parts k g
+test_from forms addresses at [] k g e = absurd (cc e)
+test_from forms addresses at (Test f ∷ parts) zero g e = record { old = f; at = refl; place = at; is = same _ g e }
   where
     same : (x y : BranchedTest) → Some (Test x) ≡ Some (Test y) → y ≡ x
     same x y e = cc
-test_from rules addresses at (Block block words ∷ parts) zero g e = absurd (cc e)
-test_from rules addresses at (Inner ∷ parts) zero g e = absurd (cc e)
-test_from rules addresses at (Jump to ∷ parts) zero g e = absurd (cc e)
-test_from rules addresses at (End ∷ parts) zero g e = absurd (cc e)
-test_from rules addresses at (p ∷ parts) (suc k) g e =
-    let r = test_from rules addresses (at + room p) parts k g e in
+test_from forms addresses at (Block block words ∷ parts) zero g e = absurd (cc e)
+test_from forms addresses at (Inner ∷ parts) zero g e = absurd (cc e)
+test_from forms addresses at (Jump to ∷ parts) zero g e = absurd (cc e)
+test_from forms addresses at (End ∷ parts) zero g e = absurd (cc e)
+test_from forms addresses at (p ∷ parts) (suc k) g e =
+    let r = test_from forms addresses (at + room p) parts k g e in
     record { old = r.old; at = r.at; place = r.place; is = r.is }
 
-round_wide : (rules : List FormModel) (parts : List LayoutPart) → AreWide rules parts → AreWide rules (round rules parts)
-round_wide rules parts w at g turn when_one way e form goal long =
-    let f = test_from rules (starts parts) 0 parts at g e in
-    let same : slice_get rules f.old.form ≡ Some turn = ap (λ (x : BranchedTest). slice_get rules x.form) (sym f.is) ∙ form in
-    let was : (f.old.long || not (form_shows (slice_get rules f.old.form) (f.place + f.old.words) (slice_index (starts parts) f.old.to))) ≡ true = ap (λ (x : BranchedTest). x.long) (sym f.is) ∙ long in
+round_wide : (forms : List FormModel) (parts : List LayoutPart) → AreWide forms parts → AreWide forms (round forms parts)
+round_wide forms parts w at g turn when_one way e form goal long =
+    let f = test_from forms (starts parts) 0 parts at g e in
+    let same : slice_get forms f.old.form ≡ Some turn = ap (λ (x : BranchedTest). slice_get forms x.form) (sym f.is) ∙ form in
+    let was : (f.old.long || not (form_shows (slice_get forms f.old.form) (f.place + f.old.words) (slice_index (starts parts) f.old.to))) ≡ true = ap (λ (x : BranchedTest). x.long) (sym f.is) ∙ long in
     by way goal f.old same (f.place + f.old.words) (slice_index (starts parts) f.old.to) was (w at f.old turn when_one way f.at same goal)
   where
     plain : (l b : Bool) → b ≡ true → (l || not b) ≡ true → l ≡ true
@@ -228,16 +229,16 @@ round_wide rules parts w at g turn when_one way e form goal long =
     plain false true s e = absurd (cc e)
     plain false false s e = absurd (cc s)
 
-    by : (way : TargetModel) → turn.goal ≡ branches when_one way → (old : BranchedTest) → slice_get rules old.form ≡ Some turn → (n m : ℕ) → (old.long || not (form_shows (slice_get rules old.form) n m)) ≡ true → (old.long ≡ true → IsWide way) → IsWide way
+    by : (way : TargetModel) → turn.goal ≡ branches when_one way → (old : BranchedTest) → slice_get forms old.form ≡ Some turn → (n m : ℕ) → (old.long || not (form_shows (slice_get forms old.form) n m)) ≡ true → (old.long ≡ true → IsWide way) → IsWide way
     by (relative shape) goal old same n m was before = tt
     by (absolute shape) goal old same n m was before = before (plain old.long _ (ap (λ o. form_shows o n m) same ∙ ap (λ k. goal_shows k n m) goal) was)
 
-rounds_wide : (rules : List FormModel) (n : ℕ) (parts : List LayoutPart) → AreWide rules parts → AreWide rules (rounds rules n parts)
-rounds_wide rules zero parts w = w
-rounds_wide rules (suc n) parts w = rounds_wide rules n (round rules parts) (round_wide rules parts w)
+rounds_wide : (forms : List FormModel) (n : ℕ) (parts : List LayoutPart) → AreWide forms parts → AreWide forms (rounds forms n parts)
+rounds_wide forms zero parts w = w
+rounds_wide forms (suc n) parts w = rounds_wide forms n (round forms parts) (round_wide forms parts w)
 
-pub settled_wide : (rules : List FormModel) (flow : List Flow) (sizes : List ℕ) (forks : List (ℕ × ℕ)) (n : ℕ) → AreWide rules (rounds rules n (parts_of rules flow sizes forks))
-settled_wide rules flow sizes forks n = rounds_wide rules n (parts_of rules flow sizes forks) (λ at f turn when_one way e form goal long. absurd (clash f.long (all_short rules flow sizes forks flow 0 at f e) long))
+pub settled_wide : (forms : List FormModel) (flow : List Flow) (sizes : List ℕ) (forks : List Branch) (n : ℕ) → AreWide forms (rounds forms n (parts_of forms flow sizes forks))
+settled_wide forms flow sizes forks n = rounds_wide forms n (parts_of forms flow sizes forks) (λ at f turn when_one way e form goal long. absurd (clash f.long (all_short forms flow sizes forks flow 0 at f e) long))
   where
     clash : (b : Bool) → b ≡ false → b ≡ true → ⊥
     clash b p q = cc

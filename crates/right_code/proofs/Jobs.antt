@@ -42,12 +42,12 @@ used_reads at cells (x ∷ trees) zero t a e = subst (ReadsCells at cells) (some
 used_reads at cells (x ∷ trees) (suc k) t a e = used_reads at cells trees k t a.1 e
 
 -- what a job's cells ask, its steps' state gives
-pub start_at : (stock : StockModel) (count : ℕ) (work : JobModel) (choice : JobCoverModel) (s : State) (c : IsCovered stock work choice) → length s.regs ≡ count → stock.file ≤ length s.file → Lies stock.temps s.cells work → IsCoverStart stock count work.destination c.covers.tree s
-start_at stock count work choice s c n f l = record {
+pub start_at : (stock : StockModel) (count : ℕ) (job : JobModel) (choice : JobCoverModel) (s : State) (c : IsCovered stock job choice) → length s.regs ≡ count → stock.file ≤ length s.file → Lies stock.temps s.cells job → IsCoverStart stock count job.destination c.covers.tree s
+start_at stock count job choice s c n f l = record {
   regs = n;
-  reads = tree_reads stock.temps c.covers.tree s (used_tree work.trees choice.which c.covers.tree c.trees c.covers.used) (used_reads stock.temps s.cells work.trees choice.which c.covers.tree l.reads c.covers.used);
-  aim_reads = aim_reads work.destination c.destination l.destination;
-  aim = aim_within work.destination c.destination l.destination;
+  reads = tree_reads stock.temps c.covers.tree s (used_tree job.trees choice.which c.covers.tree c.trees c.covers.used) (used_reads stock.temps s.cells job.trees choice.which c.covers.tree l.reads c.covers.used);
+  aim_reads = aim_reads job.destination c.destination l.destination;
+  aim = aim_within job.destination c.destination l.destination;
   temps = l.below;
   file = f;
 }
@@ -82,7 +82,7 @@ put_same at a b v w xs ys n e f lt put others = record {
       | inr k ↦ get_or-set_other xs a c w 0 k ∙ sym (others c le (λ z. k (z ∙ e)))
     ]
 
-module _ (stock : StockModel) (file : Option ℕ) (patterns : List Pattern) (count : ℕ) (formed : AreFormed file patterns count stock.file stock.rules) where
+module _ (stock : StockModel) (file : Option ℕ) (patterns : List Pattern) (count : ℕ) (formed : AreFormed file patterns count stock.file stock.forms) where
   -- what a job that stores something needs
   abbrev Needs : DestinationModel → Type 0 → Type 0
   Needs tested x = Unit {0}
@@ -97,22 +97,22 @@ module _ (stock : StockModel) (file : Option ℕ) (patterns : List Pattern) (cou
   given temporary trees x j o f = absurd j
 
   -- a job's steps, where the job's value is that of this tree
-  left : (destination : DestinationModel) (tree : ExprModel) (plan : CoverModel) (v : ℕ) (s : State) → IsOfJob destination → IsTreeDestination destination → DestinationLies stock.temps s.cells destination → LeaveValue stock file patterns destination tree plan s → Needs destination (mean tree s 0 ≡ v)
-      → Alike stock.temps (put_at destination v s.cells) (steps_effect (operation_of file patterns) (cover_steps stock destination tree plan) s).cells
-  left (cell a) tree plan v s j t l h e = put_same stock.temps a a (mean tree s 0) v s.cells _ h.cells refl e l.1 h.value h.others
-  left (stored a) tree plan v s j t l h e =
+  left : (destination : DestinationModel) (tree : ExprModel) (cover : CoverModel) (v : ℕ) (s : State) → IsOfJob destination → IsTreeDestination destination → DestinationLies stock.temps s.cells destination → LeaveValue stock file patterns destination tree cover s → Needs destination (mean tree s 0 ≡ v)
+      → Alike stock.temps (put_at destination v s.cells) (steps_effect (operation_of file patterns) (cover_steps stock destination tree cover) s).cells
+  left (cell a) tree cover v s j t l h e = put_same stock.temps a a (mean tree s 0) v s.cells _ h.cells refl e l.1 h.value h.others
+  left (stored a) tree cover v s j t l h e =
       put_same stock.temps (tree_value s.cells a) (mean a s 0) (mean tree s 0) v s.cells _ h.cells (tree_mean a s t) e l.2 h.value h.others
-  left tested tree plan v s j t l h e = record { same = sym (same_behind stock.temps _ s.cells h.cells (λ c b. h.others c b (λ z. z))); long = sym h.cells }
-  left (into id) tree plan v s j t l h e = absurd j
-  left filed tree plan v s j t l h e = absurd j
-  left temporary tree plan v s j t l h e = absurd j
+  left tested tree cover v s j t l h e = record { same = sym (same_behind stock.temps _ s.cells h.cells (λ c b. h.others c b (λ z. z))); long = sym h.cells }
+  left (into id) tree cover v s j t l h e = absurd j
+  left filed tree cover v s j t l h e = absurd j
+  left temporary tree cover v s j t l h e = absurd j
 
-  pub leaves : (work : JobModel) (choice : JobCoverModel) (s : State) (c : IsCovered stock work choice) → length s.regs ≡ count → stock.file ≤ length s.file → Lies stock.temps s.cells work
-      → LeaveValue stock file patterns work.destination c.covers.tree choice.plan s
-  leaves work choice s c n f l = leave_value stock file patterns count formed work.destination c.covers.tree choice.plan s c.goes c.covers.orderly c.covers.enough c.few (start_at stock count work choice s c n f l)
+  pub leaves : (job : JobModel) (choice : JobCoverModel) (s : State) (c : IsCovered stock job choice) → length s.regs ≡ count → stock.file ≤ length s.file → Lies stock.temps s.cells job
+      → LeaveValue stock file patterns job.destination c.covers.tree choice.cover s
+  leaves job choice s c n f l = leave_value stock file patterns count formed job.destination c.covers.tree choice.cover s c.goes c.covers.orderly c.covers.enough c.few (start_at stock count job choice s c n f l)
 
-  used_is : (work : JobModel) (choice : JobCoverModel) (c : IsCovered stock work choice) → tree_used work choice ≡ c.covers.tree
-  used_is work choice c = ap tree_or_none c.covers.used
+  used_is : (job : JobModel) (choice : JobCoverModel) (c : IsCovered stock job choice) → tree_used job choice ≡ c.covers.tree
+  used_is job choice c = ap tree_or_none c.covers.used
 
   value_is : (cells : List ℕ) (trees : List ExprModel) (k : ℕ) (t : ExprModel) → IsOne trees → slice_get trees k ≡ Some t → tree_value cells t ≡ job_value cells trees
   value_is cells trees k t o e = subst (λ ts. slice_get ts k ≡ Some t → tree_value cells t ≡ job_value cells ts) (sym o.1) (by k) e
@@ -121,28 +121,28 @@ module _ (stock : StockModel) (file : Option ℕ) (patterns : List Pattern) (cou
       by zero e = cc
       by (suc k) e = absurd (cc e)
 
-  pub job_left : (work : JobModel) (choice : JobCoverModel) (s : State) → IsCovered stock work choice → HasOne work.destination work.trees → length s.regs ≡ count → stock.file ≤ length s.file → Lies stock.temps s.cells work
-      → LeavesDone stock.temps (work ∷ []) s (steps_effect (operation_of file patterns) (job_steps stock work choice) s)
-  job_left work choice s c o n f l =
-      let h : LeaveValue stock file patterns work.destination c.covers.tree choice.plan s = leaves work choice s c n f l in
-      let t : is_tree c.covers.tree ≡ true = used_tree work.trees choice.which c.covers.tree c.trees c.covers.used in
-      let a : Alike stock.temps (done work s.cells) (steps_effect (operation_of file patterns) (cover_steps stock work.destination c.covers.tree choice.plan) s).cells =
-      left work.destination c.covers.tree choice.plan (job_value s.cells work.trees) s c.goes c.destination l.destination h
-      (given work.destination work.trees _ c.goes o (λ z. tree_mean c.covers.tree s t ∙ value_is s.cells work.trees choice.which c.covers.tree z c.covers.used)) in
-      subst (λ x. LeavesDone stock.temps (work ∷ []) s (steps_effect (operation_of file patterns) (cover_steps stock work.destination x choice.plan) s)) (sym (used_is work choice c))
+  pub job_left : (job : JobModel) (choice : JobCoverModel) (s : State) → IsCovered stock job choice → HasOne job.destination job.trees → length s.regs ≡ count → stock.file ≤ length s.file → Lies stock.temps s.cells job
+      → LeavesDone stock.temps (job ∷ []) s (steps_effect (operation_of file patterns) (job_steps stock job choice) s)
+  job_left job choice s c o n f l =
+      let h : LeaveValue stock file patterns job.destination c.covers.tree choice.cover s = leaves job choice s c n f l in
+      let t : is_tree c.covers.tree ≡ true = used_tree job.trees choice.which c.covers.tree c.trees c.covers.used in
+      let a : Alike stock.temps (done job s.cells) (steps_effect (operation_of file patterns) (cover_steps stock job.destination c.covers.tree choice.cover) s).cells =
+      left job.destination c.covers.tree choice.cover (job_value s.cells job.trees) s c.goes c.destination l.destination h
+      (given job.destination job.trees _ c.goes o (λ z. tree_mean c.covers.tree s t ∙ value_is s.cells job.trees choice.which c.covers.tree z c.covers.used)) in
+      subst (λ x. LeavesDone stock.temps (job ∷ []) s (steps_effect (operation_of file patterns) (cover_steps stock job.destination x choice.cover) s)) (sym (used_is job choice c))
       (record { same = a.same; long = a.long; regs = h.regs; file = h.file })
 
   pub jobs_left : (jobs : List JobModel) (choices : List JobCoverModel) (s : State) → AreCovered stock jobs choices → length s.regs ≡ count → stock.file ≤ length s.file → AllLie stock.temps s.cells jobs
       → LeavesDone stock.temps jobs s (steps_effect (operation_of file patterns) (jobs_steps stock jobs choices) s)
   jobs_left [] [] s c n f l = record { same = refl; long = refl; regs = refl; file = refl }
   jobs_left [] (choice ∷ choices) s c n f l = absurd c
-  jobs_left (work ∷ jobs) [] s c n f l = absurd c
-  jobs_left (work ∷ jobs) (choice ∷ choices) s c n f l =
-      let u : State = steps_effect (operation_of file patterns) (job_steps stock work choice) s in
-      let one : LeavesDone stock.temps (work ∷ []) s u = job_left work choice s c.0 c.1 n f l.0 in
-      let a : Alike stock.temps (done work s.cells) u.cells = record { same = one.same; long = one.long } in
-      let b : Alike stock.temps (all_done jobs (done work s.cells)) (all_done jobs u.cells) = all_done_behind stock.temps (done work s.cells) u.cells jobs a l.1 in
+  jobs_left (job ∷ jobs) [] s c n f l = absurd c
+  jobs_left (job ∷ jobs) (choice ∷ choices) s c n f l =
+      let u : State = steps_effect (operation_of file patterns) (job_steps stock job choice) s in
+      let one : LeavesDone stock.temps (job ∷ []) s u = job_left job choice s c.0 c.1 n f l.0 in
+      let a : Alike stock.temps (done job s.cells) u.cells = record { same = one.same; long = one.long } in
+      let b : Alike stock.temps (all_done jobs (done job s.cells)) (all_done jobs u.cells) = all_done_behind stock.temps (done job s.cells) u.cells jobs a l.1 in
       let r : LeavesDone stock.temps jobs u (steps_effect (operation_of file patterns) (jobs_steps stock jobs choices) u) =
-      jobs_left jobs choices u c.2 (one.regs ∙ n) (subst (λ k. stock.file ≤ k) (sym one.file) f) (all_lie_behind stock.temps (done work s.cells) u.cells jobs a l.1) in
-      subst (LeavesDone stock.temps (work ∷ jobs) s) (sym (effect-steps (operation_of file patterns) (job_steps stock work choice) (jobs_steps stock jobs choices) s))
+      jobs_left jobs choices u c.2 (one.regs ∙ n) (subst (λ k. stock.file ≤ k) (sym one.file) f) (all_lie_behind stock.temps (done job s.cells) u.cells jobs a l.1) in
+      subst (LeavesDone stock.temps (job ∷ jobs) s) (sym (effect-steps (operation_of file patterns) (job_steps stock job choice) (jobs_steps stock jobs choices) s))
       (record { same = b.same ∙ r.same; long = b.long ∙ r.long; regs = r.regs ∙ one.regs; file = r.file ∙ one.file })

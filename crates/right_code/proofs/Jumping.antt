@@ -80,18 +80,18 @@ pub record TurnsWith (netlist : Netlist) (o : Option ℕ) (pattern : Pattern) (w
   pub mode : KeepsMode o netlist word
 
 -- the form's pattern has such a word for each setting
-pub record CanTurnWith (netlist : Netlist) (o : Option ℕ) (patterns : List Pattern) (rule : FormModel) : Type 0 where
+pub record CanTurnWith (netlist : Netlist) (o : Option ℕ) (patterns : List Pattern) (form : FormModel) : Type 0 where
   pub pattern : Pattern
-  pub at : slice_get patterns rule.pattern ≡ Some pattern
+  pub at : slice_get patterns form.pattern ≡ Some pattern
   pub is : IsPattern netlist pattern
   pub can : ForEachSetting (transfer_fields pattern.move) (TurnsWith netlist o pattern)
 
 -- each jump and branch form has
 abbrev pub AllTurn : Netlist → Option ℕ → List Pattern → List FormModel → Type 0
-AllTurn netlist o patterns rules = (k : ℕ) (rule : FormModel) → slice_get rules k ≡ Some rule → is_control_goal rule.goal ≡ true → CanTurnWith netlist o patterns rule
+AllTurn netlist o patterns forms = (k : ℕ) (form : FormModel) → slice_get forms k ≡ Some form → is_control_goal form.goal ≡ true → CanTurnWith netlist o patterns form
 
-module _ (netlist : Netlist) (order : List ℕ) (keeps : KeepsRules netlist order) (o : Option ℕ) (patterns : List Pattern) (reach : ℕ) (stock : StockModel) (turning : AllTurn netlist o patterns stock.rules) (far : reach ≡ greatest_reach stock.rules)
-    (turns : AreTurns netlist patterns stock.rules reach) where
+module _ (netlist : Netlist) (order : List ℕ) (keeps : KeepsRules netlist order) (o : Option ℕ) (patterns : List Pattern) (reach : ℕ) (stock : StockModel) (turning : AllTurn netlist o patterns stock.forms) (far : reach ≡ greatest_reach stock.forms)
+    (turns : AreTurns netlist patterns stock.forms reach) where
   -- a step has a word that does its jump
   abbrev pub HasWord : Step → Type 0
   HasWord step = (word : ℕ) × FitsTurn netlist o word (operation_in netlist patterns step)
@@ -100,14 +100,14 @@ module _ (netlist : Netlist) (order : List ℕ) (keeps : KeepsRules netlist orde
   same_pattern p q e = cc
 
   -- a step of such a form with bits of its pattern
-  turn_word : (rule : FormModel) (p : Pattern) (setting : ℕ) → CanTurnWith netlist o patterns rule → slice_get patterns rule.pattern ≡ Some p → IsSetting (transfer_fields p.move) setting
-      → HasWord (record { pattern = rule.pattern; setting = setting })
-  turn_word rule p setting can at within =
+  turn_word : (form : FormModel) (p : Pattern) (setting : ℕ) → CanTurnWith netlist o patterns form → slice_get patterns form.pattern ≡ Some p → IsSetting (transfer_fields p.move) setting
+      → HasWord (record { pattern = form.pattern; setting = setting })
+  turn_word form p setting can at within =
       let own : IsSetting (transfer_fields can.pattern.move) setting = subst (λ (q : Pattern). IsSetting (transfer_fields q.move) setting) (same_pattern p can.pattern (sym at ∙ can.at)) within in
       let w = can.can setting own in (
         w.0,
         record {
-          fits = jump_fits netlist patterns (record { pattern = rule.pattern; setting = setting }) (record { pattern = can.pattern; at = can.at; is = can.is; setting = own }) w.0 w.2.given w.1 w.2.memory;
+          fits = jump_fits netlist patterns (record { pattern = form.pattern; setting = setting }) (record { pattern = can.pattern; at = can.at; is = can.is; setting = own }) w.0 w.2.given w.1 w.2.memory;
           mode = w.2.mode;
         },
       )
@@ -115,19 +115,19 @@ module _ (netlist : Netlist) (order : List ℕ) (keeps : KeepsRules netlist orde
   same_form : (a b : FormModel) → Some a ≡ Some b → a ≡ b
   same_form a b e = cc
 
-  first_turns : 1 ≤ reach → CanTurnWith netlist o patterns turns.rule
+  first_turns : 1 ≤ reach → CanTurnWith netlist o patterns turns.form
   first_turns l =
-      let f = first_jump stock.rules reach l far in
-      let same : turns.rule ≡ f.rule = same_form turns.rule f.rule (sym turns.first ∙ f.first) in
-      turning f.place turns.rule (f.at ∙ ap Some (sym same)) (ap (λ (r : FormModel). is_control_goal r.goal) same ∙ ap is_control_goal f.goal)
+      let f = first_jump stock.forms reach l far in
+      let same : turns.form ≡ f.form = same_form turns.form f.form (sym turns.first ∙ f.first) in
+      turning f.place turns.form (f.at ∙ ap Some (sym same)) (ap (λ (r : FormModel). is_control_goal r.goal) same ∙ ap is_control_goal f.goal)
 
   -- a jump to an address below the reach
-  jump_word : (to : ℕ) → to < reach → HasWord (jump_step (jump_form stock.rules reach) to)
+  jump_word : (to : ℕ) → to < reach → HasWord (jump_step (jump_form stock.forms reach) to)
   jump_word to lt =
-      let bits : ℕ = unwrap_or (shape_setting turns.rule.value to) 0 in
-      let shown : shape_setting turns.rule.value to ≡ Some bits = shown_some (shape_setting turns.rule.value to) (turns.shown to lt) in
+      let bits : ℕ = unwrap_or (shape_setting turns.form.value to) 0 in
+      let shown : shape_setting turns.form.value to ≡ Some bits = shown_some (shape_setting turns.form.value to) (turns.shown to lt) in
       subst (λ p. HasWord (jump_step p to)) (sym turns.first)
-      (turn_word turns.rule _ bits (first_turns (omega (arith, lt))) turns.jump.is (shape_bits turns.rule.value to bits shown))
+      (turn_word turns.form _ bits (first_turns (omega (arith, lt))) turns.jump.is (shape_bits turns.form.value to bits shown))
 
   -- ---- the words of items
 
@@ -155,20 +155,20 @@ module _ (netlist : Netlist) (order : List ℕ) (keeps : KeepsRules netlist orde
   groups_have block at zero = tt
   groups_have block at (suc n) = groups_have block (at + 1) n
 
-  items_have : (rules : List FormModel) (jump : Option FormModel) (addresses : List ℕ) (at : ℕ) (parts : List LayoutPart)
-      → ((k : ℕ) (p : LayoutPart) (n : ℕ) → slice_get parts k ≡ Some p → n ≡ at + address parts k → ItemsHave (part_items rules jump addresses n p)) → ItemsHave (items_from rules jump addresses at parts)
-  items_have rules jump addresses at [] h = tt
-  items_have rules jump addresses at (p ∷ parts) h =
-      have_on (part_items rules jump addresses at p) (items_from rules jump addresses (at + room p) parts) (h 0 p at refl (omega arith))
-      (items_have rules jump addresses (at + room p) parts (λ k q n e z. h (suc k) q n e (omega (arith, z))))
+  items_have : (forms : List FormModel) (jump : Option FormModel) (addresses : List ℕ) (at : ℕ) (parts : List LayoutPart)
+      → ((k : ℕ) (p : LayoutPart) (n : ℕ) → slice_get parts k ≡ Some p → n ≡ at + address parts k → ItemsHave (part_items forms jump addresses n p)) → ItemsHave (items_from forms jump addresses at parts)
+  items_have forms jump addresses at [] h = tt
+  items_have forms jump addresses at (p ∷ parts) h =
+      have_on (part_items forms jump addresses at p) (items_from forms jump addresses (at + room p) parts) (h 0 p at refl (omega arith))
+      (items_have forms jump addresses (at + room p) parts (λ k q n e z. h (suc k) q n e (omega (arith, z))))
 
-  module _ (flow : List Flow) (parts : List LayoutPart) (end : ℕ) (f : IsFlow flow end) (upto : Upto end flow) (layout : IsLayout stock.rules flow parts reach) where
+  module _ (flow : List Flow) (parts : List LayoutPart) (end : ℕ) (f : IsFlow flow end) (upto : Upto end flow) (layout : IsLayout stock.forms flow parts reach) where
     -- a jump to a place
-    to_place : (k : ℕ) → k < length parts → HasWord (jump_step (jump_form stock.rules reach) (slice_index (starts parts) k))
-    to_place k lt = subst (λ n. HasWord (jump_step (jump_form stock.rules reach) n)) (sym (address_is parts k (omega (arith, lt)))) (jump_word (address parts k) (near netlist order keeps patterns stock reach turns flow parts end f upto layout k lt))
+    to_place : (k : ℕ) → k < length parts → HasWord (jump_step (jump_form stock.forms reach) (slice_index (starts parts) k))
+    to_place k lt = subst (λ n. HasWord (jump_step (jump_form stock.forms reach) n)) (sym (address_is parts k (omega (arith, lt)))) (jump_word (address parts k) (near netlist order keeps patterns stock reach turns flow parts end f upto layout k lt))
 
     behind_have : (next long : Bool) (to other : ℕ) → to < length parts → other < length parts
-        → ItemsHave (behind (jump_form stock.rules reach) next long (slice_index (starts parts) to) (slice_index (starts parts) other))
+        → ItemsHave (behind (jump_form stock.forms reach) next long (slice_index (starts parts) to) (slice_index (starts parts) other))
     behind_have next true to other lt low = (to_place other low, (to_place to lt, tt))
     behind_have true false to other lt low = tt
     behind_have false false to other lt low = (to_place other low, tt)
@@ -176,26 +176,26 @@ module _ (netlist : Netlist) (order : List ℕ) (keeps : KeepsRules netlist orde
     -- each branch has the form and the setting of an orderly cover
     pub record IsAsked (g : BranchedTest) : Type 0 where
       pub tree : ExprModel
-      pub plan : CoverModel
-      pub orderly : IsOrderly stock tested tree true plan
-      pub form : slice_get stock.rules g.form ≡ Some (cover_form stock plan)
-      pub setting : g.setting ≡ branch_setting stock tree plan
+      pub cover : CoverModel
+      pub orderly : IsOrderly stock tested tree true cover
+      pub form : slice_get stock.forms g.form ≡ Some (cover_form stock cover)
+      pub setting : g.setting ≡ branch_setting stock tree cover
 
-    branch_word : (at : ℕ) (g : BranchedTest) → slice_get parts at ≡ Some (Test g) → IsAsked g → HasWord (branch_step (slice_get stock.rules g.form) g.setting (address parts at + g.words) (slice_index (starts parts) g.to) g.long)
+    branch_word : (at : ℕ) (g : BranchedTest) → slice_get parts at ≡ Some (Test g) → IsAsked g → HasWord (branch_step (slice_get stock.forms g.form) g.setting (address parts at + g.words) (slice_index (starts parts) g.to) g.long)
     branch_word at g e asked =
-        let setting : ℕ = branch_setting stock asked.tree asked.plan in
-        let s : IsBranchStep netlist order keeps patterns stock reach turns flow parts end f upto layout setting asked.plan g (address parts at + g.words) (address parts g.to) =
-        branch_step_is netlist order keeps patterns stock reach turns flow parts end f upto layout at g e asked.tree asked.plan setting asked.orderly asked.form asked.setting in
-        let rule : FormModel = cover_form stock asked.plan in
-        let form : IsBranchForm netlist patterns rule s.when_one s.way = turns.forks g.form rule s.when_one s.way asked.form s.goal in
-        let own : bit_and setting (fields form.condition) ≡ setting = subst (λ k. bit_and setting k ≡ setting) form.same_fields (setting_within stock asked.tree asked.plan asked.orderly) in
+        let setting : ℕ = branch_setting stock asked.tree asked.cover in
+        let s : IsBranchStep netlist order keeps patterns stock reach turns flow parts end f upto layout setting asked.cover g (address parts at + g.words) (address parts g.to) =
+        branch_step_is netlist order keeps patterns stock reach turns flow parts end f upto layout at g e asked.tree asked.cover setting asked.orderly asked.form asked.setting in
+        let branch : FormModel = cover_form stock asked.cover in
+        let form : IsBranchForm netlist patterns branch s.when_one s.way = turns.forks g.form branch s.when_one s.way asked.form s.goal in
+        let own : bit_and setting (fields form.condition) ≡ setting = subst (λ k. bit_and setting k ≡ setting) form.same_fields (setting_within stock asked.tree asked.cover asked.orderly) in
         let bits : bit_and s.bits (fields form.target) ≡ s.bits = way_bits netlist s.way form.target (address parts at + g.words) (address parts g.to) g.long s.bits form.goes s.shown in
         subst HasWord (sym s.step)
-        (turn_word rule _ (bit_or setting s.bits) (turning g.form rule asked.form (ap is_control_goal s.goal)) form.is
+        (turn_word branch _ (bit_or setting s.bits) (turning g.form branch asked.form (ap is_control_goal s.goal)) form.is
         (branch_fields s.when_one form.condition form.target form.step setting s.bits own bits))
 
     part_have : ((at : ℕ) (g : BranchedTest) → slice_get parts at ≡ Some (Test g) → IsAsked g) → (k : ℕ) (p : LayoutPart) → slice_get parts k ≡ Some p
-        → ItemsHave (part_items stock.rules (jump_form stock.rules reach) (starts parts) (address parts k) p)
+        → ItemsHave (part_items stock.forms (jump_form stock.forms reach) (starts parts) (address parts k) p)
     part_have asked k (Block block words) e = groups_have block 0 words
     part_have asked k Inner e = tt
     part_have asked k (Test g) e =
@@ -206,8 +206,8 @@ module _ (netlist : Netlist) (order : List ℕ) (keeps : KeepsRules netlist orde
 
     -- each jump and branch word of the layout
     pub layout_words : ((at : ℕ) (g : BranchedTest) → slice_get parts at ≡ Some (Test g) → IsAsked g) → (k : ℕ) (step : Step)
-        → slice_get (items_from stock.rules (jump_form stock.rules reach) (starts parts) 0 parts) k ≡ Some (Word step) → HasWord step
+        → slice_get (items_from stock.forms (jump_form stock.forms reach) (starts parts) 0 parts) k ≡ Some (Word step) → HasWord step
     layout_words asked k step e =
-        have_get (items_from stock.rules (jump_form stock.rules reach) (starts parts) 0 parts) k step
-        (items_have stock.rules (jump_form stock.rules reach) (starts parts) 0 parts
-        (λ n p a h z. subst (λ m. ItemsHave (part_items stock.rules (jump_form stock.rules reach) (starts parts) m p)) (let y : address parts n ≡ a = omega (arith, z) in y) (part_have asked n p h))) e
+        have_get (items_from stock.forms (jump_form stock.forms reach) (starts parts) 0 parts) k step
+        (items_have stock.forms (jump_form stock.forms reach) (starts parts) 0 parts
+        (λ n p a h z. subst (λ m. ItemsHave (part_items stock.forms (jump_form stock.forms reach) (starts parts) m p)) (let y : address parts n ≡ a = omega (arith, z) in y) (part_have asked n p h))) e

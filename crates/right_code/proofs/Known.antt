@@ -26,6 +26,6 @@ known_of netlist order keeps patterns are k p at =
     let pattern : IsPattern netlist p = all_at (IsPattern netlist) patterns k p are.each at in
     record {
       is = pattern;
-      terms = subst (IsTransferOf netlist) pattern.given.gives (move_exprs netlist order keeps pattern.word p.storage);
+      exprs = subst (IsTransferOf netlist) pattern.given.gives (move_exprs netlist order keeps pattern.word p.storage);
       fits = subst TransferFits pattern.given.gives (move_fits netlist (sound_of netlist order keeps) pattern.word p.storage);
     }

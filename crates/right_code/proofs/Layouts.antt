@@ -33,7 +33,7 @@ use Rattle.branch_fix.proofs.Rounds.{still_shows}
 use Rattle.right_code.proofs.Standing.{shown_some}
 
 -- the form at the root of a test's cover is a branch form
-pub cover_goal : (stock : StockModel) (tree : ExprModel) (plan : CoverModel) → IsOrderly stock tested tree true plan → (b : Bool) × (way : TargetModel) × ((cover_form stock plan).goal ≡ branches b way)
+pub cover_goal : (stock : StockModel) (tree : ExprModel) (cover : CoverModel) → IsOrderly stock tested tree true cover → (b : Bool) × (way : TargetModel) × ((cover_form stock cover).goal ≡ branches b way)
 cover_goal stock tree (use_form k ps cs) o = by (form_at stock k).goal refl (opened_cover stock k ps cs tested tree true o).takes
   where
     by : (g : GoalModel) → (form_at stock k).goal ≡ g → goal_match stock.temps (form_at stock k) g tested tree true ≡ Some (match_at stock k tested tree true) → (b : Bool) × (way : TargetModel) × ((form_at stock k).goal ≡ branches b way)
@@ -44,12 +44,12 @@ cover_goal stock tree (use_form k ps cs) o = by (form_at stock k).goal refl (ope
     by (jumps reach) e h = absurd (cc h)
 
 -- a part stands in the code
-pub within_code : (rules : List FormModel) (flow : List Flow) (end : ℕ) (parts : List LayoutPart) (k : ℕ) → IsFlow flow end → PartsFit rules flow 0 flow parts → k < length parts → address parts k < total parts
-within_code rules flow end parts k f fit l =
-    let n : length parts ≡ length flow = fit_length rules flow 0 flow parts fit in
+pub within_code : (forms : List FormModel) (flow : List Flow) (end : ℕ) (parts : List LayoutPart) (k : ℕ) → IsFlow flow end → PartsFit forms flow 0 flow parts → k < length parts → address parts k < total parts
+within_code forms flow end parts k f fit l =
+    let n : length parts ≡ length flow = fit_length forms flow 0 flow parts fit in
     let long : length flow ≡ end + 1 = f.long in
-    let at = part_at rules flow 0 flow parts end end Ended fit f.last (omega arith) in
-    let one : 1 ≤ room at.0 = (ended rules flow end at.0 at.2).1 in
+    let at = part_at forms flow 0 flow parts end end Ended fit f.last (omega arith) in
+    let one : 1 ≤ room at.0 = (ended forms flow end at.0 at.2).1 in
     let b : address parts (end + 1) ≡ address parts end + room at.0 = address_next parts end at.0 at.1 in
     let c : address parts (end + 1) ≡ total parts = address_total parts (end + 1) (sym (n ∙ long)) in
     let d : address parts k ≤ address parts end = address_rises parts k end (omega (arith, n, long, l)) in
@@ -63,22 +63,22 @@ shown_way netlist reach (absolute shape) false from to r lt low wide still = (re
 shown_way netlist reach (relative shape) true from to r lt low wide still = shown_some (shape_setting shape 2) r
 shown_way netlist reach (relative shape) false from to r lt low wide still = (low, shown_some (shape_setting shape (distance (expr_width shape) from to)) (still refl))
 
-module _ (netlist : Netlist) (order : List ℕ) (keeps : KeepsRules netlist order) (patterns : List Pattern) (stock : StockModel) (reach : ℕ) (turns : AreTurns netlist patterns stock.rules reach) where
-  module _ (flow : List Flow) (parts : List LayoutPart) (end : ℕ) (f : IsFlow flow end) (upto : Upto end flow) (layout : IsLayout stock.rules flow parts reach) where
-    pub fit : PartsFit stock.rules flow 0 flow parts
-    fit = settled_fit stock.rules flow layout.sizes layout.settings parts layout.settled
+module _ (netlist : Netlist) (order : List ℕ) (keeps : KeepsRules netlist order) (patterns : List Pattern) (stock : StockModel) (reach : ℕ) (turns : AreTurns netlist patterns stock.forms reach) where
+  module _ (flow : List Flow) (parts : List LayoutPart) (end : ℕ) (f : IsFlow flow end) (upto : Upto end flow) (layout : IsLayout stock.forms flow parts reach) where
+    pub fit : PartsFit stock.forms flow 0 flow parts
+    fit = settled_fit stock.forms flow layout.sizes layout.branches parts layout.settled
 
-    wide : AreWide stock.rules parts
-    wide = subst (AreWide stock.rules) (sym layout.settled.made) (settled_wide stock.rules flow layout.sizes layout.settings layout.settled.count)
+    wide : AreWide stock.forms parts
+    wide = subst (AreWide stock.forms) (sym layout.settled.made) (settled_wide stock.forms flow layout.sizes layout.branches layout.settled.count)
 
     pub ways : (at : ℕ) (g : BranchedTest) → slice_get parts at ≡ Some (Test g) → (g.to < length parts) × (g.other < length parts)
-    ways = ways_inside stock.rules flow parts end fit f.long upto
+    ways = ways_inside stock.forms flow parts end fit f.long upto
 
     pub goals : (at to : ℕ) → slice_get parts at ≡ Some (Jump to) → to < length parts
-    goals = goals_inside stock.rules flow parts end fit f.long upto
+    goals = goals_inside stock.forms flow parts end fit f.long upto
 
     low : (k : ℕ) → k < length parts → address parts k < total parts
-    low k l = within_code stock.rules flow end parts k f fit l
+    low k l = within_code stock.forms flow end parts k f fit l
 
     pub near : (k : ℕ) → k < length parts → address parts k < reach
     near k l = let a : address parts k < total parts = low k l in let r : total parts ≤ reach = layout.reached in omega (arith, a, r)
@@ -91,34 +91,34 @@ module _ (netlist : Netlist) (order : List ℕ) (keeps : KeepsRules netlist orde
         omega (arith, a, r, c)
 
     -- the step of a branch word: the condition's bits, and those that show the target
-    pub record IsBranchStep (setting : ℕ) (plan : CoverModel) (g : BranchedTest) (from to : ℕ) : Type 0 where
+    pub record IsBranchStep (setting : ℕ) (cover : CoverModel) (g : BranchedTest) (from to : ℕ) : Type 0 where
       pub when_one : Bool
       pub way : TargetModel
-      pub goal : (cover_form stock plan).goal ≡ branches when_one way
+      pub goal : (cover_form stock cover).goal ≡ branches when_one way
       pub bits : ℕ
       pub shown : IsTargetShown netlist way from to g.long bits
-      pub step : branch_step (slice_get stock.rules g.form) g.setting from (slice_index (starts parts) g.to) g.long ≡ record { pattern = (cover_form stock plan).pattern; setting = bit_or setting bits }
+      pub step : branch_step (slice_get stock.forms g.form) g.setting from (slice_index (starts parts) g.to) g.long ≡ record { pattern = (cover_form stock cover).pattern; setting = bit_or setting bits }
 
-    pub branch_step_is : (at : ℕ) (g : BranchedTest) → slice_get parts at ≡ Some (Test g) → (tree : ExprModel) (plan : CoverModel) (setting : ℕ) → IsOrderly stock tested tree true plan → slice_get stock.rules g.form ≡ Some (cover_form stock plan) → g.setting ≡ setting
-        → IsBranchStep setting plan g (address parts at + g.words) (address parts g.to)
-    branch_step_is at g e tree plan setting orderly form asked =
-        let rule : FormModel = cover_form stock plan in
+    pub branch_step_is : (at : ℕ) (g : BranchedTest) → slice_get parts at ≡ Some (Test g) → (tree : ExprModel) (cover : CoverModel) (setting : ℕ) → IsOrderly stock tested tree true cover → slice_get stock.forms g.form ≡ Some (cover_form stock cover) → g.setting ≡ setting
+        → IsBranchStep setting cover g (address parts at + g.words) (address parts g.to)
+    branch_step_is at g e tree cover setting orderly form asked =
+        let branch : FormModel = cover_form stock cover in
         let from : ℕ = address parts at + g.words in
         let to : ℕ = address parts g.to in
-        let goal = cover_goal stock tree plan orderly in
+        let goal = cover_goal stock tree cover orderly in
         let way : TargetModel = goal.1 in
-        let is : rule.goal ≡ branches goal.0 way = goal.2 in
+        let is : branch.goal ≡ branches goal.0 way = goal.2 in
         let in_to = (ways at g e).0 in
         let to_is : slice_index (starts parts) g.to ≡ to = address_is parts g.to (omega (arith, in_to)) in
         let still : g.long ≡ false → target_shows way from to ≡ true =
-        (λ z. sym (ap (λ o. form_shows o from (slice_index (starts parts) g.to)) form ∙ ap (λ n. goal_shows rule.goal from n) to_is ∙ ap (λ k. goal_shows k from to) is)
-        ∙ still_shows stock.rules (starts parts) parts at g e layout.settled.still z) in
+        (λ z. sym (ap (λ o. form_shows o from (slice_index (starts parts) g.to)) form ∙ ap (λ n. goal_shows branch.goal from n) to_is ∙ ap (λ k. goal_shows k from to) is)
+        ∙ still_shows stock.forms (starts parts) parts at g e layout.settled.still z) in
         record {
           when_one = goal.0;
           way = way;
           goal = is;
           bits = target_setting way from to g.long;
-          shown = shown_way netlist reach way g.long from to (turns.reaches g.form rule goal.0 way form is) (near g.to in_to) (counted g.to in_to) (wide at g rule goal.0 way e form is) still;
-          step = ap (λ o. branch_step o g.setting from (slice_index (starts parts) g.to) g.long) form ∙ ap (λ n. branch_step (Some rule) g.setting from n g.long) to_is
-              ∙ ap (λ n. branch_step (Some rule) n from to g.long) asked ∙ ap (λ k. record { pattern = rule.pattern; setting = bit_or setting (goal_setting k from to g.long) }) is;
+          shown = shown_way netlist reach way g.long from to (turns.reaches g.form branch goal.0 way form is) (near g.to in_to) (counted g.to in_to) (wide at g branch goal.0 way e form is) still;
+          step = ap (λ o. branch_step o g.setting from (slice_index (starts parts) g.to) g.long) form ∙ ap (λ n. branch_step (Some branch) g.setting from n g.long) to_is
+              ∙ ap (λ n. branch_step (Some branch) n from to g.long) asked ∙ ap (λ k. record { pattern = branch.pattern; setting = bit_or setting (goal_setting k from to g.long) }) is;
         }

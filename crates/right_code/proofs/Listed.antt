@@ -16,7 +16,7 @@ use Rattle.form_model.specs.Effects.{register, expr_reads}
 use Rattle.form_set.specs.Listing.{AreFormModels, sides_of}
 use Rattle.form_set.specs.Promises.{IsForm, IsFormOf, of_branch, of_jump, of_plain}
 use Rattle.form_set.specs.Static.{is_file_at}
-use Rattle.form_set.specs.Swaps.{SidesModel, swapped}
+use Rattle.operand_swaps.specs.Swaps.{SidesModel, swapped}
 use Rattle.form_set.proofs.FormLaws.{form_at}
 use Rattle.form_set.proofs.NoForms.{plain_not_branch}
 use Rattle.form_set.proofs.OneList.{clobbers_one}
@@ -27,41 +27,41 @@ use Rattle.emit_seq.specs.Spares.{AreShared, ReadsCounter}
 use Rattle.right_code.specs.Inner.Known.{AreKnown}
 use Rattle.right_code.proofs.Plain.{plain_formed}
 use Rattle.right_code.proofs.Swapping.{AddrSwapped, AreSwapped, swapped_sides}
-use Rattle.right_code.proofs.Turning.{test_once, test_shown, test_swapped, test_terms}
+use Rattle.right_code.proofs.Turning.{test_once, test_shown, test_swapped, test_exprs}
 
 module _ (netlist : Netlist) (order : List ℕ) (keeps : KeepsRules netlist order) (some : 0 < word_width netlist) (patterns : List Pattern) (known : AreKnown netlist patterns) where
   zero_plus : (n : ℕ) → 0 + n ≡ n
   zero_plus n = omega arith
 
-  of_formed : (reach number : ℕ) (p : Pattern) (rule : FormModel) → slice_get patterns number ≡ Some p → IsFormOf netlist reach number p rule → IsFormed (file_place netlist.storages) patterns (length netlist.storages) (size_in InFile netlist.storages) rule rule.goal
-  of_formed reach number p rule at (of_plain choice clobbers plain are e) =
+  of_formed : (reach number : ℕ) (p : Pattern) (form : FormModel) → slice_get patterns number ≡ Some p → IsFormOf netlist reach number p form → IsFormed (file_place netlist.storages) patterns (length netlist.storages) (size_in InFile netlist.storages) form form.goal
+  of_formed reach number p form at (of_plain choice clobbers plain are e) =
       subst (λ (r : FormModel). IsFormed (file_place netlist.storages) patterns (length netlist.storages) (size_in InFile netlist.storages) r r.goal) (sym e) (plain_formed netlist order keeps some patterns known p number choice clobbers at plain are)
-  of_formed reach number p rule at (of_jump h e) =
+  of_formed reach number p form at (of_jump h e) =
       subst (λ (r : FormModel). IsFormed (file_place netlist.storages) patterns (length netlist.storages) (size_in InFile netlist.storages) r r.goal) (sym e) tt
-  of_formed reach number p rule at (of_branch choice parts b e) =
+  of_formed reach number p form at (of_branch choice parts b e) =
       subst (λ (r : FormModel). IsFormed (file_place netlist.storages) patterns (length netlist.storages) (size_in InFile netlist.storages) r r.goal) (sym e)
       (test_once netlist some patterns known reach number p at parts b choice, test_shown netlist some patterns known reach number p at parts b choice)
 
-  module _ (reach : ℕ) (rules : List FormModel) (list : AreFormModels netlist reach 0 patterns rules) where
+  module _ (reach : ℕ) (forms : List FormModel) (list : AreFormModels netlist reach 0 patterns forms) where
     -- a form of the list, with the number of its pattern
-    pub record Placed (rule : FormModel) : Type 0 where
+    pub record Placed (form : FormModel) : Type 0 where
       pub number : ℕ
       pub pattern : Pattern
       pub at : slice_get patterns number ≡ Some pattern
-      pub of : IsFormOf netlist reach number pattern rule
+      pub of : IsFormOf netlist reach number pattern form
 
-    pub placed : (k : ℕ) (rule : FormModel) → slice_get rules k ≡ Some rule → Placed rule
-    placed k rule h =
-        let f : IsForm netlist reach 0 patterns rule = form_at netlist reach 0 patterns rules list k rule h in
-        record { number = f.place; pattern = f.pattern; at = f.at; of = subst (λ n. IsFormOf netlist reach n f.pattern rule) (zero_plus f.place) f.of }
+    pub placed : (k : ℕ) (form : FormModel) → slice_get forms k ≡ Some form → Placed form
+    placed k form h =
+        let f : IsForm netlist reach 0 patterns form = form_at netlist reach 0 patterns forms list k form h in
+        record { number = f.place; pattern = f.pattern; at = f.at; of = subst (λ n. IsFormOf netlist reach n f.pattern form) (zero_plus f.place) f.of }
 
-    pub are_formed : AreFormed (file_place netlist.storages) patterns (length netlist.storages) (size_in InFile netlist.storages) rules
-    are_formed k rule h = let f = placed k rule h in of_formed reach f.number f.pattern rule f.at f.of
+    pub are_formed : AreFormed (file_place netlist.storages) patterns (length netlist.storages) (size_in InFile netlist.storages) forms
+    are_formed k form h = let f = placed k form h in of_formed reach f.number f.pattern form f.at f.of
 
-    number_is : (number : ℕ) (p : Pattern) (rule : FormModel) → IsFormOf netlist reach number p rule → rule.pattern ≡ number
-    number_is number p rule (of_plain choice clobbers plain are e) = ap (λ (r : FormModel). r.pattern) e
-    number_is number p rule (of_jump h e) = ap (λ (r : FormModel). r.pattern) e
-    number_is number p rule (of_branch choice parts b e) = ap (λ (r : FormModel). r.pattern) e
+    number_is : (number : ℕ) (p : Pattern) (form : FormModel) → IsFormOf netlist reach number p form → form.pattern ≡ number
+    number_is number p form (of_plain choice clobbers plain are e) = ap (λ (r : FormModel). r.pattern) e
+    number_is number p form (of_jump h e) = ap (λ (r : FormModel). r.pattern) e
+    number_is number p form (of_branch choice parts b e) = ap (λ (r : FormModel). r.pattern) e
 
     -- ---- forms of one pattern have the same clobbers
 
@@ -79,7 +79,7 @@ module _ (netlist : Netlist) (order : List ℕ) (keeps : KeepsRules netlist orde
     same_pattern : (m n : ℕ) (p q : Pattern) → slice_get patterns m ≡ Some p → slice_get patterns n ≡ Some q → m ≡ n → p ≡ q
     same_pattern m n p q e f h = let g : Some p ≡ Some q = sym e ∙ ap (λ k. slice_get patterns k) h ∙ f in cc
 
-    pub are_shared : AreShared rules
+    pub are_shared : AreShared forms
     are_shared j k a b ha hb e =
         let f = placed j a ha in
         let g = placed k b hb in
@@ -105,10 +105,10 @@ module _ (netlist : Netlist) (order : List ℕ) (keeps : KeepsRules netlist orde
     register_goal storage pc false true e = absurd (cc)
     register_goal storage pc false false e = cc
 
-    counter_read : (number : ℕ) (p : Pattern) (rule : FormModel) → IsFormOf netlist reach number p rule → rule.goal ≡ into_reg (counter_of netlist.codes) → expr_reads 0 rule.value (register (counter_of netlist.codes)) ≡ true
-    counter_read number p rule (of_jump h e) g = let x : jumps _ ≡ into_reg (counter_of netlist.codes) = sym (ap (λ (r : FormModel). r.goal) e) ∙ g in absurd (cc)
-    counter_read number p rule (of_branch choice parts h e) g = let x : branches _ _ ≡ into_reg (counter_of netlist.codes) = sym (ap (λ (r : FormModel). r.goal) e) ∙ g in absurd (cc)
-    counter_read number p rule (of_plain choice clobbers plain are e) g =
+    counter_read : (number : ℕ) (p : Pattern) (form : FormModel) → IsFormOf netlist reach number p form → form.goal ≡ into_reg (counter_of netlist.codes) → expr_reads 0 form.value (register (counter_of netlist.codes)) ≡ true
+    counter_read number p form (of_jump h e) g = let x : jumps _ ≡ into_reg (counter_of netlist.codes) = sym (ap (λ (r : FormModel). r.goal) e) ∙ g in absurd (cc)
+    counter_read number p form (of_branch choice parts h e) g = let x : branches _ _ ≡ into_reg (counter_of netlist.codes) = sym (ap (λ (r : FormModel). r.goal) e) ∙ g in absurd (cc)
+    counter_read number p form (of_plain choice clobbers plain are e) g =
         let pc : ℕ = counter_of netlist.codes in
         let s : p.storage ≡ pc = register_goal p.storage pc (p.storage == memory_id netlist.storages) (is_file_at netlist p.storage) (sym (ap (λ (r : FormModel). r.goal) e) ∙ g) in
         let w = plain.ok 0 (let le = and_le_l 0 (transfer_fields p.move) in omega (arith, le)) in
@@ -121,8 +121,8 @@ module _ (netlist : Netlist) (order : List ℕ) (keeps : KeepsRules netlist orde
         by i to (inl h) = value_read choice p.move _ (counter_of netlist.codes) (sym to ∙ h) (next_read (counter_of netlist.codes) (counter_width netlist))
         by i to (inr h) = value_read choice p.move _ (counter_of netlist.codes) (sym to ∙ h) (swapped_read (counter_of netlist.codes) (counter_width netlist))
 
-    pub is_counter : ReadsCounter rules (counter_of netlist.codes)
-    is_counter k rule h g = let f = placed k rule h in (0, counter_read f.number f.pattern rule f.of g)
+    pub is_counter : ReadsCounter forms (counter_of netlist.codes)
+    is_counter k form h g = let f = placed k form h in (0, counter_read f.number f.pattern form f.of g)
 
     -- ---- reads are of words of the data memory
 
@@ -157,15 +157,15 @@ module _ (netlist : Netlist) (order : List ℕ) (keeps : KeepsRules netlist orde
     transfer_reads (write e) h = (tt, reads_words e h)
     transfer_reads (write_at a e) h = (reads_words a h.0, reads_words e h.1)
 
-    of_reads : (number : ℕ) (p : Pattern) (rule : FormModel) → slice_get patterns number ≡ Some p → IsFormOf netlist reach number p rule → Reads (record { addr = rule.addr; value = rule.value })
-    of_reads number p rule at (of_plain choice clobbers plain are e) =
+    of_reads : (number : ℕ) (p : Pattern) (form : FormModel) → slice_get patterns number ≡ Some p → IsFormOf netlist reach number p form → Reads (record { addr = form.addr; value = form.value })
+    of_reads number p form at (of_plain choice clobbers plain are e) =
         subst (λ (r : FormModel). Reads (record { addr = r.addr; value = r.value })) (sym e)
-        (sides_read (sides_of p.move) (swapped choice (sides_of p.move)) (swapped_sides choice (sides_of p.move)) (transfer_reads p.move (known number p at).terms))
-    of_reads number p rule at (of_jump h e) =
-        subst (λ (r : FormModel). Reads (record { addr = r.addr; value = r.value })) (sym e) (tt, (transfer_reads (write h.target) (subst (IsTransferOf netlist) h.move (known number p at).terms)).1)
-    of_reads number p rule at (of_branch choice parts b e) =
+        (sides_read (sides_of p.move) (swapped choice (sides_of p.move)) (swapped_sides choice (sides_of p.move)) (transfer_reads p.move (known number p at).exprs))
+    of_reads number p form at (of_jump h e) =
+        subst (λ (r : FormModel). Reads (record { addr = r.addr; value = r.value })) (sym e) (tt, (transfer_reads (write h.target) (subst (IsTransferOf netlist) h.move (known number p at).exprs)).1)
+    of_reads number p form at (of_branch choice parts b e) =
         subst (λ (r : FormModel). Reads (record { addr = r.addr; value = r.value })) (sym e)
-        (tt, (test_swapped netlist some patterns known reach number p at parts b choice).words (memory_width netlist.storages) (reads_words parts.test (test_terms netlist some patterns known reach number p at parts b)))
+        (tt, (test_swapped netlist some patterns known reach number p at parts b choice).words (memory_width netlist.storages) (reads_words parts.test (test_exprs netlist some patterns known reach number p at parts b)))
 
-    pub all_read : AllReadWords (memory_width netlist.storages) rules
-    all_read k rule h = let f = placed k rule h in of_reads f.number f.pattern rule f.at f.of
+    pub all_read : AllReadWords (memory_width netlist.storages) forms
+    all_read k form h = let f = placed k form h in of_reads f.number f.pattern form f.at f.of

@@ -46,42 +46,42 @@ use Rattle.right_code.proofs.Kept.{keep_of}
 use Rattle.right_code.proofs.ModeKept.{StepsApart, job_apart, jobs_apart, packed_keep}
 use Rattle.right_code.proofs.Ordered.{ordered_right}
 use Rattle.right_code.proofs.Standing.{shown_some}
-use Rattle.right_code.specs.Works.{AllOne, AreFlowJobs, IsTestJob}
+use Rattle.right_code.specs.FlowJobs.{AllOne, AreFlowJobs, IsTestJob}
 use Rattle.right_code.proofs.Tasks.{test_job_of}
 
 -- ---- what forms of a mode give
 
-pub record FormsGive (netlist : Netlist) (patterns : List Pattern) (width size : ℕ) (rules : List FormModel) : Type 0 where
-  pub formed : AreFormed (file_place netlist.storages) patterns (length netlist.storages) size rules
-  pub shared : AreShared rules
-  pub reads : AllReadWords width rules
+pub record FormsGive (netlist : Netlist) (patterns : List Pattern) (width size : ℕ) (forms : List FormModel) : Type 0 where
+  pub formed : AreFormed (file_place netlist.storages) patterns (length netlist.storages) size forms
+  pub shared : AreShared forms
+  pub reads : AllReadWords width forms
 
-jobs_spare : (o : Option ℕ) (netlist : Netlist) (patterns : List Pattern) (width : ℕ) (all : List FormModel) (stock : StockModel) → AreKeeping netlist patterns o all stock.rules → FormsGive netlist patterns width stock.file stock.rules
+jobs_spare : (o : Option ℕ) (netlist : Netlist) (patterns : List Pattern) (width : ℕ) (all : List FormModel) (stock : StockModel) → AreKeeping netlist patterns o all stock.forms → FormsGive netlist patterns width stock.file stock.forms
     → (jobs : List JobModel) (choices : List JobCoverModel) → AreCovered stock jobs choices → StepsApart o netlist patterns (jobs_steps stock jobs choices)
 jobs_spare None netlist patterns width all stock k g jobs choices c = tt
 jobs_spare (Some mode) netlist patterns width all stock k g jobs choices c =
-    jobs_apart stock (file_place netlist.storages) patterns (length netlist.storages) mode g.formed g.shared (keep_of netlist patterns mode all stock.rules k) jobs choices c
+    jobs_apart stock (file_place netlist.storages) patterns (length netlist.storages) mode g.formed g.shared (keep_of netlist patterns mode all stock.forms k) jobs choices c
 
-job_spare : (o : Option ℕ) (netlist : Netlist) (patterns : List Pattern) (width : ℕ) (all : List FormModel) (stock : StockModel) → AreKeeping netlist patterns o all stock.rules → FormsGive netlist patterns width stock.file stock.rules
+job_spare : (o : Option ℕ) (netlist : Netlist) (patterns : List Pattern) (width : ℕ) (all : List FormModel) (stock : StockModel) → AreKeeping netlist patterns o all stock.forms → FormsGive netlist patterns width stock.file stock.forms
     → (job : JobModel) (choice : JobCoverModel) → IsCovered stock job choice → StepsApart o netlist patterns (job_steps stock job choice)
 job_spare None netlist patterns width all stock k g job choice c = tt
 job_spare (Some mode) netlist patterns width all stock k g job choice c =
-    job_apart stock (file_place netlist.storages) patterns (length netlist.storages) mode g.formed g.shared (keep_of netlist patterns mode all stock.rules k) job choice c
+    job_apart stock (file_place netlist.storages) patterns (length netlist.storages) mode g.formed g.shared (keep_of netlist patterns mode all stock.forms k) job choice c
 
 pub has_in : (o : Option ℕ) (a b : Netlist) → a.storages ≡ b.storages → IsModeRegister o a → IsModeRegister o b
 has_in None a b e h = tt
 has_in (Some mode) a b e h = subst (λ (list : List Storage). IsRegister (slice_get list mode)) e h
 
 -- a mode word puts its number
-word_made : (netlist : Netlist) (special : Option ℕ) (patterns : List Pattern) (rules : List FormModel) (to number word : ℕ) → IsModeRegister special netlist → FitsModeWord netlist special patterns rules to number word → IsModeWordMade netlist special word to
-word_made netlist special patterns rules to number word h f = record {
+word_made : (netlist : Netlist) (special : Option ℕ) (patterns : List Pattern) (forms : List FormModel) (to number word : ℕ) → IsModeRegister special netlist → FitsModeWord netlist special patterns forms to number word → IsModeWordMade netlist special word to
+word_made netlist special patterns forms to number word h f = record {
   clean = f.given.clean;
   id = f.mode;
   is = f.is;
   register = subst (λ o. IsModeRegister o netlist) f.is h;
-  value = f.rule.value;
+  value = f.form.value;
   move = f.given.gives;
-  puts = record { fixed = shape_fixed f.rule.value to _ (shown_some (shape_setting f.rule.value to) f.puts.shown); is = f.value };
+  puts = record { fixed = shape_fixed f.form.value to _ (shown_some (shape_setting f.form.value to) f.puts.shown); is = f.value };
   steps = f.steps;
   memory = f.memory;
 }
@@ -100,10 +100,10 @@ module _ (task : Task) (image : Image) (made : IsMadeFor task image) where
   kit_in v = own_kit task made.isas v
 
   abbrev pub machine : Machine
-  machine = record { netlist = task.netlist; temps = temp_count task.width task.listing }
+  machine = record { netlist = task.netlist; temps = temp_count task.width task.program }
 
-  module _ (keeps : (v : ℕ) → KeepsInOrder (net_in v)) (give : (v : ℕ) → FormsGive (net_in v) (made.isas v).patterns task.width (size_in InFile task.netlist.storages) (made.isas v).rules) (register : IsModeRegister task.netlist.special task.netlist) (most : ℕ)
-      (small : AllSmall task.width (temp_count task.width task.listing) most (task_jobs task)) (one : AllOne (task_jobs task)) (tests : AreFlowJobs (task_jobs task) task.flow) where
+  module _ (keeps : (v : ℕ) → KeepsInOrder (net_in v)) (give : (v : ℕ) → FormsGive (net_in v) (made.isas v).patterns task.width (size_in InFile task.netlist.storages) (made.isas v).keeping) (register : IsModeRegister task.netlist.special task.netlist) (most : ℕ)
+      (small : AllSmall task.width (temp_count task.width task.program) most (task_jobs task)) (one : AllOne (task_jobs task)) (tests : AreFlowJobs (task_jobs task) task.flow) where
     pub is_kit : (v : ℕ) → held task.netlist v ≡ v → IsKit machine v (kit_in v)
     is_kit v e = record {
       base = subst (λ x. IsBase task.netlist task.netlist.special x (net_in v)) e (base_of task.netlist task.netlist.special (held task.netlist v));
@@ -173,14 +173,14 @@ module _ (task : Task) (image : Image) (made : IsMadeFor task image) where
     one_job : (x y : JobModel) → Some x ≡ Some y → x ≡ y
     one_job x y e = cc
 
-    pub made_laid : length (words_of image) ≤ code_size task.netlist.codes → length (words_of image) ≤ greatest_reach (made.isas 0).rules
-        → IsLaidCode machine (kit_in 0) image task.flow (task_jobs task) made.parts (greatest_reach (made.isas 0).rules)
+    pub made_laid : length (words_of image) ≤ code_size task.netlist.codes → length (words_of image) ≤ greatest_reach (made.isas 0).keeping
+        → IsLaidCode machine (kit_in 0) image task.flow (task_jobs task) made.parts (greatest_reach (made.isas 0).keeping)
     made_laid room reached =
-        let fit : PartsFit (made.isas 0).rules task.flow 0 task.flow made.parts = settled_fit (made.isas 0).rules task.flow made.sizes made.settings made.parts made.settled in
+        let fit : PartsFit (made.isas 0).keeping task.flow 0 task.flow made.parts = settled_fit (made.isas 0).keeping task.flow made.sizes made.branches made.parts made.settled in
         let long = made.long in
         let codes : code_size (net_in 0).codes ≡ code_size task.netlist.codes = ap code_size (is_kit 0 refl).base.codes in
         record {
-          layout = record { sizes = made.sizes; settings = made.settings; settled = made.settled; reached = omega (arith, long, reached) };
+          layout = record { sizes = made.sizes; branches = made.branches; settled = made.settled; reached = omega (arith, long, reached) };
           room = omega (arith, long, room, codes);
           marks = made.marks;
           words = made.words;
@@ -194,8 +194,8 @@ module _ (task : Task) (image : Image) (made : IsMadeFor task image) where
               (cuts_covered task made.isas (jobs_at task.flow (task_jobs task) at n) (plans_at task.flow made.plans at n) c) p.0 in
               record { sections = r.sections; are = cuts_jobs task made.isas (jobs_at task.flow (task_jobs task) at n) (plans_at task.flow made.plans at n) c ∙ r.jobs; ready = r.ready; long = p.1 });
           forks = λ at f e job has_job.
-              (let t : IsTestJob (task_jobs task) f.tree = test_job_of (task_jobs task) (made.isas 0).rules task.flow made.parts at f fit tests e in
-              let aim : job.destination ≡ tested = ap (λ (x : JobModel). x.destination) (one_job job t.work (sym has_job ∙ t.at)) ∙ t.destination in
+              (let t : IsTestJob (task_jobs task) f.tree = test_job_of (task_jobs task) (made.isas 0).keeping task.flow made.parts at f fit tests e in
+              let aim : job.destination ≡ tested = ap (λ (x : JobModel). x.destination) (one_job job t.job (sym has_job ∙ t.at)) ∙ t.destination in
               let d = test_plan task made.isas (λ v. (give v).reads) most small one made.plans made.planned (task_jobs task) made.plans f.tree job small made.planned has_job aim in
               let same : test_of job ≡ job = as_test job aim in
               let p : AreTestWords (net_in 0) task.netlist.special (made.isas 0).patterns (kit_in 0).stock (test_of job) d.0.choice (made.groups f.block) (made.words f.block) f =
@@ -204,22 +204,22 @@ module _ (task : Task) (image : Image) (made : IsMadeFor task image) where
               record {
                 choice = d.0.choice;
                 covered = c;
-                live = with_mode task.netlist.special (wanted (kit_in 0).stock tested (tree_used (test_of job) d.0.choice) d.0.choice.plan);
+                live = with_mode task.netlist.special (wanted (kit_in 0).stock tested (tree_used (test_of job) d.0.choice) d.0.choice.cover);
                 groups = made.groups f.block;
                 means = p.packing.means;
                 least = p.least;
                 long = p.long;
-                kept = packed_keep task.netlist.special (net_in 0) (made.isas 0).patterns (job_steps (kit_in 0).stock (test_of job) d.0.choice) (wanted (kit_in 0).stock tested (tree_used (test_of job) d.0.choice) d.0.choice.plan) (made.groups f.block) (made.words f.block) (has 0)
+                kept = packed_keep task.netlist.special (net_in 0) (made.isas 0).patterns (job_steps (kit_in 0).stock (test_of job) d.0.choice) (wanted (kit_in 0).stock tested (tree_used (test_of job) d.0.choice) d.0.choice.cover) (made.groups f.block) (made.words f.block) (has 0)
                     (job_spare task.netlist.special (net_in 0) (made.isas 0).patterns task.width (made.isas 0).all (kit_in 0).stock (made.isas 0).kept (give 0) (test_of job) d.0.choice c) p.packing p.least;
-                wants = λ r h. wanted_on task.netlist.special (wanted (kit_in 0).stock tested (tree_used (test_of job) d.0.choice) d.0.choice.plan) r h;
+                wants = λ r h. wanted_on task.netlist.special (wanted (kit_in 0).stock tested (tree_used (test_of job) d.0.choice) d.0.choice.cover) r h;
                 form = p.branch.form;
                 setting = p.branch.setting;
               });
         }
 
     -- from every start state in mode 0
-    pub made_traces : length (words_of image) ≤ code_size task.netlist.codes → length (words_of image) ≤ greatest_reach (made.isas 0).rules → AreTurns (net_in 0) (made.isas 0).patterns (made.isas 0).rules (greatest_reach (made.isas 0).rules)
-        → first_fault task.width task.listing ≡ None → memory_width task.netlist.storages ≡ task.width → HasJobs task → TracesRight task.netlist image (strace task.width task.listing)
+    pub made_traces : length (words_of image) ≤ code_size task.netlist.codes → length (words_of image) ≤ greatest_reach (made.isas 0).keeping → AreTurns (net_in 0) (made.isas 0).patterns (made.isas 0).keeping (greatest_reach (made.isas 0).keeping)
+        → first_fault task.width task.program ≡ None → memory_width task.netlist.storages ≡ task.width → HasJobs task → TracesRight task.netlist image (strace task.width task.program)
     made_traces room reached turns program wide jobs =
-        ordered_right machine (kit_in 0) (is_kit 0 refl) image (greatest_reach (made.isas 0).rules) turns (task_memory task) task.listing jobs.turned task.works made.parts program wide jobs.held jobs.room made.layout.places jobs.only jobs.meant
-        (subst (λ flow. IsLaidCode machine (kit_in 0) image flow (task_jobs task) made.parts (greatest_reach (made.isas 0).rules)) jobs.flow (made_laid room reached))
+        ordered_right machine (kit_in 0) (is_kit 0 refl) image (greatest_reach (made.isas 0).keeping) turns (task_memory task) task.program jobs.turned task.jobs made.parts program wide jobs.held jobs.room made.layout.places jobs.only jobs.meant
+        (subst (λ flow. IsLaidCode machine (kit_in 0) image flow (task_jobs task) made.parts (greatest_reach (made.isas 0).keeping)) jobs.flow (made_laid room reached))

@@ -88,31 +88,31 @@ module _ {A : Type 0} (m : A → Operation) (mode : ℕ) where
 
 -- no clobbers of a form that goes into a register or into cells hold the mode
 abbrev pub AllKeep : ℕ → List FormModel → Type 0
-AllKeep mode rules = (k : ℕ) (rule : FormModel) → slice_get rules k ≡ Some rule → IsStepping rule.goal → bit_at rule.clobbers mode ≡ 0
+AllKeep mode forms = (k : ℕ) (form : FormModel) → slice_get forms k ≡ Some form → IsStepping form.goal → bit_at form.clobbers mode ≡ 0
 
 -- of any forms, where there is no mode
 abbrev pub FormsKeep : Option ℕ → List FormModel → Type 0
-FormsKeep None rules = Unit {0}
-FormsKeep (Some mode) rules = AllKeep mode rules
+FormsKeep None forms = Unit {0}
+FormsKeep (Some mode) forms = AllKeep mode forms
 
 apart_both : {A : Type 0} (m : A → Operation) (mode : ℕ) (xs ys : List A) → AreApart m mode xs → AreApart m mode ys → AreApart m mode (xs ++ ys)
 apart_both m mode [] ys h k = k
 apart_both m mode (x ∷ xs) ys h k = (h.0, h.1, apart_both m mode xs ys h.2 k)
 
-module _ (stock : StockModel) (file : Option ℕ) (patterns : List Pattern) (count mode : ℕ) (formed : AreFormed file patterns count stock.file stock.rules) (shared : AreShared stock.rules) (keep : AllKeep mode stock.rules) where
+module _ (stock : StockModel) (file : Option ℕ) (patterns : List Pattern) (count mode : ℕ) (formed : AreFormed file patterns count stock.file stock.forms) (shared : AreShared stock.forms) (keep : AllKeep mode stock.forms) where
   -- none of these forms goes into the mode, since it would clobber it
-  no_form : ReadsCounter stock.rules mode
-  no_form k rule at goal =
-      let f : IsIntoReg patterns count stock.file rule mode = subst (λ (g : GoalModel). IsFormed file patterns count stock.file rule g) goal (formed k rule at) in
-      let one : bit_at rule.clobbers mode ≡ 1 = f.clobbered in
-      let none : bit_at rule.clobbers mode ≡ 0 = keep k rule at (subst IsStepping (sym goal) tt) in
+  no_form : ReadsCounter stock.forms mode
+  no_form k form at goal =
+      let f : IsIntoReg patterns count stock.file form mode = subst (λ (g : GoalModel). IsFormed file patterns count stock.file form g) goal (formed k form at) in
+      let one : bit_at form.clobbers mode ≡ 1 = f.clobbered in
+      let none : bit_at form.clobbers mode ≡ 0 = keep k form at (subst IsStepping (sym goal) tt) in
       absurd (omega (arith, one, none))
 
   -- so no step of a cover reads or writes it
-  pub job_apart : (work : JobModel) (choice : JobCoverModel) → IsCovered stock work choice → AreApart (operation_of file patterns) mode (job_steps stock work choice)
-  job_apart work choice c =
-      let s : AreSpare stock file patterns mode work.destination c.covers.tree choice.plan = steps_spare stock file patterns count mode formed shared no_form work.destination c.covers.tree choice.plan c.goes c.covers.orderly in
-      let is : AreSpare stock file patterns mode work.destination (tree_used work choice) choice.plan = subst (λ t. AreSpare stock file patterns mode work.destination t choice.plan) (sym (ap tree_or_none c.covers.used)) s in
+  pub job_apart : (job : JobModel) (choice : JobCoverModel) → IsCovered stock job choice → AreApart (operation_of file patterns) mode (job_steps stock job choice)
+  job_apart job choice c =
+      let s : AreSpare stock file patterns mode job.destination c.covers.tree choice.cover = steps_spare stock file patterns count mode formed shared no_form job.destination c.covers.tree choice.cover c.goes c.covers.orderly in
+      let is : AreSpare stock file patterns mode job.destination (tree_used job choice) choice.cover = subst (λ t. AreSpare stock file patterns mode job.destination t choice.cover) (sym (ap tree_or_none c.covers.used)) s in
       is.apart
 
   pub jobs_apart : (jobs : List JobModel) (choices : List JobCoverModel) → AreCovered stock jobs choices → AreApart (operation_of file patterns) mode (jobs_steps stock jobs choices)

@@ -14,18 +14,18 @@ use Rattle.right_code.specs.Bounded.{HasBound}
 use Rattle.right_code.specs.Covered.{AllPlanned, AreCosts, ArePlans, mode_stock, numbered, plan_costs}
 use Rattle.right_code.specs.Images.{IsMadeFor}
 use Rattle.right_code.specs.Tasks.{Task, task_stock, task_jobs}
-use Rattle.right_code.proofs.OneForms.{all_one, rules_one}
+use Rattle.right_code.proofs.OneForms.{all_one, keeping_one}
 
 -- ---- a job has one cost
 
-least_cost : (stock : StockModel) (job : JobModel) (a b : JobCoverModel) → IsChosen stock job.destination job.trees a → IsChosen stock job.destination job.trees b → cost a.plan ≤ cost b.plan
+least_cost : (stock : StockModel) (job : JobModel) (a b : JobCoverModel) → IsChosen stock job.destination job.trees a → IsChosen stock job.destination job.trees b → cost a.cover ≤ cost b.cover
 least_cost stock job a b h k = by (h.first b k.covers)
   where
-    by : (cost a.plan < cost b.plan) ⊎ ((cost a.plan ≡ cost b.plan) × ((a ≡ b) ⊎ ChoiceBefore a b)) → cost a.plan ≤ cost b.plan
+    by : (cost a.cover < cost b.cover) ⊎ ((cost a.cover ≡ cost b.cover) × ((a ≡ b) ⊎ ChoiceBefore a b)) → cost a.cover ≤ cost b.cover
     by (inl l) = omega (arith, l)
     by (inr e) = let s = e.0 in omega (arith, s)
 
-own_one : (plan : CoverModel) → cost plan ≡ 1 + parts_cost plan
+own_one : (cover : CoverModel) → cost cover ≡ 1 + parts_cost cover
 own_one (use_form k ps cs) = omega arith
 
 same_cost : (destination : DestinationModel) (p q : CoverModel) → cost p ≡ cost q → job_cost destination p ≡ job_cost destination q
@@ -37,11 +37,11 @@ same_cost temporary p q e = e
 same_cost filed p q e = e
 
 -- by the forms of one mode
-pub chosen_cost_one : (stock : StockModel) (job : JobModel) (a b : JobCoverModel) → IsChosen stock job.destination job.trees a → IsChosen stock job.destination job.trees b → job_cost job.destination a.plan ≡ job_cost job.destination b.plan
+pub chosen_cost_one : (stock : StockModel) (job : JobModel) (a b : JobCoverModel) → IsChosen stock job.destination job.trees a → IsChosen stock job.destination job.trees b → job_cost job.destination a.cover ≡ job_cost job.destination b.cover
 chosen_cost_one stock job a b h k =
     let l = least_cost stock job a b h k in
     let m = least_cost stock job b a k h in
-    same_cost job.destination a.plan b.plan (omega (arith, l, m))
+    same_cost job.destination a.cover b.cover (omega (arith, l, m))
 
 -- and over all modes
 module _ (stock : ℕ → StockModel) (Usable : ℕ → Type 0) where
@@ -49,7 +49,7 @@ module _ (stock : ℕ → StockModel) (Usable : ℕ → Type 0) where
   covers_in job planned h = record { can = h.can; may = h.may; covers = h.chosen.covers }
 
   abbrev own_cost : JobModel → PlanModel → ℕ
-  own_cost job planned = mode_cost planned.mode job.destination planned.choice.plan
+  own_cost job planned = mode_cost planned.mode job.destination planned.choice.cover
 
   no_less : (job : JobModel) (a b : PlanModel) → IsPlanned stock Usable job.destination job.trees a → IsPlanned stock Usable job.destination job.trees b → own_cost job a ≤ own_cost job b
   no_less job a b h k = by (h.least b.mode b.choice (covers_in job b k))
@@ -74,7 +74,7 @@ module _ (stock : ℕ → StockModel) (Usable : ℕ → Type 0) where
 -- ---- a task has one bound
 
 stock_one : (task : Task) (a b : Isas task.netlist) → mode_stock task a ≡ mode_stock task b
-stock_one task a b = λ j v. task_stock (rules_one task.netlist a b v j) task
+stock_one task a b = λ j v. task_stock (keeping_one task.netlist a b v j) task
 
 -- what holds of plans for one family of instruction sets holds for each
 pub plans_alike : (task : Task) (a b : Isas task.netlist) (P : (ℕ → StockModel) → (ℕ → Type 0) → Type 0) → P (mode_stock task a) (IsUsable task.netlist a) → P (mode_stock task b) (IsUsable task.netlist b)
@@ -93,14 +93,14 @@ task_costs_one task costs others a b =
 
 pub bound_one : (task : Task) (a b c d : ℕ) → HasBound task a b → HasBound task c d → (a ≡ c) × (b ≡ d)
 bound_one task a b c d p q = (
-  p.is ∙ ap (program_bound task.listing) (task_plan_costs_one task p.isas q.isas p.plans q.plans p.planned q.planned) ∙ sym q.is,
-  p.far ∙ ap greatest_reach (rules_one task.netlist p.isas q.isas 0) ∙ sym q.far,
+  p.is ∙ ap (program_bound task.program) (task_plan_costs_one task p.isas q.isas p.plans q.plans p.planned q.planned) ∙ sym q.is,
+  p.far ∙ ap greatest_reach (keeping_one task.netlist p.isas q.isas 0) ∙ sym q.far,
 )
 
 -- where the bound is within the reach, so are the words of an image
-pub made_reached : (task : Task) (image : Image) (made : IsMadeFor task image) (bound reach : ℕ) → HasBound task bound reach → bound ≤ reach → length (words_of image) ≤ greatest_reach (made.isas 0).rules
+pub made_reached : (task : Task) (image : Image) (made : IsMadeFor task image) (bound reach : ℕ) → HasBound task bound reach → bound ≤ reach → length (words_of image) ≤ greatest_reach (made.isas 0).keeping
 made_reached task image made bound reach has within =
-    let own : HasBound task (program_bound task.listing (plan_costs (task_jobs task) made.plans)) (greatest_reach (made.isas 0).rules) =
+    let own : HasBound task (program_bound task.program (plan_costs (task_jobs task) made.plans)) (greatest_reach (made.isas 0).keeping) =
     record { isas = made.isas; plans = made.plans; planned = made.planned; is = refl; far = refl } in
     let same = bound_one task bound reach _ _ has own in
     let a = same.0 in

@@ -64,9 +64,9 @@ length_both (x ∷ xs) ys = let h = length_both xs ys in omega (arith, h)
 
 module _ (m : Machine) (kit : Kit) (image : Image) where
   -- jobs of one mode
-  jobs_made : (own : Kit) (works : List JobModel) (at n : ℕ) (words : List ℕ) → IsBlockReady own.netlist m.netlist.special own.patterns own.stock works words n → StandAt (words_of image) at words
-      → IsBlockMade own.netlist m.netlist.special own.patterns own.stock image works at n
-  jobs_made own works at n words r there = record {
+  jobs_made : (own : Kit) (jobs : List JobModel) (at n : ℕ) (words : List ℕ) → IsBlockReady own.netlist m.netlist.special own.patterns own.stock jobs words n → StandAt (words_of image) at words
+      → IsBlockMade own.netlist m.netlist.special own.patterns own.stock image jobs at n
+  jobs_made own jobs at n words r there = record {
     choices = r.choices;
     covered = r.covered;
     live = r.live;
@@ -79,13 +79,13 @@ module _ (m : Machine) (kit : Kit) (image : Image) where
     kept = r.kept;
   }
 
-  pub record SectionStands (v : ℕ) (works : List JobModel) (at n : ℕ) (words : List ℕ) : Type 0 where
-    pub made : IsSectionMade m kit image v works at n
+  pub record SectionStands (v : ℕ) (jobs : List JobModel) (at n : ℕ) (words : List ℕ) : Type 0 where
+    pub made : IsSectionMade m kit image v jobs at n
     pub long : length words ≡ section_room v n
 
-  section_made : (v : ℕ) (works : List JobModel) (at n : ℕ) (words : List ℕ) → IsSectionReady m kit v works n words → StandAt (words_of image) at words → SectionStands v works at n words
-  section_made zero works at n words r there = record { made = jobs_made kit works at n words r there; long = sym r.long }
-  section_made (suc v) works at n words r there =
+  section_made : (v : ℕ) (jobs : List JobModel) (at n : ℕ) (words : List ℕ) → IsSectionReady m kit v jobs n words → StandAt (words_of image) at words → SectionStands v jobs at n words
+  section_made zero jobs at n words r there = record { made = jobs_made kit jobs at n words r there; long = sym r.long }
+  section_made (suc v) jobs at n words r there =
       let other : Kit = r.0 in
       let h : StandAt (words_of image) at (r.2 ∷ (r.3 ++ r.4 ∷ [])) = subst (StandAt (words_of image) at) r.5 there in
       let both = stand_both (words_of image) r.3 (r.4 ∷ []) (at + 1) h.1 in
@@ -98,7 +98,7 @@ module _ (m : Machine) (kit : Kit) (image : Image) where
           r.0,
           r.1,
           subst (λ i. IsModeWordMade kit.netlist m.netlist.special i (suc v)) (sym h.0) r.6,
-          jobs_made r.0 works (at + 1) n r.3 r.7 both.0,
+          jobs_made r.0 jobs (at + 1) n r.3 r.7 both.0,
           subst (λ k. IsModeWordMade r.0.netlist m.netlist.special (image_word image k) 0) far (subst (λ i. IsModeWordMade r.0.netlist m.netlist.special i 0) (sym both.1.0) r.8),
         );
         long = omega (arith, all, more, n_is);
@@ -121,7 +121,7 @@ module _ (m : Machine) (kit : Kit) (image : Image) where
       let all : length words ≡ length r.0 + length r.1 = ap length r.2 ∙ length_both r.0 r.1 in
       record { made = (one.made, later.made); long = omega (arith, all, n, m) }
 
-module _ (m : Machine) (kit : Kit) (order : List ℕ) (keeps : KeepsRules kit.netlist order) (image : Image) (reach : ℕ) (turns : AreTurns kit.netlist kit.patterns kit.stock.rules reach) where
+module _ (m : Machine) (kit : Kit) (order : List ℕ) (keeps : KeepsRules kit.netlist order) (image : Image) (reach : ℕ) (turns : AreTurns kit.netlist kit.patterns kit.stock.forms reach) where
   abbrev special : Option ℕ
   special = m.netlist.special
 
@@ -134,21 +134,21 @@ module _ (m : Machine) (kit : Kit) (order : List ℕ) (keeps : KeepsRules kit.ne
   abbrev stock : StockModel
   stock = kit.stock
 
-  jump_made : (i to : ℕ) → FitsTurn netlist special i (operation_in netlist patterns (jump_step (jump_form stock.rules reach) to)) → to < reach → IsJumpMade netlist special patterns i to
+  jump_made : (i to : ℕ) → FitsTurn netlist special i (operation_in netlist patterns (jump_step (jump_form stock.forms reach) to)) → to < reach → IsJumpMade netlist special patterns i to
   jump_made i to w lt = record {
-    rule = turns.rule;
+    jump = turns.form;
     form = turns.jump;
-    bits = unwrap_or (shape_setting turns.rule.value to) 0;
-    shown = shown_some (shape_setting turns.rule.value to) (turns.shown to lt);
+    bits = unwrap_or (shape_setting turns.form.value to) 0;
+    shown = shown_some (shape_setting turns.form.value to) (turns.shown to lt);
     word = subst (λ o. FitsJump netlist i (operation_in netlist patterns (jump_step o to))) turns.first w.fits;
     mode = w.mode;
   }
 
   behind_made : (words : ℕ → List ℕ) (next long : Bool) (at to other : ℕ) → to < reach → other < reach
-      → StandItems netlist special patterns words (words_of image) (at + 1) (behind (jump_form stock.rules reach) next long to other) → BehindMade netlist special patterns image next long at to other
+      → StandItems netlist special patterns words (words_of image) (at + 1) (behind (jump_form stock.forms reach) next long to other) → BehindMade netlist special patterns image next long at to other
   behind_made words next true at to other lt low h =
       let z : at + 1 + 1 ≡ at + 2 = omega arith in
-      (jump_made _ other h.0.is low, jump_made _ to (subst (λ k. FitsTurn netlist special (image_word image k) (operation_in netlist patterns (jump_step (jump_form stock.rules reach) to))) z h.1.0.is) lt)
+      (jump_made _ other h.0.is low, jump_made _ to (subst (λ k. FitsTurn netlist special (image_word image k) (operation_in netlist patterns (jump_step (jump_form stock.forms reach) to))) z h.1.0.is) lt)
   behind_made words true false at to other lt low h = tt
   behind_made words false false at to other lt low h = jump_made _ other h.0.is low
 
@@ -156,24 +156,24 @@ module _ (m : Machine) (kit : Kit) (order : List ℕ) (keeps : KeepsRules kit.ne
 
   module _ (flow : List Flow) (jobs : List JobModel) (parts : List LayoutPart) (end : ℕ) (f : IsFlow flow end) (upto : Upto end flow) (laid : IsLaidCode m kit image flow jobs parts reach) where
     stands : (k : ℕ) (p : LayoutPart) → slice_get parts k ≡ Some p
-        → StandItems netlist special patterns laid.words (words_of image) (address parts k) (part_items stock.rules (jump_form stock.rules reach) (starts parts) (address parts k) p)
-    stands k p e = part_stands netlist special patterns laid.words (words_of image) stock.rules (jump_form stock.rules reach) (starts parts) 0 parts k p (address parts k) e (omega arith) laid.stand
+        → StandItems netlist special patterns laid.words (words_of image) (address parts k) (part_items stock.forms (jump_form stock.forms reach) (starts parts) (address parts k) p)
+    stands k p e = part_stands netlist special patterns laid.words (words_of image) stock.forms (jump_form stock.forms reach) (starts parts) 0 parts k p (address parts k) e (omega arith) laid.stand
 
     fork_made : (at : ℕ) (g : BranchedTest) → slice_get parts at ≡ Some (Test g) → (job : JobModel) → IsForkReady netlist special patterns stock job (laid.words g.block) g
-        → IsForkMade netlist special patterns stock image job (form_at_one (slice_get stock.rules g.form)) g (address parts at) (address parts g.to) (address parts g.other)
+        → IsForkMade netlist special patterns stock image job (form_at_one (slice_get stock.forms g.form)) g (address parts at) (address parts g.to) (address parts g.other)
     fork_made at g e job r =
-        let rule : FormModel = cover_form stock r.choice.plan in
+        let branch : FormModel = cover_form stock r.choice.cover in
         let a : ℕ = address parts at in
         let from : ℕ = a + g.words in
-        let setting : ℕ = branch_setting stock (tree_used (test_of job) r.choice) r.choice.plan in
-        let step : IsBranchStep netlist order keeps patterns stock reach turns flow parts end f upto laid.layout setting r.choice.plan g from (address parts g.to) =
-        branch_step_is netlist order keeps patterns stock reach turns flow parts end f upto laid.layout at g e r.covered.covers.tree r.choice.plan setting r.covered.covers.orderly r.form r.setting in
+        let setting : ℕ = branch_setting stock (tree_used (test_of job) r.choice) r.choice.cover in
+        let step : IsBranchStep netlist order keeps patterns stock reach turns flow parts end f upto laid.layout setting r.choice.cover g from (address parts g.to) =
+        branch_step_is netlist order keeps patterns stock reach turns flow parts end f upto laid.layout at g e r.covered.covers.tree r.choice.cover setting r.covered.covers.orderly r.form r.setting in
         let in_to = (ways netlist order keeps patterns stock reach turns flow parts end f upto laid.layout at g e).0 in
         let in_other = (ways netlist order keeps patterns stock reach turns flow parts end f upto laid.layout at g e).1 in
         let to_is : slice_index (starts parts) g.to ≡ address parts g.to = address_is parts g.to (omega (arith, in_to)) in
         let other_is : slice_index (starts parts) g.other ≡ address parts g.other = address_is parts g.other (omega (arith, in_other)) in
         let s = stand_split netlist special patterns laid.words (words_of image) (groups g.block 0 g.words) _ a from (ap (λ n. a + n) (sym (groups_length g.block 0 g.words))) (stands at (Test g) e) in
-        let word : FitsTurn netlist special (image_word image from) (operation_in netlist patterns (branch_step (slice_get stock.rules g.form) g.setting from (slice_index (starts parts) g.to) g.long)) = s.1.0.is in
+        let word : FitsTurn netlist special (image_word image from) (operation_in netlist patterns (branch_step (slice_get stock.forms g.form) g.setting from (slice_index (starts parts) g.to) g.long)) = s.1.0.is in
         subst (λ b. IsForkMade netlist special patterns stock image job b g a (address parts g.to) (address parts g.other)) (sym (ap form_at_one r.form ∙ ap goal_at_one step.goal)) (record {
           choice = r.choice;
           operands = record {
@@ -190,20 +190,20 @@ module _ (m : Machine) (kit : Kit) (order : List ℕ) (keeps : KeepsRules kit.ne
             wants = r.wants;
           };
           way = step.way;
-          form = turns.forks g.form rule step.when_one step.way r.form step.goal;
+          form = turns.forks g.form branch step.when_one step.way r.form step.goal;
           bits = step.bits;
           shown = step.shown;
           word = subst (λ x. FitsJump netlist (image_word image from) (operation_in netlist patterns x)) step.step word.fits;
           mode = word.mode;
           behind = behind_made laid.words g.next g.long from (address parts g.to) (address parts g.other) (near netlist order keeps patterns stock reach turns flow parts end f upto laid.layout g.to in_to) (near netlist order keeps patterns stock reach turns flow parts end f upto laid.layout g.other in_other)
-              (subst (λ n. StandItems netlist special patterns laid.words (words_of image) (from + 1) (behind (jump_form stock.rules reach) g.next g.long (address parts g.to) n)) other_is
-              (subst (λ n. StandItems netlist special patterns laid.words (words_of image) (from + 1) (behind (jump_form stock.rules reach) g.next g.long n (slice_index (starts parts) g.other))) to_is s.1.1));
+              (subst (λ n. StandItems netlist special patterns laid.words (words_of image) (from + 1) (behind (jump_form stock.forms reach) g.next g.long (address parts g.to) n)) other_is
+              (subst (λ n. StandItems netlist special patterns laid.words (words_of image) (from + 1) (behind (jump_form stock.forms reach) g.next g.long n (slice_index (starts parts) g.other))) to_is s.1.1));
         })
 
     -- the words of a block, where they stand
-    block_made : (at n block size : ℕ) → slice_get parts at ≡ Some (Block block size) → (works : List JobModel) → IsModeBlockReady m kit works (laid.words block) size
-        → IsModeBlockMade m kit image works (address parts at) size
-    block_made at n block size e works r =
+    block_made : (at n block size : ℕ) → slice_get parts at ≡ Some (Block block size) → (own : List JobModel) → IsModeBlockReady m kit own (laid.words block) size
+        → IsModeBlockMade m kit image own (address parts at) size
+    block_made at n block size e own r =
         let there : StandAt (words_of image) (address parts at) (laid.words block) =
         groups_stand netlist special patterns laid.words (words_of image) block (laid.words block) 0 (address parts at) (λ j. let z : 0 + j ≡ j = omega arith in ap (slice_index (laid.words block)) z)
         (subst (λ n. StandItems netlist special patterns laid.words (words_of image) (address parts at) (groups block 0 n)) r.long (stands at (Block block size) e)) in
@@ -220,14 +220,14 @@ module _ (m : Machine) (kit : Kit) (order : List ℕ) (keeps : KeepsRules kit.ne
       forks = λ at g e job has. fork_made at g e job (laid.forks at g e job has);
       jumps = λ at to e.
           jump_made _ (address parts to)
-          (subst (λ n. FitsTurn netlist special (image_word image (address parts at)) (operation_in netlist patterns (jump_step (jump_form stock.rules reach) n))) (let lt = goals netlist order keeps patterns stock reach turns flow parts end f upto laid.layout at to e in address_is parts to (omega (arith, lt))) (stands at (Jump to) e).0.is)
+          (subst (λ n. FitsTurn netlist special (image_word image (address parts at)) (operation_in netlist patterns (jump_step (jump_form stock.forms reach) n))) (let lt = goals netlist order keeps patterns stock reach turns flow parts end f upto laid.layout at to e in address_is parts to (omega (arith, lt))) (stands at (Jump to) e).0.is)
           (near netlist order keeps patterns stock reach turns flow parts end f upto laid.layout to (goals netlist order keeps patterns stock reach turns flow parts end f upto laid.layout at to e));
       ends = λ at e. jump_made _ (address parts at) (stands at End e).0.is (near netlist order keeps patterns stock reach turns flow parts end f upto laid.layout at (there parts at End e));
     }
 
 -- and traces the program, with each mark in mode 0
 pub ordered_right : (m : Machine) (kit : Kit) (are : IsKit m 0 kit) (image : Image) (reach : ℕ)
-    → AreTurns kit.netlist kit.patterns kit.stock.rules reach → (mem : MemoryMap) (l : ProgramModel) (turned : Turns) (jobs : List JobModel) (parts : List LayoutPart) → first_fault mem.word l ≡ None → memory_width m.netlist.storages ≡ mem.word
+    → AreTurns kit.netlist kit.patterns kit.stock.forms reach → (mem : MemoryMap) (l : ProgramModel) (turned : Turns) (jobs : List JobModel) (parts : List LayoutPart) → first_fault mem.word l ≡ None → memory_width m.netlist.storages ≡ mem.word
     → HoldsVars m.temps l.vars mem → HasCellRoom m.temps mem (memory_size m.netlist.storages) → image.places ≡ mem.places → TurnsTests turned (program_flow l) → DoProgram mem m.temps l (jobs_of_told turned jobs)
     → IsLaidCode m kit image (turned_flow turned (program_flow l)) jobs parts reach
     → TracesRight m.netlist image (strace mem.word l)

@@ -25,14 +25,14 @@ use Rattle.form_model.specs.Forms.{FormModel, into_reg, into_memory, into_file}
 use Rattle.form_model.specs.Shapes.{is_shape, shows_below}
 use Rattle.form_set.specs.Inner.Linear.{is_linear, are_apart, transfer_linear}
 use Rattle.form_set.specs.Listing.{IsPlain, goal_at, plain_form_model, sides_of}
-use Rattle.form_set.specs.Promises.{AreAlike, IsAlike as AreSame}
+use Rattle.operand_swaps.specs.Laws.{AreAlike, IsAlike as AreSame}
 use Rattle.form_set.specs.Static.{is_file_at, transfer_shown, reads_shown, shows_cells}
-use Rattle.form_set.specs.Swaps.{Path, SidesModel, picks, swap_at, swap_paths, swapped}
+use Rattle.operand_swaps.specs.Swaps.{Path, SidesModel, picks, swap_at, swap_paths, swapped}
 use Rattle.form_set.specs.Tied.{counted, tied_of, tied_place}
 use Rattle.form_set.specs.Words.{AreClobbers}
 use Rattle.form_set.proofs.FormLaws.{own_clobber}
 use Rattle.form_set.proofs.LinearLaws.{linear_is}
-use Rattle.form_set.proofs.SwapLaws.{swapped_alike}
+use Rattle.operand_swaps.proofs.SwapLaws.{swapped_alike}
 use Rattle.form_model.specs.Bits.{uses}
 use Rattle.emit_seq.specs.Formed.{BitsApart, CellsShown, MeansAlike, IsFormed, IsIntoFile, IsIntoMemory, IsIntoReg, IsOnce, IsTied}
 use Rattle.word_fit.proofs.FilePlaces.{own_space}
@@ -107,7 +107,7 @@ module _ (netlist : Netlist) (order : List ℕ) (keeps : KeepsRules netlist orde
       let em : p.move ≡ write v = ap (λ (q : Pattern). q.move) e in
       let es : p.storage ≡ storage = ap (λ (q : Pattern). q.storage) e in
       let fits : ExprFits v = subst (λ m. TransferFits m) em k.fits in
-      let terms : IsExprOf netlist v = subst (λ m. IsTransferOf netlist m) em k.terms in
+      let exprs : IsExprOf netlist v = subst (λ m. IsTransferOf netlist m) em k.exprs in
       let sides : SidesModel = record { addr = None; value = v } in
       let sw : AreSwapped sides (swapped choice sides) = swapped_sides choice sides in
       let like : AreAlike sides (swapped choice sides) = swapped_alike choice sides in
@@ -118,7 +118,7 @@ module _ (netlist : Netlist) (order : List ℕ) (keeps : KeepsRules netlist orde
         value = v;
         is = at ∙ ap (λ (q : Pattern). Some q) e;
         alike = subst (λ x. MeansAlike x v) (sym same) (alike_of v (swapped choice sides).value fits like.value sw.value);
-        once = subst (λ x. IsOnce x) (sym same) (sw.value.once (once_of (word_width netlist) 0 v some (words_in netlist v terms fits) linear));
+        once = subst (λ x. IsOnce x) (sym same) (sw.value.once (once_of (word_width netlist) 0 v some (words_in netlist v exprs fits) linear));
         shown = subst (λ x. CellsShown size x) (sym same) (swapped_shown size (λ path. picks choice (swap_paths sides) (1 ∷ path)) v (shown_of size v told));
         clobbered = subst (λ r. bit_at clobbers r ≡ 1) es (own_clobber netlist p clobbers are (λ f. true≢false (sym (eq-eqb storage (place_in InFile netlist.storages) (sym es ∙ f)) ∙ nf)));
         below = subst (λ r. r < length netlist.storages) es (storage_within netlist p k.is);
@@ -127,10 +127,10 @@ module _ (netlist : Netlist) (order : List ℕ) (keeps : KeepsRules netlist orde
   used_apart : (a b c d : ExprModel) → ((k : ℕ) → uses a k ≡ uses c k) → ((k : ℕ) → uses b k ≡ uses d k) → BitsApart a b → BitsApart c d
   used_apart a b c d ac bd h = λ k u. sym (bd k) ∙ h k (ac k ∙ u)
 
-  memory_sides : (number choice clobbers storage : ℕ) (a v : ExprModel) (rule : FormModel) → space_in file storage ≡ InMemory → reads_shown size a ≡ true → reads_shown size v ≡ true → slice_get patterns number ≡ Some (record { storage = storage; move = write_at a v }) → rule.pattern ≡ number
-      → rule.addr ≡ (swapped choice (record { addr = Some a; value = v })).addr → rule.value ≡ (swapped choice (record { addr = Some a; value = v })).value
-      → ExprFits a → ExprFits v → IsExprOf netlist a → IsExprOf netlist v → transfer_linear 0 (write_at a v) ≡ true → IsIntoMemory file patterns size rule
-  memory_sides number choice clobbers storage a v rule other sa sv at number_is addr_is value_is fa fv ta tv linear =
+  memory_sides : (number choice clobbers storage : ℕ) (a v : ExprModel) (form : FormModel) → space_in file storage ≡ InMemory → reads_shown size a ≡ true → reads_shown size v ≡ true → slice_get patterns number ≡ Some (record { storage = storage; move = write_at a v }) → form.pattern ≡ number
+      → form.addr ≡ (swapped choice (record { addr = Some a; value = v })).addr → form.value ≡ (swapped choice (record { addr = Some a; value = v })).value
+      → ExprFits a → ExprFits v → IsExprOf netlist a → IsExprOf netlist v → transfer_linear 0 (write_at a v) ≡ true → IsIntoMemory file patterns size form
+  memory_sides number choice clobbers storage a v form other sa sv at number_is addr_is value_is fa fv ta tv linear =
       go (swapped choice sides) addr_is value_is (swapped_sides choice sides) (swapped_alike choice sides)
     where
       sides : SidesModel
@@ -152,18 +152,18 @@ module _ (netlist : Netlist) (order : List ℕ) (keeps : KeepsRules netlist orde
       wv = words_in netlist v tv fv
 
       -- swaps leave what is shown
-      la_shown : (b : ExprModel) → rule.addr ≡ Some b → CellsShown size b
+      la_shown : (b : ExprModel) → form.addr ≡ Some b → CellsShown size b
       la_shown b e =
           let chosen : Path → Bool = λ path. picks choice (swap_paths sides) (0 ∷ path) in
           let same : swap_at chosen a ≡ b = (let q : Some (swap_at chosen a) ≡ Some b = sym addr_is ∙ e in cc) in
           subst (CellsShown size) same (swapped_shown size chosen a (shown_of size a sa))
 
-      lv_shown : (u : ExprModel) → rule.value ≡ u → CellsShown size rule.value
+      lv_shown : (u : ExprModel) → form.value ≡ u → CellsShown size form.value
       lv_shown u e =
           let chosen : Path → Bool = λ path. picks choice (swap_paths sides) (1 ∷ path) in
           subst (CellsShown size) (sym value_is) (swapped_shown size chosen v (shown_of size v sv))
 
-      made : (b u : ExprModel) → rule.addr ≡ Some b → rule.value ≡ u → IsSwapped a b → IsSwapped v u → AreSame a b → AreSame v u → IsIntoMemory file patterns size rule
+      made : (b u : ExprModel) → form.addr ≡ Some b → form.value ≡ u → IsSwapped a b → IsSwapped v u → AreSame a b → AreSame v u → IsIntoMemory file patterns size form
       made b u eb eu sa sv la lv = record {
         storage = storage;
         addr = a;
@@ -182,11 +182,11 @@ module _ (netlist : Netlist) (order : List ℕ) (keeps : KeepsRules netlist orde
         apart_back = subst (λ x. BitsApart x b) (sym eu) (used_apart v a u b sv.used sa.used (apart_of (word_width netlist) v a some wv wa (and_comm (fields v) (fields a) ∙ none)));
       }
 
-      by_addr : (o : Option ExprModel) (u : ExprModel) → rule.addr ≡ o → rule.value ≡ u → AreSwapped sides (record { addr = o; value = u }) → AreAlike sides (record { addr = o; value = u }) → IsIntoMemory file patterns size rule
+      by_addr : (o : Option ExprModel) (u : ExprModel) → form.addr ≡ o → form.value ≡ u → AreSwapped sides (record { addr = o; value = u }) → AreAlike sides (record { addr = o; value = u }) → IsIntoMemory file patterns size form
       by_addr None u eo eu h l = absurd h.addr
       by_addr (Some b) u eo eu h l = made b u eo eu h.addr h.value l.addr l.value
 
-      go : (y : SidesModel) → rule.addr ≡ y.addr → rule.value ≡ y.value → AreSwapped sides y → AreAlike sides y → IsIntoMemory file patterns size rule
+      go : (y : SidesModel) → form.addr ≡ y.addr → form.value ≡ y.value → AreSwapped sides y → AreAlike sides y → IsIntoMemory file patterns size form
       go y eo eu h l = by_addr y.addr y.value eo eu h l
 
   into_cells : (p : Pattern) (number choice clobbers : ℕ) → slice_get patterns number ≡ Some p → IsPlain netlist p → (storage : ℕ) (move : TransferModel) → p ≡ record { storage = storage; move = move }
@@ -206,11 +206,11 @@ module _ (netlist : Netlist) (order : List ℕ) (keeps : KeepsRules netlist orde
       let lt : storage < length netlist.storages = subst (λ r. r < length netlist.storages) es (storage_within netlist p k.is) in
       let nf : is_file_at netlist p.storage ≡ false = ap (is_file_at netlist) es ∙ memory_no_file storage lt same in
       let fits : ExprFits a × ExprFits v = subst (λ m. TransferFits m) em k.fits in
-      let terms : IsExprOf netlist a × IsExprOf netlist v = subst (λ m. IsTransferOf netlist m) em k.terms in
+      let exprs : IsExprOf netlist a × IsExprOf netlist v = subst (λ m. IsTransferOf netlist m) em k.exprs in
       let shown : (reads_shown size a ≡ true) × (reads_shown size v ≡ true) =
       and_parts (reads_shown size a) (reads_shown size v) (sym (λ j. transfer_shown (nf j) size (em j)) ∙ plain.cells) in
       memory_sides number choice clobbers storage a v (plain_form_model netlist number p clobbers choice) (own_space netlist.storages storage InMemory lt same) shown.0 shown.1 (at ∙ ap (λ (q : Pattern). Some q) e) refl
-      (ap (λ m. (swapped choice (sides_of m)).addr) em) (ap (λ m. (swapped choice (sides_of m)).value) em) fits.0 fits.1 terms.0 terms.1
+      (ap (λ m. (swapped choice (sides_of m)).addr) em) (ap (λ m. (swapped choice (sides_of m)).value) em) fits.0 fits.1 exprs.0 exprs.1
       (sym (λ j. transfer_linear 0 (counted (nf j) (em j))) ∙ (linear_is 0 (counted (is_file_at netlist p.storage) p.move)).1 plain.linear)
 
   -- ---- a form that writes the file
@@ -264,7 +264,7 @@ module _ (netlist : Netlist) (order : List ℕ) (keeps : KeepsRules netlist orde
       let yes : is_file_at netlist p.storage ≡ true = ap (is_file_at netlist) es ∙ eq in
       let lt : storage < length netlist.storages = subst (λ r. r < length netlist.storages) es (storage_within netlist p k.is) in
       let fits : ExprFits a × ExprFits v = subst (λ m. TransferFits m) em k.fits in
-      let terms : IsExprOf netlist a × IsExprOf netlist v = subst (λ m. IsTransferOf netlist m) em k.terms in
+      let exprs : IsExprOf netlist a × IsExprOf netlist v = subst (λ m. IsTransferOf netlist m) em k.exprs in
       let shown : (shows_cells size a ≡ true) × (reads_shown size v ≡ true) = and_parts (shows_cells size a) (reads_shown size v) (sym (λ j. transfer_shown (yes j) size (em j)) ∙ plain.cells) in
       let shape : (is_shape a ≡ true) × (shows_below a size ≡ true) = and_parts (is_shape a) (shows_below a size) shown.0 in
       let sides : SidesModel = record { addr = Some a; value = v } in
@@ -275,7 +275,7 @@ module _ (netlist : Netlist) (order : List ℕ) (keeps : KeepsRules netlist orde
       let stays : swap_at first a ≡ a = shape_same first a shape.0 in
       let cells : CellsShown size v = shown_of size v shown.1 in
       let linear : transfer_linear 0 (counted true (write_at a v)) ≡ true = sym (λ j. transfer_linear 0 (counted (yes j) (em j))) ∙ (linear_is 0 (counted (is_file_at netlist p.storage) p.move)).1 plain.linear in
-      let both = ties a v (swap_at first a) (swap_at second v) sw.addr sw.value (ap (λ x. reads_at x (swap_at second v)) stays ∙ swapped_reads size a second v cells) terms.0 terms.1 fits.0 fits.1 linear in
+      let both = ties a v (swap_at first a) (swap_at second v) sw.addr sw.value (ap (λ x. reads_at x (swap_at second v)) stays ∙ swapped_reads size a second v cells) exprs.0 exprs.1 fits.0 fits.1 linear in
       let made : (swapped choice (sides_of p.move)) ≡ swapped choice sides = ap (λ m. swapped choice (sides_of m)) em in
       record {
         storage = storage;

@@ -28,11 +28,11 @@ use Rattle.src_trees.specs.Seen.{InReach}
 use Rattle.src_trees.proofs.Cells.{row_cell_room, row_held}
 use Rattle.src_trees.proofs.Following.{own_does}
 use Rattle.src_trees.proofs.Measured.{program_small}
-use Rattle.src_trees.proofs.Parts.{works_in_length}
+use Rattle.src_trees.proofs.Parts.{jobs_in_length}
 use Rattle.src_trees.proofs.TurnedTests.{told_nowhere, turned_nowhere}
 use Rattle.right_code.specs.Images.{IsLaidAt}
 use Rattle.right_code.specs.Tasks.{HasJobs, IsChecked, row_memory, row_task}
-use Rattle.right_code.specs.Works.{node_limit}
+use Rattle.right_code.specs.FlowJobs.{node_limit}
 use Rattle.right_code.proofs.Chosen.{in_reach}
 use Rattle.right_code.proofs.Tasks.{program_tests, jobs_one}
 
@@ -43,10 +43,10 @@ trees_more bits temps most more destination (t ∷ trees) le h =
     let size = h.2 in
     (h.0, h.1, omega (arith, size, le), trees_more bits temps most more destination trees le h.3)
 
-pub small_more : (bits temps most more : ℕ) (works : List JobModel) → most ≤ more → AllSmall bits temps most works → AllSmall bits temps more works
+pub small_more : (bits temps most more : ℕ) (jobs : List JobModel) → most ≤ more → AllSmall bits temps most jobs → AllSmall bits temps more jobs
 small_more bits temps most more [] le h = tt
-small_more bits temps most more (work ∷ later) le h = (
-  record { destination = h.0.destination; trees = trees_more bits temps most more work.destination work.trees le h.0.trees },
+small_more bits temps most more (job ∷ later) le h = (
+  record { destination = h.0.destination; trees = trees_more bits temps most more job.destination job.trees le h.0.trees },
   small_more bits temps most more later le h.1,
 )
 
@@ -65,7 +65,7 @@ module _ (netlist : Netlist) (width : ℕ) (l : ProgramModel) (modes : KeepsMode
     meant =
         subst (DoProgram (row_memory netlist width l) (temp_count width l) l) (sym (told_nowhere (program_jobs (row_memory netlist width l) l)))
         (own_does (row_memory netlist width l) (temp_count width l) l held);
-    count = works_in_length (row_memory netlist width l) (stmts_of l.body);
+    count = jobs_in_length (row_memory netlist width l) (stmts_of l.body);
     one = jobs_one (row_memory netlist width l) (stmts_of l.body);
     tests = program_tests (row_memory netlist width l) l;
     small = small_more width (temp_count width l) 510 node_limit _ (omega arith) (program_small (row_memory netlist width l) l kept near.some);

@@ -77,21 +77,21 @@ module _ {A : Type 0} (m : A → Operation) (clobbers : A → Regs) where
       let p : (r : ℕ) → live_before m (singles xs) no_regs r ≡ false = (λ r. not_live (live_before m (singles xs) no_regs r) false (h r) refl) in
       (λ j r. p r j)
 
-module _ (stock : StockModel) (file : Option ℕ) (patterns : List Pattern) (count pc : ℕ) (formed : AreFormed file patterns count stock.file stock.rules) (shared : AreShared stock.rules) (counter : ReadsCounter stock.rules pc) where
+module _ (stock : StockModel) (file : Option ℕ) (patterns : List Pattern) (count pc : ℕ) (formed : AreFormed file patterns count stock.file stock.forms) (shared : AreShared stock.forms) (counter : ReadsCounter stock.forms pc) where
   abbrev Spares : List Step → Type 0
-  Spares xs = AllSpare (operation_of file patterns) (step_clobbers stock.rules) xs no_regs × AreDefined (operation_of file patterns) no_regs xs no_regs
+  Spares xs = AllSpare (operation_of file patterns) (step_clobbers stock.forms) xs no_regs × AreDefined (operation_of file patterns) no_regs xs no_regs
 
-  job_spares : (work : JobModel) (choice : JobCoverModel) → IsCovered stock work choice → Spares (job_steps stock work choice)
-  job_spares work choice c =
-      let s : AreSpare stock file patterns pc work.destination c.covers.tree choice.plan = steps_spare stock file patterns count pc formed shared counter work.destination c.covers.tree choice.plan c.goes c.covers.orderly in
-      let is : AreSpare stock file patterns pc work.destination (tree_used work choice) choice.plan = subst (λ t. AreSpare stock file patterns pc work.destination t choice.plan) (sym (ap tree_or_none c.covers.used)) s in (
-        spare_less (operation_of file patterns) (step_clobbers stock.rules) (job_steps stock work choice) (wanted stock work.destination (tree_used work choice) choice.plan) no_regs (λ r e. cc e) is.spare,
-        given_less (operation_of file patterns) (step_clobbers stock.rules) no_regs (job_steps stock work choice) (wanted stock work.destination (tree_used work choice) choice.plan) no_regs (λ r e. cc e) is.given,
+  job_spares : (job : JobModel) (choice : JobCoverModel) → IsCovered stock job choice → Spares (job_steps stock job choice)
+  job_spares job choice c =
+      let s : AreSpare stock file patterns pc job.destination c.covers.tree choice.cover = steps_spare stock file patterns count pc formed shared counter job.destination c.covers.tree choice.cover c.goes c.covers.orderly in
+      let is : AreSpare stock file patterns pc job.destination (tree_used job choice) choice.cover = subst (λ t. AreSpare stock file patterns pc job.destination t choice.cover) (sym (ap tree_or_none c.covers.used)) s in (
+        spare_less (operation_of file patterns) (step_clobbers stock.forms) (job_steps stock job choice) (wanted stock job.destination (tree_used job choice) choice.cover) no_regs (λ r e. cc e) is.spare,
+        given_less (operation_of file patterns) (step_clobbers stock.forms) no_regs (job_steps stock job choice) (wanted stock job.destination (tree_used job choice) choice.cover) no_regs (λ r e. cc e) is.given,
       )
 
   -- the steps of a block spare what is still needed, where nothing is live behind it
   pub jobs_spare : (jobs : List JobModel) (choices : List JobCoverModel) → AreCovered stock jobs choices
-      → AllSpare (operation_of file patterns) (step_clobbers stock.rules) (jobs_steps stock jobs choices) no_regs × (live_before (operation_of file patterns) (singles (jobs_steps stock jobs choices)) no_regs ≡ no_regs)
+      → AllSpare (operation_of file patterns) (step_clobbers stock.forms) (jobs_steps stock jobs choices) no_regs × (live_before (operation_of file patterns) (singles (jobs_steps stock jobs choices)) no_regs ≡ no_regs)
   jobs_spare [] [] c = (tt, refl)
   jobs_spare [] (d ∷ choices) c = absurd c
   jobs_spare (t ∷ jobs) [] c = absurd c
@@ -100,7 +100,7 @@ module _ (stock : StockModel) (file : Option ℕ) (patterns : List Pattern) (cou
       let r = jobs_spare jobs choices c.2 in
       let xs : List Step = job_steps stock t d in
       let ys : List Step = jobs_steps stock jobs choices in (
-        spare-append (operation_of file patterns) (step_clobbers stock.rules) pc xs ys no_regs (subst (AllSpare (operation_of file patterns) (step_clobbers stock.rules) xs) (sym r.1) s.0) r.0,
-        live-steps (operation_of file patterns) (step_clobbers stock.rules) pc xs ys no_regs ∙ ap (live_before (operation_of file patterns) (singles xs)) r.1
-            ∙ nothing_live (operation_of file patterns) (step_clobbers stock.rules) xs (live_known (operation_of file patterns) (step_clobbers stock.rules) no_regs xs no_regs s.1),
+        spare-append (operation_of file patterns) (step_clobbers stock.forms) pc xs ys no_regs (subst (AllSpare (operation_of file patterns) (step_clobbers stock.forms) xs) (sym r.1) s.0) r.0,
+        live-steps (operation_of file patterns) (step_clobbers stock.forms) pc xs ys no_regs ∙ ap (live_before (operation_of file patterns) (singles xs)) r.1
+            ∙ nothing_live (operation_of file patterns) (step_clobbers stock.forms) xs (live_known (operation_of file patterns) (step_clobbers stock.forms) no_regs xs no_regs s.1),
       )

@@ -22,20 +22,20 @@ module _ (netlist : Netlist) (special : Option ℕ) (patterns : List Pattern) (w
   stand_split (x ∷ xs) ys at n e h = let r = stand_split xs ys (at + 1) n (omega (arith, e)) h.1 in ((h.0, r.0), r.1)
 
   -- the words of a part
-  pub part_stands : (rules : List FormModel) (jump : Option FormModel) (addresses : List ℕ) (at : ℕ) (parts : List LayoutPart) (k : ℕ) (p : LayoutPart) (n : ℕ) → slice_get parts k ≡ Some p → n ≡ at + address parts k
-      → StandItems netlist special patterns words code at (items_from rules jump addresses at parts) → StandItems netlist special patterns words code n (part_items rules jump addresses n p)
-  part_stands rules jump addresses at [] k p n e z h = absurd (cc e)
-  part_stands rules jump addresses at (q ∷ parts) zero p n e z h =
+  pub part_stands : (forms : List FormModel) (jump : Option FormModel) (addresses : List ℕ) (at : ℕ) (parts : List LayoutPart) (k : ℕ) (p : LayoutPart) (n : ℕ) → slice_get parts k ≡ Some p → n ≡ at + address parts k
+      → StandItems netlist special patterns words code at (items_from forms jump addresses at parts) → StandItems netlist special patterns words code n (part_items forms jump addresses n p)
+  part_stands forms jump addresses at [] k p n e z h = absurd (cc e)
+  part_stands forms jump addresses at (q ∷ parts) zero p n e z h =
       let same : at ≡ n = omega (arith, z) in
-      let s = stand_split (part_items rules jump addresses at q) (items_from rules jump addresses (at + room q) parts) at (at + length (part_items rules jump addresses at q)) refl h in
-      subst (λ a. StandItems netlist special patterns words code a (part_items rules jump addresses a p)) same (subst (λ r. StandItems netlist special patterns words code at (part_items rules jump addresses at r)) (one q p e) s.0)
+      let s = stand_split (part_items forms jump addresses at q) (items_from forms jump addresses (at + room q) parts) at (at + length (part_items forms jump addresses at q)) refl h in
+      subst (λ a. StandItems netlist special patterns words code a (part_items forms jump addresses a p)) same (subst (λ r. StandItems netlist special patterns words code at (part_items forms jump addresses at r)) (one q p e) s.0)
     where
       one : (q p : LayoutPart) → Some q ≡ Some p → q ≡ p
       one q p e = cc
-  part_stands rules jump addresses at (q ∷ parts) (suc k) p n e z h =
-      let l = part_length rules jump addresses at q in
-      let s = stand_split (part_items rules jump addresses at q) (items_from rules jump addresses (at + room q) parts) at (at + room q) (omega (arith, l)) h in
-      part_stands rules jump addresses (at + room q) parts k p n e (omega (arith, z)) s.1
+  part_stands forms jump addresses at (q ∷ parts) (suc k) p n e z h =
+      let l = part_length forms jump addresses at q in
+      let s = stand_split (part_items forms jump addresses at q) (items_from forms jump addresses (at + room q) parts) at (at + room q) (omega (arith, l)) h in
+      part_stands forms jump addresses (at + room q) parts k p n e (omega (arith, z)) s.1
 
   -- the groups of a block
   pub groups_stand : (block : ℕ) (xs : List ℕ) (i at : ℕ) → ((j : ℕ) → slice_index (words block) (i + j) ≡ slice_index xs j) → StandItems netlist special patterns words code at (groups block i (length xs)) → StandAt code at xs

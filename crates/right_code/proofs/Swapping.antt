@@ -10,7 +10,7 @@ use Rattle.net_model.specs.declared.hardware.Space.TheVariants.{Memory as InMemo
 use Rattle.net_model.specs.Fields.{fields}
 use Rattle.net_model.specs.Exprs.{ExprModel, word, reg, const, read, un, bin, slice, cat, zext, sext, select}
 use Rattle.form_model.specs.Effects.{register, expr_reads}
-use Rattle.form_set.specs.Swaps.{Path, SidesModel, ordered, picks, swap_at, swap_paths, swapped, swaps_here}
+use Rattle.operand_swaps.specs.Swaps.{Path, SidesModel, ordered, picks, swap_at, swap_paths, swapped, swaps_here}
 use Rattle.emit_seq.specs.ReadWords.{ReadsWords}
 use Rattle.form_model.specs.Bits.{uses}
 use Rattle.emit_seq.specs.Formed.{BitsApart, IsOnce}

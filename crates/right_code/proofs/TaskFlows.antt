@@ -14,23 +14,23 @@ use Rattle.branch_fix.proofs.TurnedFlows.{turned_is_flow}
 use Rattle.right_code.specs.Tasks.{HasJobs, Task}
 use Rattle.right_code.proofs.Inside.{Upto, program_upto, turned_upto}
 
-pub task_is_flow : (task : Task) → HasJobs task → IsFlow task.flow (places_in (stmts_of task.listing.body))
+pub task_is_flow : (task : Task) → HasJobs task → IsFlow task.flow (places_in (stmts_of task.program.body))
 task_is_flow task jobs =
-    let end = places_in (stmts_of task.listing.body) in
-    subst (λ (flow : List Flow). IsFlow flow end) (sym jobs.flow) (turned_is_flow jobs.turned (program_flow task.listing) end (program_is_flow task.listing))
+    let end = places_in (stmts_of task.program.body) in
+    subst (λ (flow : List Flow). IsFlow flow end) (sym jobs.flow) (turned_is_flow jobs.turned (program_flow task.program) end (program_is_flow task.program))
 
-pub task_upto : (task : Task) → HasJobs task → Upto (places_in (stmts_of task.listing.body)) task.flow
+pub task_upto : (task : Task) → HasJobs task → Upto (places_in (stmts_of task.program.body)) task.flow
 task_upto task jobs =
-    let end = places_in (stmts_of task.listing.body) in
-    subst (Upto end) (sym jobs.flow) (turned_upto jobs.turned end (program_flow task.listing) (program_upto task.listing))
+    let end = places_in (stmts_of task.program.body) in
+    subst (Upto end) (sym jobs.flow) (turned_upto jobs.turned end (program_flow task.program) (program_upto task.program))
 
 -- the bound of the flow is the program's, and blocks that have no more words than they cost keep to it
-pub task_words : (task : Task) → HasJobs task → (costs : List ℕ) → bound_of task.flow costs ≡ program_bound task.listing costs
-task_words task jobs costs = ap (λ (flow : List Flow). bound_of flow costs) jobs.flow ∙ turned_words task.listing jobs.turned costs
+pub task_words : (task : Task) → HasJobs task → (costs : List ℕ) → bound_of task.flow costs ≡ program_bound task.program costs
+task_words task jobs costs = ap (λ (flow : List Flow). bound_of flow costs) jobs.flow ∙ turned_words task.program jobs.turned costs
 
-pub task_bound : (task : Task) → HasJobs task → (costs sizes : List ℕ) → length costs ≡ statements_in (stmts_of task.listing.body) → SizesWithin sizes (block_costs task.flow costs task.flow 0)
+pub task_bound : (task : Task) → HasJobs task → (costs sizes : List ℕ) → length costs ≡ statements_in (stmts_of task.program.body) → SizesWithin sizes (block_costs task.flow costs task.flow 0)
     → sum_of sizes + control_words task.flow ≤ bound_of task.flow costs
 task_bound task jobs costs sizes long within =
     subst (λ (flow : List Flow). sum_of sizes + control_words flow ≤ bound_of flow costs) (sym jobs.flow)
-    (turned_bound task.listing jobs.turned costs sizes long
+    (turned_bound task.program jobs.turned costs sizes long
     (subst (λ (flow : List Flow). SizesWithin sizes (block_costs flow costs flow 0)) jobs.flow within))

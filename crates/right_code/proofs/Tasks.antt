@@ -1,6 +1,6 @@
 -- The jobs of a program: those of assignments store something and have one tree, and those of tests
 -- store nothing.
-use Rattle.right_code.specs.Works.{AllOne, AreFlowJobs, IsTestJob}
+use Rattle.right_code.specs.FlowJobs.{AllOne, AreFlowJobs, IsTestJob}
 use Rattle.std.proofs.Common.{ℕ, zero, suc, ◌≡◌, ◌<◌, ◌+◌, Bool, true, false, if◌then◌else◌, List, [], ◌∷◌, ◌++◌, length, Option, None, Some, refl, sym, ◌∙◌, subst, arith, slice_get}
 use Rattle.net_model.specs.Exprs.{ExprModel, const}
 use Rattle.src_model.specs.declared.program.Cmp.{Cmp}
@@ -11,9 +11,9 @@ use Rattle.form_model.specs.declared.flow.Flow.{Flow}
 use Rattle.form_model.specs.declared.flow.Flow.TheVariants.{Assign, Test as Tested, Jump as Jumped, End as Ended}
 use Rattle.form_model.specs.Forms.{FormModel, DestinationModel, into, cell, filed, stored, temporary, tested}
 use Rattle.src_model.specs.Indexes.{number_of}
-use Rattle.src_trees.specs.Lowered.{MemoryMap, JobModel, assigned_destination, element_destination, holds_at_one, job_of_start, job_of_step, tree_of, works, jobs_in, jobs_else}
+use Rattle.src_trees.specs.Lowered.{MemoryMap, JobModel, assigned_destination, element_destination, holds_at_one, job_of_start, job_of_step, tree_of, stmt_jobs, jobs_in, jobs_else}
 use Rattle.src_trees.specs.Flows.{places_for, places_in, else_entry, asked, flow_of, flow_in, flow_else, program_flow, program_jobs}
-use Rattle.src_trees.proofs.Parts.{Stand, stand_left, stand_right, stand_all, works_length, works_in_length}
+use Rattle.src_trees.proofs.Parts.{Stand, stand_left, stand_right, stand_all, stmt_jobs_length, jobs_in_length}
 use Rattle.branch_fix.specs.Parts.{FitsPart, PartsFit}
 use Rattle.branch_fix.specs.declared.part.BranchedTest.{BranchedTest}
 use Rattle.branch_fix.specs.declared.part.LayoutPart.{LayoutPart}
@@ -38,7 +38,7 @@ one_any filed t = (t, refl)
 one_any tested t = tt
 
 mutual
-  job_one : (m : MemoryMap) (a : StmtModel) → AllOne (works m a)
+  job_one : (m : MemoryMap) (a : StmtModel) → AllOne (stmt_jobs m a)
   job_one m (assign place e) = (one_any _ _, tt)
   job_one m (choice test taken other) = (tt, one_on (jobs_in m taken) (jobs_else m other) (jobs_one m taken) (else_one m other))
   job_one m (while test body) = (tt, jobs_one m body)
@@ -46,7 +46,7 @@ mutual
 
   pub jobs_one : (m : MemoryMap) (list : StmtsModel) → AllOne (jobs_in m list)
   jobs_one m no_acts = tt
-  jobs_one m (act a rest) = one_on (works m a) (jobs_in m rest) (job_one m a) (jobs_one m rest)
+  jobs_one m (act a rest) = one_on (stmt_jobs m a) (jobs_in m rest) (job_one m a) (jobs_one m rest)
 
   else_one : (m : MemoryMap) (o : ElseModel) → AllOne (jobs_else m o)
   else_one m without = tt
@@ -78,36 +78,36 @@ asked_tests all cmp tree on_true on_false rest t g = by (holds_at_one cmp)
 
 module _ (m : MemoryMap) (all : List JobModel) where
   mutual
-    flow_tests : (a : StmtModel) (tree at : ℕ) → Stand all tree (works m a) → AreFlowJobs all (flow_of a tree at)
-    flow_tests (assign place e) tree at h = (record { work = _; at = h.0; destination = assigned_stores m place.name place.index }, tt)
+    flow_tests : (a : StmtModel) (tree at : ℕ) → Stand all tree (stmt_jobs m a) → AreFlowJobs all (flow_of a tree at)
+    flow_tests (assign place e) tree at h = (record { job = _; at = h.0; destination = assigned_stores m place.name place.index }, tt)
     flow_tests (choice test taken other) tree at h =
-        let n = works_in_length m taken in
+        let n = jobs_in_length m taken in
         asked_tests all test.cmp tree (at + 1) (else_entry other (at + 1 + places_in taken)) (flow_in taken (tree + 1) (at + 1) ++ flow_else other (tree + 1 + statements_in taken) (at + 1 + places_in taken))
-        (record { work = _; at = h.0; destination = refl })
+        (record { job = _; at = h.0; destination = refl })
         (tests_on all (flow_in taken (tree + 1) (at + 1)) (flow_else other (tree + 1 + statements_in taken) (at + 1 + places_in taken))
         (in_tests taken (tree + 1) (at + 1) (stand_left all (tree + 1) (jobs_in m taken) (jobs_else m other) h.1))
         (else_tests other (tree + 1 + statements_in taken) (at + 1 + places_in taken) (stand_right all (tree + 1) (tree + 1 + statements_in taken) (jobs_in m taken) (jobs_else m other) (omega (arith, n)) h.1)))
     flow_tests (while test body) tree at h =
-        asked_tests all test.cmp tree (at + 1) (at + 1 + places_in body + 1) (flow_in body (tree + 1) (at + 1) ++ Jumped at ∷ []) (record { work = _; at = h.0; destination = refl })
+        asked_tests all test.cmp tree (at + 1) (at + 1 + places_in body + 1) (flow_in body (tree + 1) (at + 1) ++ Jumped at ∷ []) (record { job = _; at = h.0; destination = refl })
         (tests_on all (flow_in body (tree + 1) (at + 1)) (Jumped at ∷ []) (in_tests body (tree + 1) (at + 1) h.1) tt)
     flow_tests (count counter from_at from to body) tree at h =
         let z : tree + 1 + 1 ≡ tree + 2 = omega arith in
-        let n = works_in_length m body in
+        let n = jobs_in_length m body in
         let next : Stand all (tree + 2) (jobs_in m body ++ job_of_step m counter ∷ []) = subst (λ k. Stand all k (jobs_in m body ++ job_of_step m counter ∷ [])) z h.1.1 in
         let step = stand_right all (tree + 2) (tree + 2 + statements_in body) (jobs_in m body) (job_of_step m counter ∷ []) (omega (arith, n)) next in (
-          record { work = job_of_start m counter from; at = h.0; destination = λ e. absurd (cc e) },
-          asked_tests all Ne (tree + 1) (at + 2) (at + 2 + places_in body + 2) (flow_in body (tree + 2) (at + 2) ++ Assign (tree + 2 + statements_in body) ∷ (Jumped (at + 1) ∷ [])) (record { work = _; at = h.1.0; destination = refl })
+          record { job = job_of_start m counter from; at = h.0; destination = λ e. absurd (cc e) },
+          asked_tests all Ne (tree + 1) (at + 2) (at + 2 + places_in body + 2) (flow_in body (tree + 2) (at + 2) ++ Assign (tree + 2 + statements_in body) ∷ (Jumped (at + 1) ∷ [])) (record { job = _; at = h.1.0; destination = refl })
               (tests_on all (flow_in body (tree + 2) (at + 2)) (Assign (tree + 2 + statements_in body) ∷ (Jumped (at + 1) ∷ []))
               (in_tests body (tree + 2) (at + 2) (stand_left all (tree + 2) (jobs_in m body) (job_of_step m counter ∷ []) next))
-              (record { work = job_of_step m counter; at = step.0; destination = λ e. absurd (cc e) }, tt)),
+              (record { job = job_of_step m counter; at = step.0; destination = λ e. absurd (cc e) }, tt)),
         )
 
     pub in_tests : (list : StmtsModel) (tree at : ℕ) → Stand all tree (jobs_in m list) → AreFlowJobs all (flow_in list tree at)
     in_tests no_acts tree at h = tt
     in_tests (act a rest) tree at h =
-        let n = works_length m a in
-        tests_on all (flow_of a tree at) (flow_in rest (tree + statements a) (at + places_for a)) (flow_tests a tree at (stand_left all tree (works m a) (jobs_in m rest) h))
-        (in_tests rest (tree + statements a) (at + places_for a) (stand_right all tree (tree + statements a) (works m a) (jobs_in m rest) (omega (arith, n)) h))
+        let n = stmt_jobs_length m a in
+        tests_on all (flow_of a tree at) (flow_in rest (tree + statements a) (at + places_for a)) (flow_tests a tree at (stand_left all tree (stmt_jobs m a) (jobs_in m rest) h))
+        (in_tests rest (tree + statements a) (at + places_for a) (stand_right all tree (tree + statements a) (stmt_jobs m a) (jobs_in m rest) (omega (arith, n)) h))
 
     else_tests : (o : ElseModel) (tree at : ℕ) → Stand all tree (jobs_else m o) → AreFlowJobs all (flow_else o tree at)
     else_tests without tree at h = tt
@@ -128,18 +128,18 @@ tests_get all (Jumped to ∷ xs) (suc k) tree one none h e = tests_get all xs k 
 tests_get all (Ended ∷ xs) (suc k) tree one none h e = tests_get all xs k tree one none h e
 
 -- the job of a test's part
-pub test_job_of : (all : List JobModel) (rules : List FormModel) (flow : List Flow) (parts : List LayoutPart) (k : ℕ) (f : BranchedTest) → PartsFit rules flow 0 flow parts → AreFlowJobs all flow → slice_get parts k ≡ Some (Test f) → IsTestJob all f.tree
-test_job_of all rules flow parts k f fit tests e =
+pub test_job_of : (all : List JobModel) (forms : List FormModel) (flow : List Flow) (parts : List LayoutPart) (k : ℕ) (f : BranchedTest) → PartsFit forms flow 0 flow parts → AreFlowJobs all flow → slice_get parts k ≡ Some (Test f) → IsTestJob all f.tree
+test_job_of all forms flow parts k f fit tests e =
     let l : k < length parts = there parts k (Test f) e in
-    let n : length parts ≡ length flow = fit_length rules flow 0 flow parts fit in
+    let n : length parts ≡ length flow = fit_length forms flow 0 flow parts fit in
     let g = get_there flow k (omega (arith, l, n)) in
-    let q = part_at rules flow 0 flow parts k k g.0 fit g.1 (omega arith) in
-    by g.0 g.1 (subst (λ x. FitsPart rules flow k g.0 x) (one q.0 (Test f) (sym q.1 ∙ e)) q.2)
+    let q = part_at forms flow 0 flow parts k k g.0 fit g.1 (omega arith) in
+    by g.0 g.1 (subst (λ x. FitsPart forms flow k g.0 x) (one q.0 (Test f) (sym q.1 ∙ e)) q.2)
   where
     one : (x y : LayoutPart) → Some x ≡ Some y → x ≡ y
     one x y e = cc
 
-    by : (g : Flow) → slice_get flow k ≡ Some g → FitsPart rules flow k g (Test f) → IsTestJob all f.tree
+    by : (g : Flow) → slice_get flow k ≡ Some g → FitsPart forms flow k g (Test f) → IsTestJob all f.tree
     by (Tested tree a b) at h = subst (IsTestJob all) (sym h.0) (tests_get all flow k tree a b tests at)
     by (Assign tree) at h = absurd h
     by (Jumped to) at h = absurd h

@@ -20,11 +20,11 @@ use Rattle.form_set.proofs.Editions.{shape_from}
 use Rattle.form_model.proofs.ShapeLaws.{exact_shape}
 use Rattle.form_set.specs.Inner.Linear.{are_apart, is_linear, transfer_linear}
 use Rattle.form_set.specs.Listing.{IsBranch, IsJump, branch_form_model, counter_at, jump_form_model, test_sides}
-use Rattle.form_set.specs.Swaps.{picks, swap_paths, swapped}
+use Rattle.operand_swaps.specs.Swaps.{picks, swap_paths, swapped}
 use Rattle.form_set.specs.Targets.{Branch, allowed_target, branch_if, distance_if, first_of, is_absolute, relative_target, expr_branch}
 use Rattle.form_set.proofs.LinearLaws.{linear_is}
 use Rattle.form_set.proofs.ShapeBits.{shape_fits}
-use Rattle.form_set.proofs.SwapLaws.{swapped_alike}
+use Rattle.operand_swaps.proofs.SwapLaws.{swapped_alike}
 use Rattle.emit_seq.specs.Formed.{CellsShown, IsOnce}
 use Rattle.right_code.proofs.Filed.{shown_of, swapped_shown}
 use Rattle.right_code.specs.Inner.Forks.{IsBranchForm, IsJumpForm, IsTargetExpr, one_side}
@@ -92,10 +92,10 @@ opened edition pc reach _ branch e = absurd (cc)
 -- what is known of the select is known of its parts
 record Parts (netlist : Netlist) (free : ℕ) (c x : ExprModel) : Type 0 where
   test_fits : ExprFits c
-  test_terms : IsExprOf netlist c
+  test_exprs : IsExprOf netlist c
   test_linear : is_linear free c ≡ true
   target_fits : ExprFits x
-  target_terms : IsExprOf netlist x
+  target_exprs : IsExprOf netlist x
   apart : bit_and (fields c) (fields x) ≡ 0
 
 parts_of : (netlist : Netlist) (free : ℕ) (w : Bool) (c x y : ExprModel) → ExprFits (select c (one_side w x y) (one_side w y x)) → IsExprOf netlist (select c (one_side w x y) (one_side w y x))
@@ -104,10 +104,10 @@ parts_of netlist free true c x y f t l =
     let k = and_parts (are_apart free c x && (are_apart free c y && are_apart free x y)) (is_linear free c && (is_linear free x && is_linear free y)) l in
     record {
       test_fits = f.0;
-      test_terms = t.0;
+      test_exprs = t.0;
       test_linear = (and_parts (is_linear free c) (is_linear free x && is_linear free y) k.1).0;
       target_fits = f.1;
-      target_terms = t.1;
+      target_exprs = t.1;
       apart = meet_none free c x (and_parts (are_apart free c x) (are_apart free c y && are_apart free x y) k.0).0;
     }
 parts_of netlist free false c x y f t l =
@@ -115,10 +115,10 @@ parts_of netlist free false c x y f t l =
     let m = and_parts (are_apart free c y) (are_apart free c x && are_apart free y x) k.0 in
     record {
       test_fits = f.0;
-      test_terms = t.0;
+      test_exprs = t.0;
       test_linear = (and_parts (is_linear free c) (is_linear free y && is_linear free x) k.1).0;
       target_fits = f.2;
-      target_terms = t.2;
+      target_exprs = t.2;
       apart = meet_none free c x (and_parts (are_apart free c x) (are_apart free y x) m.1).0;
     }
 
@@ -126,7 +126,7 @@ module _ (netlist : Netlist) where
   -- ---- what targets show
 
   below_shown : (t : ExprModel) → is_shape t ≡ true → ExprFits t → IsExprOf netlist t → (v : ℕ) → v < reach_of t → shows t v ≡ true
-  below_shown t shape fits terms v lt = let x = exact_shape (word_width netlist) t shape (shape_fits netlist t shape terms fits) in (x.shown v).1 (x.reach.below v lt)
+  below_shown t shape fits exprs v lt = let x = exact_shape (word_width netlist) t shape (shape_fits netlist t shape exprs fits) in (x.shown v).1 (x.reach.below v lt)
 
   -- a target so many words on
   distance_goes : (reach : ℕ) (t : ExprModel) (way : TargetModel) → ExprFits t → relative_target netlist.edition (counter_at netlist) t ≡ Some way → IsTargetExpr netlist way t × TargetReaches reach way
@@ -154,13 +154,13 @@ module _ (netlist : Netlist) where
   distance_goes reach _ way fits e = absurd (cc)
 
   target_goes : (reach : ℕ) (t : ExprModel) (way : TargetModel) → ExprFits t → IsExprOf netlist t → allowed_target netlist.edition (counter_at netlist) reach t ≡ Some way → IsTargetExpr netlist way t × TargetReaches reach way
-  target_goes reach t way fits terms e = by (is_absolute netlist.edition reach t) refl e
+  target_goes reach t way fits exprs e = by (is_absolute netlist.edition reach t) refl e
     where
       by : (b : Bool) → is_absolute netlist.edition reach t ≡ b → first_of (if b then Some (absolute t) else None) (relative_target netlist.edition (counter_at netlist) t) ≡ Some way → IsTargetExpr netlist way t × TargetReaches reach way
       by true a h =
           (let k = and_parts (is_shape_in netlist.edition t) _ a in
           let le : reach ≤ reach_of t = leb-true reach (reach_of t) k.1 in
-          subst (λ w. IsTargetExpr netlist w t × TargetReaches reach w) (some_same (absolute t) way h) (refl, λ v lt. below_shown t (shape_from netlist.edition t k.0) fits terms v (omega (arith, le, lt))))
+          subst (λ w. IsTargetExpr netlist w t × TargetReaches reach w) (some_same (absolute t) way h) (refl, λ v lt. below_shown t (shape_from netlist.edition t k.0) fits exprs v (omega (arith, le, lt))))
       by false a h = distance_goes reach t way fits h
 
   module _ (some : 0 < word_width netlist) (patterns : List Pattern) (known : AreKnown netlist patterns) where
@@ -170,7 +170,7 @@ module _ (netlist : Netlist) where
     jump_made number p at h fields = record { is = at ∙ ap Some (λ j. record { storage = h.storage j; move = h.move j }) }
 
     pub jump_shows : (number : ℕ) (p : Pattern) → slice_get patterns number ≡ Some p → (h : IsJump netlist p) (v : ℕ) → v < reach_of h.target → shows h.target v ≡ true
-    jump_shows number p at h = below_shown h.target (shape_from netlist.edition h.target h.shape) (subst TransferFits h.move (known number p at).fits) (subst (IsTransferOf netlist) h.move (known number p at).terms)
+    jump_shows number p at h = below_shown h.target (shape_from netlist.edition h.target h.shape) (subst TransferFits h.move (known number p at).fits) (subst (IsTransferOf netlist) h.move (known number p at).exprs)
 
     -- ---- branch forms
 
@@ -184,17 +184,17 @@ module _ (netlist : Netlist) where
       known_parts : Parts netlist free parts.test o.target
       known_parts =
           parts_of netlist free parts.when_one parts.test o.target o.step (subst ExprFits o.is (subst TransferFits h.move (known number p at).fits))
-          (subst (IsExprOf netlist) o.is (subst (IsTransferOf netlist) h.move (known number p at).terms))
+          (subst (IsExprOf netlist) o.is (subst (IsTransferOf netlist) h.move (known number p at).exprs))
           (ap (is_linear free) (sym o.is) ∙ ap (transfer_linear free) (sym h.move) ∙ (linear_is free p.move).1 h.linear)
 
-      pub test_terms : IsExprOf netlist parts.test
-      test_terms = known_parts.test_terms
+      pub test_exprs : IsExprOf netlist parts.test
+      test_exprs = known_parts.test_exprs
 
       pub test_swapped : (choice : ℕ) → IsSwapped parts.test (swapped choice (test_sides parts)).value
       test_swapped choice = (swapped_sides choice (test_sides parts)).value
 
       pub test_once : (choice : ℕ) → IsOnce (swapped choice (test_sides parts)).value
-      test_once choice = (test_swapped choice).once (once_of (word_width netlist) free parts.test some (words_in netlist parts.test test_terms known_parts.test_fits) known_parts.test_linear)
+      test_once choice = (test_swapped choice).once (once_of (word_width netlist) free parts.test some (words_in netlist parts.test test_exprs known_parts.test_fits) known_parts.test_linear)
 
       -- its reads of the file show every cell
       pub test_shown : (choice : ℕ) → CellsShown (size_in InFile netlist.storages) (swapped choice (test_sides parts)).value
@@ -209,7 +209,7 @@ module _ (netlist : Netlist) where
         target = o.target;
         step = o.step;
         is = at ∙ ap Some (λ j. record { storage = h.storage j; move = (h.move ∙ ap write o.is) j });
-        goes = (target_goes reach o.target parts.to known_parts.target_fits known_parts.target_terms o.allowed).0;
+        goes = (target_goes reach o.target parts.to known_parts.target_fits known_parts.target_exprs o.allowed).0;
         steps = next_is (counter_at netlist) o.step o.next;
         alike = alike_of parts.test (swapped choice (test_sides parts)).value known_parts.test_fits (swapped_alike choice (test_sides parts)).value (test_swapped choice);
         same_fields = sym (test_swapped choice).fields_same;
@@ -217,10 +217,10 @@ module _ (netlist : Netlist) where
       }
 
       pub branch_reaches : TargetReaches reach parts.to
-      branch_reaches = (target_goes reach o.target parts.to known_parts.target_fits known_parts.target_terms o.allowed).1
+      branch_reaches = (target_goes reach o.target parts.to known_parts.target_fits known_parts.target_exprs o.allowed).1
 
   -- a jump form reaches no further than the program counter counts
   pub jump_narrow : (order : List ℕ) (keeps : KeepsRules netlist order) (some : 0 < word_width netlist) (patterns : List Pattern) (known : AreKnown netlist patterns) (number : ℕ) (p : Pattern) → slice_get patterns number ≡ Some p → (h : IsJump netlist p) → reach_of h.target ≤ 2 ^ counter_width netlist
   jump_narrow order keeps some patterns known number p at h =
       jump_within netlist order keeps (word_width netlist) p (known number p at).is h.storage h.target h.move
-      (shape_fits netlist h.target (shape_from netlist.edition h.target h.shape) (subst (IsTransferOf netlist) h.move (known number p at).terms) (subst TransferFits h.move (known number p at).fits))
+      (shape_fits netlist h.target (shape_from netlist.edition h.target h.shape) (subst (IsTransferOf netlist) h.move (known number p at).exprs) (subst TransferFits h.move (known number p at).fits))

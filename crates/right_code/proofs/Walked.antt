@@ -116,7 +116,7 @@ module _ (netlist base : Netlist) (v : ℕ) (is : IsBase netlist netlist.special
         record { last = w.last; walks = w.outer; mode = w.mode; agree = subst (λ t. Agree after t (steps_effect m xs s)) e r.agree }
 
   -- the words of jobs of the mode do them
-  pub block_does : (patterns : List Pattern) (stock : StockModel) → stock.file ≡ size_in InFile base.storages → AreFormed (file_place base.storages) patterns (length base.storages) stock.file stock.rules → (jobs : List JobModel) (at n : ℕ) → IsBlockMade base netlist.special patterns stock image jobs at n
+  pub block_does : (patterns : List Pattern) (stock : StockModel) → stock.file ≡ size_in InFile base.storages → AreFormed (file_place base.storages) patterns (length base.storages) stock.file stock.forms → (jobs : List JobModel) (at n : ℕ) → IsBlockMade base netlist.special patterns stock image jobs at n
       → at + n < 2 ^ counter_width base → DoesIn netlist image stock.temps v jobs at n
   block_does patterns stock sized formed jobs at n made b = record {
     walks = λ s here mode lie.

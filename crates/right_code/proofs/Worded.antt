@@ -21,7 +21,7 @@ use Rattle.block_words.specs.Laws.{operation_in}
 use Rattle.form_model.specs.Steps.{cover_steps}
 use Rattle.form_set.specs.Listing.{AreFormModels, sides_of}
 use Rattle.form_set.specs.Promises.{IsFormOf, of_branch, of_jump, of_plain}
-use Rattle.form_set.specs.Swaps.{SidesModel, swapped}
+use Rattle.operand_swaps.specs.Swaps.{SidesModel, swapped}
 use Rattle.form_set.proofs.FormLaws.{plain_words}
 use Rattle.emit_seq.specs.Settles.{AreOfForms, IsOfForm, IsStepping, addr_fields, form_fields}
 use Rattle.emit_seq.proofs.Settled.{steps_of_forms}
@@ -62,28 +62,28 @@ swapped_fields choice (write_at a v) n =
     sides_fields (Some a) (swapped choice x).addr v (swapped choice x).value (swapped_sides choice x)
 
 module _ (netlist : Netlist) (order : List ℕ) (keeps : KeepsRules netlist order) (some : 0 < word_width netlist) (patterns : List Pattern) (known : AreKnown netlist patterns) (reach : ℕ) (all : List FormModel) (list : AreFormModels netlist reach 0 patterns all)
-    (stock : StockModel) (sized : stock.file ≡ size_in InFile netlist.storages) (of : ArePart stock.rules all) where
+    (stock : StockModel) (sized : stock.file ≡ size_in InFile netlist.storages) (of : ArePart stock.forms all) where
   -- what holds of all forms holds of these
-  shared : AreShared stock.rules
+  shared : AreShared stock.forms
   shared j k a b ha hb e =
       let p = of j a ha in
       let q = of k b hb in
       are_shared netlist order keeps some patterns known reach all list p.0 q.0 a b p.1 q.1 e
 
-  counts : ReadsCounter stock.rules (counter_of netlist.codes)
-  counts k rule at goal = let p = of k rule at in is_counter netlist order keeps some patterns known reach all list p.0 rule p.1 goal
+  counts : ReadsCounter stock.forms (counter_of netlist.codes)
+  counts k form at goal = let p = of k form at in is_counter netlist order keeps some patterns known reach all list p.0 form p.1 goal
 
   no_step : (goal other : GoalModel) → goal ≡ other → IsStepping goal → (IsStepping other → ⊥) → ⊥
   no_step goal other e h n = n (subst IsStepping e h)
 
   -- a step of a plain form has a word for its setting
-  of_form : (x : Step) (rule : FormModel) (k : ℕ) → slice_get stock.rules k ≡ Some rule → IsStepping rule.goal → x.pattern ≡ rule.pattern → bit_and x.setting (form_fields rule) ≡ x.setting → (number : ℕ) (p : Pattern) → slice_get patterns number ≡ Some p
-      → IsFormOf netlist reach number p rule → IsWorded netlist patterns x (step_clobbers stock.rules x)
-  of_form x rule k listed goal same within number p at (of_jump h e) = absurd (no_step rule.goal _ (ap (λ (r : FormModel). r.goal) e) goal (λ z. z))
-  of_form x rule k listed goal same within number p at (of_branch choice parts h e) = absurd (no_step rule.goal _ (ap (λ (r : FormModel). r.goal) e) goal (λ z. z))
-  of_form x rule k listed goal same within number p at (of_plain choice clobbers plain are e) =
+  of_form : (x : Step) (form : FormModel) (k : ℕ) → slice_get stock.forms k ≡ Some form → IsStepping form.goal → x.pattern ≡ form.pattern → bit_and x.setting (form_fields form) ≡ x.setting → (number : ℕ) (p : Pattern) → slice_get patterns number ≡ Some p
+      → IsFormOf netlist reach number p form → IsWorded netlist patterns x (step_clobbers stock.forms x)
+  of_form x form k listed goal same within number p at (of_jump h e) = absurd (no_step form.goal _ (ap (λ (r : FormModel). r.goal) e) goal (λ z. z))
+  of_form x form k listed goal same within number p at (of_branch choice parts h e) = absurd (no_step form.goal _ (ap (λ (r : FormModel). r.goal) e) goal (λ z. z))
+  of_form x form k listed goal same within number p at (of_plain choice clobbers plain are e) =
       let q : IsKnownPattern netlist p = known number p at in
-      let f : form_fields rule ≡ transfer_fields p.move = ap (λ (r : FormModel). form_fields r) e ∙ swapped_fields choice p.move q.is.changes in
+      let f : form_fields form ≡ transfer_fields p.move = ap (λ (r : FormModel). form_fields r) e ∙ swapped_fields choice p.move q.is.changes in
       record {
         of = record {
           pattern = p;
@@ -92,74 +92,74 @@ module _ (netlist : Netlist) (order : List ℕ) (keeps : KeepsRules netlist orde
           setting = ap (λ n. bit_and x.setting n) (sym f) ∙ within;
         };
         mask = clobbers;
-        same = ap (λ n. step_clobbers stock.rules (record { pattern = n; setting = x.setting })) same
-            ∙ ap (λ n. regs_of n) (clobbers_at stock.rules shared k rule listed ∙ ap (λ (r : FormModel). r.clobbers) e);
+        same = ap (λ n. step_clobbers stock.forms (record { pattern = n; setting = x.setting })) same
+            ∙ ap (λ n. regs_of n) (clobbers_at stock.forms shared k form listed ∙ ap (λ (r : FormModel). r.clobbers) e);
         words = plain_words netlist p clobbers plain are;
       }
 
-  all_worded : (xs : List Step) → AreOfForms stock.rules xs → AreWorded netlist patterns (step_clobbers stock.rules) xs
+  all_worded : (xs : List Step) → AreOfForms stock.forms xs → AreWorded netlist patterns (step_clobbers stock.forms) xs
   all_worded [] h = tt
   all_worded (x ∷ xs) h =
-      let o : IsOfForm stock.rules x = h.0 in
-      let p = of o.destination o.rule o.listed in
-      let f : Placed netlist order keeps some patterns known reach all list o.rule = placed netlist order keeps some patterns known reach all list p.0 o.rule p.1 in
-      (of_form x o.rule o.destination o.listed o.goal o.pattern o.within f.number f.pattern f.at f.of, all_worded xs h.1)
+      let o : IsOfForm stock.forms x = h.0 in
+      let p = of o.destination o.form o.listed in
+      let f : Placed netlist order keeps some patterns known reach all list o.form = placed netlist order keeps some patterns known reach all list p.0 o.form p.1 in
+      (of_form x o.form o.destination o.listed o.goal o.pattern o.within f.number f.pattern f.at f.of, all_worded xs h.1)
 
-  forms_on : (xs ys : List Step) → AreOfForms stock.rules xs → AreOfForms stock.rules ys → AreOfForms stock.rules (xs ++ ys)
+  forms_on : (xs ys : List Step) → AreOfForms stock.forms xs → AreOfForms stock.forms ys → AreOfForms stock.forms (xs ++ ys)
   forms_on [] ys g h = h
   forms_on (x ∷ xs) ys g h = (g.0, forms_on xs ys g.1 h)
 
-  job_forms : (work : JobModel) (choice : JobCoverModel) → IsCovered stock work choice → AreOfForms stock.rules (job_steps stock work choice)
-  job_forms work choice c =
-      subst (λ t. AreOfForms stock.rules (cover_steps stock work.destination t choice.plan)) (sym (ap tree_or_none c.covers.used)) (steps_of_forms stock work.destination c.covers.tree choice.plan c.covers.orderly)
+  job_forms : (job : JobModel) (choice : JobCoverModel) → IsCovered stock job choice → AreOfForms stock.forms (job_steps stock job choice)
+  job_forms job choice c =
+      subst (λ t. AreOfForms stock.forms (cover_steps stock job.destination t choice.cover)) (sym (ap tree_or_none c.covers.used)) (steps_of_forms stock job.destination c.covers.tree choice.cover c.covers.orderly)
 
-  jobs_forms : (jobs : List JobModel) (choices : List JobCoverModel) → AreCovered stock jobs choices → AreOfForms stock.rules (jobs_steps stock jobs choices)
+  jobs_forms : (jobs : List JobModel) (choices : List JobCoverModel) → AreCovered stock jobs choices → AreOfForms stock.forms (jobs_steps stock jobs choices)
   jobs_forms [] [] c = tt
   jobs_forms [] (d ∷ choices) c = absurd c
   jobs_forms (t ∷ jobs) [] c = absurd c
   jobs_forms (t ∷ jobs) (d ∷ choices) c = forms_on (job_steps stock t d) (jobs_steps stock jobs choices) (job_forms t d c.0) (jobs_forms jobs choices c.2)
 
-  formed : AreFormed (file_place netlist.storages) patterns (length netlist.storages) stock.file stock.rules
+  formed : AreFormed (file_place netlist.storages) patterns (length netlist.storages) stock.file stock.forms
   formed =
-      subst (λ n. AreFormed (file_place netlist.storages) patterns (length netlist.storages) n stock.rules) (sym sized)
-      (λ k rule at. (let p = of k rule at in are_formed netlist order keeps some patterns known reach all list p.0 rule p.1))
+      subst (λ n. AreFormed (file_place netlist.storages) patterns (length netlist.storages) n stock.forms) (sym sized)
+      (λ k form at. (let p = of k form at in are_formed netlist order keeps some patterns known reach all list p.0 form p.1))
 
   -- ---- where the mode is live behind steps, too
 
-  module _ (o : Option ℕ) (keep : FormsKeep o stock.rules) where
-    form_spares : (mode : ℕ) → AllKeep mode stock.rules → (x : Step) → IsOfForm stock.rules x → step_clobbers stock.rules x mode ≡ false
+  module _ (o : Option ℕ) (keep : FormsKeep o stock.forms) where
+    form_spares : (mode : ℕ) → AllKeep mode stock.forms → (x : Step) → IsOfForm stock.forms x → step_clobbers stock.forms x mode ≡ false
     form_spares mode k x h =
-        let at : clobbers_of stock.rules x.pattern ≡ h.rule.clobbers = ap (clobbers_of stock.rules) h.pattern ∙ clobbers_at stock.rules shared h.destination h.rule h.listed in
-        ap (λ n. bit_at n mode == 1) at ∙ ap (λ n. n == 1) (k h.destination h.rule h.listed h.goal)
+        let at : clobbers_of stock.forms x.pattern ≡ h.form.clobbers = ap (clobbers_of stock.forms) h.pattern ∙ clobbers_at stock.forms shared h.destination h.form h.listed in
+        ap (λ n. bit_at n mode == 1) at ∙ ap (λ n. n == 1) (k h.destination h.form h.listed h.goal)
 
-    all_spare : (mode : ℕ) → AllKeep mode stock.rules → (xs : List Step) → AreOfForms stock.rules xs → AllByRecursion (λ x. step_clobbers stock.rules x mode ≡ false) xs
+    all_spare : (mode : ℕ) → AllKeep mode stock.forms → (xs : List Step) → AreOfForms stock.forms xs → AllByRecursion (λ x. step_clobbers stock.forms x mode ≡ false) xs
     all_spare mode k [] h = tt
     all_spare mode k (x ∷ xs) h = (form_spares mode k x h.0, all_spare mode k xs h.1)
 
-    spare_mode : (p : Option ℕ) → FormsKeep p stock.rules → (xs : List Step) (after : Regs) → AreOfForms stock.rules xs → AllSpare (operation_in netlist patterns) (step_clobbers stock.rules) xs after
-        → AllSpare (operation_in netlist patterns) (step_clobbers stock.rules) xs (with_mode p after)
+    spare_mode : (p : Option ℕ) → FormsKeep p stock.forms → (xs : List Step) (after : Regs) → AreOfForms stock.forms xs → AllSpare (operation_in netlist patterns) (step_clobbers stock.forms) xs after
+        → AllSpare (operation_in netlist patterns) (step_clobbers stock.forms) xs (with_mode p after)
     spare_mode None k xs after h s = s
-    spare_mode (Some mode) k xs after h s = spare_with (operation_in netlist patterns) (step_clobbers stock.rules) mode xs after (all_spare mode k xs h) s
+    spare_mode (Some mode) k xs after h s = spare_with (operation_in netlist patterns) (step_clobbers stock.forms) mode xs after (all_spare mode k xs h) s
 
     -- the steps of jobs, where at most the mode is live behind them
     pub block_words : (jobs : List JobModel) (choices : List JobCoverModel) (live : Regs) → AreCovered stock jobs choices → ((r : ℕ) → live r ≡ true → with_mode o no_regs r ≡ true)
         → AllHaveWords (operation_in netlist patterns) (fits_over netlist (operation_in netlist patterns)) (singles (jobs_steps stock jobs choices)) live
     block_words jobs choices live c f =
         let xs : List Step = jobs_steps stock jobs choices in
-        let h : AreOfForms stock.rules xs = jobs_forms jobs choices c in
-        have_words netlist patterns (step_clobbers stock.rules) xs live (all_worded xs h)
-        (spare_less (operation_in netlist patterns) (step_clobbers stock.rules) xs (with_mode o no_regs) live f
+        let h : AreOfForms stock.forms xs = jobs_forms jobs choices c in
+        have_words netlist patterns (step_clobbers stock.forms) xs live (all_worded xs h)
+        (spare_less (operation_in netlist patterns) (step_clobbers stock.forms) xs (with_mode o no_regs) live f
         (spare_mode o keep xs no_regs h (jobs_spare stock (file_place netlist.storages) patterns (length netlist.storages) (counter_of netlist.codes) formed shared counts jobs choices c).0))
 
     -- the steps of a test, where the mode and registers of its condition are live behind it
-    pub test_words : (job : JobModel) (choice : JobCoverModel) (live : Regs) → IsCovered stock (test_of job) choice → ((r : ℕ) → live r ≡ true → with_mode o (wanted stock tested (tree_used (test_of job) choice) choice.plan) r ≡ true)
+    pub test_words : (job : JobModel) (choice : JobCoverModel) (live : Regs) → IsCovered stock (test_of job) choice → ((r : ℕ) → live r ≡ true → with_mode o (wanted stock tested (tree_used (test_of job) choice) choice.cover) r ≡ true)
         → AllHaveWords (operation_in netlist patterns) (fits_over netlist (operation_in netlist patterns)) (singles (job_steps stock (test_of job) choice)) live
     test_words job choice live c f =
         let used : ExprModel = tree_used (test_of job) choice in
         let xs : List Step = job_steps stock (test_of job) choice in
-        let h : AreOfForms stock.rules xs = job_forms (test_of job) choice c in
-        let s : AreSpare stock (file_place netlist.storages) patterns (counter_of netlist.codes) tested used choice.plan =
-        subst (λ t. AreSpare stock (file_place netlist.storages) patterns (counter_of netlist.codes) tested t choice.plan) (sym (ap tree_or_none c.covers.used))
-        (steps_spare stock (file_place netlist.storages) patterns (length netlist.storages) (counter_of netlist.codes) formed shared counts tested c.covers.tree choice.plan tt c.covers.orderly) in
-        have_words netlist patterns (step_clobbers stock.rules) xs live (all_worded xs h)
-        (spare_less (operation_in netlist patterns) (step_clobbers stock.rules) xs (with_mode o (wanted stock tested used choice.plan)) live f (spare_mode o keep xs (wanted stock tested used choice.plan) h s.spare))
+        let h : AreOfForms stock.forms xs = job_forms (test_of job) choice c in
+        let s : AreSpare stock (file_place netlist.storages) patterns (counter_of netlist.codes) tested used choice.cover =
+        subst (λ t. AreSpare stock (file_place netlist.storages) patterns (counter_of netlist.codes) tested t choice.cover) (sym (ap tree_or_none c.covers.used))
+        (steps_spare stock (file_place netlist.storages) patterns (length netlist.storages) (counter_of netlist.codes) formed shared counts tested c.covers.tree choice.cover tt c.covers.orderly) in
+        have_words netlist patterns (step_clobbers stock.forms) xs live (all_worded xs h)
+        (spare_less (operation_in netlist patterns) (step_clobbers stock.forms) xs (with_mode o (wanted stock tested used choice.cover)) live f (spare_mode o keep xs (wanted stock tested used choice.cover) h s.spare))

@@ -13,5 +13,5 @@ pub record HasBound (task : Task) (bound reach : ℕ) : Type 0 where
   pub isas : Isas task.netlist
   pub plans : List PlanModel
   pub planned : ArePlans task isas plans
-  pub is : bound ≡ program_bound task.listing (plan_costs (task_jobs task) plans)
-  pub far : reach ≡ greatest_reach (isas 0).rules
+  pub is : bound ≡ program_bound task.program (plan_costs (task_jobs task) plans)
+  pub far : reach ≡ greatest_reach (isas 0).keeping

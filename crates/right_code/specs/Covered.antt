@@ -21,7 +21,7 @@ AllPlanned stock Usable _ _ = ⊥
 -- the costs of the jobs in their modes
 abbrev pub plan_costs : List JobModel → List PlanModel → List ℕ
 plan_costs (job ∷ jobs) (planned ∷ plans) =
-    mode_cost planned.mode job.destination planned.choice.plan ∷ plan_costs jobs plans
+    mode_cost planned.mode job.destination planned.choice.cover ∷ plan_costs jobs plans
 plan_costs _ _ = []
 
 -- each with its number, from one on
@@ -31,7 +31,7 @@ numbered number (cost ∷ costs) = (number, cost) ∷ numbered (number + 1) cost
 
 -- what a task's jobs are covered by in a mode: the forms that keep the mode
 abbrev pub mode_stock : (task : Task) → Isas task.netlist → ℕ → StockModel
-mode_stock task isas = λ v. task_stock (isas v).rules task
+mode_stock task isas = λ v. task_stock (isas v).keeping task
 
 -- the plans of a program's jobs
 abbrev pub ArePlans : (task : Task) → Isas task.netlist → List PlanModel → Type 0

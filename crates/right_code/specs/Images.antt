@@ -34,6 +34,7 @@ use Rattle.branch_fix.specs.Items.{items_from, jump_form}
 use Rattle.branch_fix.specs.Marked.{AreMarked}
 use Rattle.branch_fix.specs.Parts.{marks_from, parts_of, starts, total}
 use Rattle.branch_fix.specs.Rounds.{IsFixpoint}
+use Rattle.branch_fix.specs.declared.outline.Branch.{Branch}
 use Rattle.branch_fix.specs.declared.part.BranchedTest.{BranchedTest}
 use Rattle.branch_fix.specs.declared.part.LayoutPart.{LayoutPart}
 use Rattle.branch_fix.specs.declared.part.LayoutPart.TheVariants.{Block, Test}
@@ -48,8 +49,8 @@ use Rattle.right_code.specs.Words.{AreGroupWords, IsPackingOf, ListItems, StandI
 -- the branch of a test is one of the form at the root of its tree's cover, and its condition has
 -- the setting that the cover gives it
 pub record IsBranchOf (stock : StockModel) (job : JobModel) (choice : JobCoverModel) (f : BranchedTest) : Type 0 where
-  pub form : slice_get stock.rules f.form ≡ Some (cover_form stock choice.plan)
-  pub setting : f.setting ≡ branch_setting stock (tree_used job choice) choice.plan
+  pub form : slice_get stock.forms f.form ≡ Some (cover_form stock choice.cover)
+  pub setting : f.setting ≡ branch_setting stock (tree_used job choice) choice.cover
 
 -- so many words are those of groups that the steps of a test's cover are packed into, behind which
 -- exactly the mode and the registers are live that the branch's condition reads under its setting
@@ -57,9 +58,9 @@ pub record AreTestWords (netlist : Netlist) (special : Option ℕ) (patterns : L
     (stock : StockModel) (job : JobModel) (choice : JobCoverModel) (groups : List (List Step)) (words : List ℕ)
     (f : BranchedTest) : Type 0 where
   pub packing : IsPackingOf netlist patterns (job_steps stock job choice)
-      (with_mode special (wanted stock tested (tree_used job choice) choice.plan)) groups
+      (with_mode special (wanted stock tested (tree_used job choice) choice.cover)) groups
   pub least : AreGroupWords netlist patterns groups
-      (with_mode special (wanted stock tested (tree_used job choice) choice.plan)) words
+      (with_mode special (wanted stock tested (tree_used job choice) choice.cover)) words
   pub long : f.words ≡ length words
   pub branch : IsBranchOf stock job choice f
 
@@ -70,7 +71,7 @@ pub record AreTestWords (netlist : Netlist) (special : Option ℕ) (patterns : L
 pub record IsLaidAt (task : Task) (image : Image) : Type 0 where
   pub temps : image.temps ≡ task_temps task
   pub places : image.places ≡ task.places
-  pub held : HoldsVars (task_temps task) task.listing.vars (task_memory task)
+  pub held : HoldsVars (task_temps task) task.program.vars (task_memory task)
   pub room : HasCellRoom (task_temps task) (task_memory task) (memory_size task.netlist.storages)
 
 -- an image that is made for a task
@@ -85,12 +86,12 @@ pub record IsMadeFor (task : Task) (image : Image) : Type 0 where
   pub planned : ArePlans task isas plans
   pub costs : image.costs ≡ numbered 0 (plan_costs (task_jobs task) plans)
   -- what stands at the places of the task's flow: blocks of so many words, tests with their
-  -- branch forms and settings, jumps and the end, where in rounds each relative branch became three
-  -- words that doesn't show its distance. Tests and jumps have the forms of mode 0 that keep it
+  -- branches, jumps and the end, where in rounds each relative branch became three words that
+  -- doesn't show its distance. Tests and jumps have the forms of mode 0 that keep it
   pub sizes : List ℕ
-  pub settings : List (ℕ × ℕ)
+  pub branches : List Branch
   pub parts : List LayoutPart
-  pub settled : IsFixpoint (isas 0).rules (parts_of (isas 0).rules task.flow sizes settings) parts
+  pub settled : IsFixpoint (isas 0).keeping (parts_of (isas 0).keeping task.flow sizes branches) parts
   -- the groups and the words of each block and of each test's operands, by the block's number
   pub groups : ℕ → List (List Step)
   pub words : ℕ → List ℕ
@@ -108,21 +109,21 @@ pub record IsMadeFor (task : Task) (image : Image) : Type 0 where
   -- these words, and the jump and branch words between them, are all words of the image, in the
   -- order of the flow
   pub stand : StandItems (base_at task.netlist 0) task.netlist.special (isas 0).patterns words (words_of image) 0
-      (items_from (isas 0).rules (jump_form (isas 0).rules (greatest_reach (isas 0).rules)) (starts parts) 0 parts)
+      (items_from (isas 0).keeping (jump_form (isas 0).keeping (greatest_reach (isas 0).keeping)) (starts parts) 0 parts)
   pub long : length (words_of image) ≡ total parts
   -- each test has one mark with its tree's number, at the first word of its code, and the last word
   -- has that of the end
   pub marks : image.marks ≡ marks_from 0 parts
   pub marked : AreMarked task.flow (length (words_of image)) image.marks
   -- there are no more words than the bound
-  pub most : length (words_of image) ≤ program_bound task.listing (plan_costs (task_jobs task) plans)
+  pub most : length (words_of image) ≤ program_bound task.program (plan_costs (task_jobs task) plans)
   -- each word lists the patterns of its group's steps, or that of its jump or branch, by the numbers
   -- of the mode in which it runs
   pub lists : ListItems groups
-      (items_from (isas 0).rules (jump_form (isas 0).rules (greatest_reach (isas 0).rules)) (starts parts) 0 parts)
+      (items_from (isas 0).keeping (jump_form (isas 0).keeping (greatest_reach (isas 0).keeping)) (starts parts) 0 parts)
       image.words
 
 -- right code: an image made for the task, which traces the program
 pub record IsRightImage (task : Task) (image : Image) : Type 0 where
   pub made : IsMadeFor task image
-  pub traces : TracesRight task.netlist image (strace task.width task.listing)
+  pub traces : TracesRight task.netlist image (strace task.width task.program)

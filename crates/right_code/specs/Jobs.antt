@@ -24,15 +24,15 @@ HasOne destination trees = IsOne trees
 
 -- the tree of a job that its cover uses
 abbrev pub tree_used : JobModel → JobCoverModel → ExprModel
-tree_used work choice = tree_or_none (slice_get work.trees choice.which)
+tree_used job choice = tree_or_none (slice_get job.trees choice.which)
 
 -- the steps of a job's cover
 abbrev pub job_steps : StockModel → JobModel → JobCoverModel → List Step
-job_steps stock work choice = cover_steps stock work.destination (tree_used work choice) choice.plan
+job_steps stock job choice = cover_steps stock job.destination (tree_used job choice) choice.cover
 
 -- and those of jobs one after the other
 abbrev pub jobs_steps : StockModel → List JobModel → List JobCoverModel → List Step
-jobs_steps stock (work ∷ works) (choice ∷ choices) = job_steps stock work choice ++ jobs_steps stock works choices
+jobs_steps stock (job ∷ jobs) (choice ∷ choices) = job_steps stock job choice ++ jobs_steps stock jobs choices
 jobs_steps stock _ _ = []
 
 abbrev pub AreTrees : List ExprModel → Type 0
@@ -45,9 +45,9 @@ IsTreeDestination (stored address) = is_tree address ≡ true
 IsTreeDestination destination = Unit {0}
 
 -- a job has an orderly cover, with at most as many cuts as there are temporary cells
-pub record IsCovered (stock : StockModel) (work : JobModel) (choice : JobCoverModel) : Type 0 where
-  pub trees : AreTrees work.trees
-  pub destination : IsTreeDestination work.destination
-  pub goes : IsOfJob work.destination
-  pub covers : Covers stock work.destination work.trees choice
-  pub few : cut_count choice.plan ≤ stock.temps
+pub record IsCovered (stock : StockModel) (job : JobModel) (choice : JobCoverModel) : Type 0 where
+  pub trees : AreTrees job.trees
+  pub destination : IsTreeDestination job.destination
+  pub goes : IsOfJob job.destination
+  pub covers : Covers stock job.destination job.trees choice
+  pub few : cut_count choice.cover ≤ stock.temps

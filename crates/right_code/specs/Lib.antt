@@ -6,7 +6,7 @@ pub mod Forms
 pub mod Images
 pub mod Jobs
 pub mod Laid
-pub mod Works
+pub mod FlowJobs
 pub mod Tasks
 pub mod Words
 pub mod Inner

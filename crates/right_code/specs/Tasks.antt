@@ -27,17 +27,17 @@ use Rattle.src_trees.specs.Measures.{AllSmall}
 use Rattle.src_trees.specs.Meant.{DoProgram}
 use Rattle.src_trees.specs.Seen.{memory_map}
 use Rattle.src_trees.specs.Turned.{Turns, TurnsTests, jobs_of_told, turned_flow}
-use Rattle.right_code.specs.Works.{AllOne, AreFlowJobs, node_limit}
+use Rattle.right_code.specs.FlowJobs.{AllOne, AreFlowJobs, node_limit}
 
 -- a netlist, how many bits a word has, a program that keeps the rules for such words, where its
 -- variables stand in the netlist's data memory, its flow and its jobs
 pub record Task : Type 0 where
   pub netlist : Netlist
   pub width : ℕ
-  pub listing : ProgramModel
+  pub program : ProgramModel
   pub places : List VariablePlace
   pub flow : List Flow
-  pub works : List JobModel
+  pub jobs : List JobModel
 
 -- the data memory with the program's variables
 abbrev pub task_memory : Task → MemoryMap
@@ -49,32 +49,32 @@ task_memory task = record {
 
 -- its jobs, and its temporary cells
 abbrev pub task_jobs : Task → List JobModel
-task_jobs task = task.works
+task_jobs task = task.jobs
 
 abbrev pub task_temps : Task → ℕ
-task_temps task = temp_count task.width task.listing
+task_temps task = temp_count task.width task.program
 
 -- the program's variables stand at these places, behind its temporary cells; the flow is the
 -- program's, where some tests may be turned; and these are jobs that do what its statements say, once
 -- those of turned tests are turned back: one for each tree, of one tree but for tests, and none too
 -- large
 pub record HasJobs (task : Task) : Type 0 where
-  pub held : HoldsVars (task_temps task) task.listing.vars (task_memory task)
+  pub held : HoldsVars (task_temps task) task.program.vars (task_memory task)
   pub room : HasCellRoom (task_temps task) (task_memory task) (memory_size task.netlist.storages)
   pub turned : Turns
-  pub only : TurnsTests turned (program_flow task.listing)
-  pub flow : task.flow ≡ turned_flow turned (program_flow task.listing)
-  pub meant : DoProgram (task_memory task) (task_temps task) task.listing (jobs_of_told turned task.works)
-  pub count : length task.works ≡ statements_in (stmts_of task.listing.body)
-  pub one : AllOne task.works
-  pub tests : AreFlowJobs task.works task.flow
-  pub small : AllSmall task.width (task_temps task) node_limit task.works
+  pub only : TurnsTests turned (program_flow task.program)
+  pub flow : task.flow ≡ turned_flow turned (program_flow task.program)
+  pub meant : DoProgram (task_memory task) (task_temps task) task.program (jobs_of_told turned task.jobs)
+  pub count : length task.jobs ≡ statements_in (stmts_of task.program.body)
+  pub one : AllOne task.jobs
+  pub tests : AreFlowJobs task.jobs task.flow
+  pub small : AllSmall task.width (task_temps task) node_limit task.jobs
 
 -- the netlist keeps its rules in each mode, and the program its own; its words are those of the data
 -- memory, which has room for its variables
 pub record IsChecked (task : Task) : Type 0 where
   pub netlist : KeepsModes task.netlist
-  pub program : first_fault task.width task.listing ≡ None
+  pub program : first_fault task.width task.program ≡ None
   pub words : memory_width task.netlist.storages ≡ task.width
   pub jobs : HasJobs task
 
@@ -92,10 +92,10 @@ abbrev pub row_task : Netlist → ℕ → ProgramModel → Task
 row_task netlist width l = record {
   netlist = netlist;
   width = width;
-  listing = l;
+  program = l;
   places = (row_memory netlist width l).places;
   flow = program_flow l;
-  works = program_jobs (row_memory netlist width l) l;
+  jobs = program_jobs (row_memory netlist width l) l;
 }
 
 -- that of a netlist and a program that were read
@@ -104,8 +104,8 @@ read_task modes typed = row_task modes.netlist typed.width (model_of_program typ
 
 -- forms, the program's temporary cells, and the cells of the register file
 abbrev pub task_stock : List FormModel → Task → StockModel
-task_stock rules task = record {
-  rules = rules;
-  temps = temp_count task.width task.listing;
+task_stock forms task = record {
+  forms = forms;
+  temps = temp_count task.width task.program;
   file = size_in InFile task.netlist.storages;
 }

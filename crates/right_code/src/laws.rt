@@ -41,14 +41,14 @@ pub fn law_of_tasks()
 
 /// A netlist has one list of forms, with one greatest reach of its jumps.
 pub fn law_of_lists()
-    ensures { (netlist : Netlist) (rules others : List FormModel) (reach other : ℕ) →
-        AreFormsOf netlist rules reach → AreFormsOf netlist others other → (rules ≡ others) × (reach ≡ other) }
+    ensures { (netlist : Netlist) (forms others : List FormModel) (reach other : ℕ) →
+        AreFormsOf netlist forms reach → AreFormsOf netlist others other → (forms ≡ others) × (reach ≡ other) }
 {}
 
 /// And one instruction set in each mode: one list of all forms, and one of those that keep the mode.
 pub fn law_of_isas()
     ensures { (netlist : Netlist) (isas others : Isas netlist) (v : ℕ) →
-        ((isas v).all ≡ (others v).all) × ((isas v).rules ≡ (others v).rules) }
+        ((isas v).all ≡ (others v).all) × ((isas v).keeping ≡ (others v).keeping) }
 {}
 
 /// Jobs have one list of costs in their modes, and a task one such list, one bound and one reach.
@@ -83,7 +83,7 @@ pub fn law_of_programs()
     ensures reach { (task : Task) → IsChecked task →
         (image : Image) (made : IsMadeFor task image) →
         length (words_of image) ≤ code_size task.netlist.codes →
-        length (words_of image) ≤ greatest_reach (made.isas 0).rules → IsRightImage task image }
+        length (words_of image) ≤ greatest_reach (made.isas 0).keeping → IsRightImage task image }
     ensures bound { (task : Task) → IsChecked task →
         (image : Image) → IsMadeFor task image → (bound reach : ℕ) → HasBound task bound reach →
         bound ≤ reach → length (words_of image) ≤ code_size task.netlist.codes →

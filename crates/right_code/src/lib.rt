@@ -24,9 +24,9 @@
 //!
 //! - `laws`: what is one for a task, and that an image made for it is right code.
 //! - `words`: that each step and each jump of a task's code has a word.
-//! - `specs/`, cited by public contracts: `Tasks` (what two files say together), `Works` (its jobs),
-//!   `Forms`, `Covered`, `Bounded`, `Words`, `Cuts` (a block's jobs cut at the mode words), `Images`
-//!   (the definition of right code), `Jobs` (the steps of jobs), `Laid`, `Forks`.
+//! - `specs/`, cited by public contracts: `Tasks` (what two files say together), `FlowJobs` (its
+//!   jobs), `Forms`, `Covered`, `Bounded`, `Words`, `Cuts` (a block's jobs cut at the mode words),
+//!   `Images` (the definition of right code), `Jobs` (the steps of jobs), `Laid`, `Forks`.
 //! - `specs/Inner/`, between the definition of an image and its trace: `Blocks`, `Code`, `Known`,
 //!   `Jobs`, `Laid` and `Forks`.
 //! - `proofs/`: `Right` on top; `Rows` for the task of one memory; `TaskFlows` for a task's flow;

@@ -51,7 +51,7 @@ pub fn law_of_test_words()
         slice_get (task_jobs task) number ≡ Some job → slice_get plans number ≡ Some planned →
         job.destination ≡ tested → (live : Regs) →
         ((r : ℕ) → live r ≡ true → with_mode task.netlist.special
-        (wanted (mode_stock task isas 0) tested (tree_used job planned.choice) planned.choice.plan) r ≡ true) →
+        (wanted (mode_stock task isas 0) tested (tree_used job planned.choice) planned.choice.cover) r ≡ true) →
         AllHaveWords (operation_in (base_at task.netlist 0) (isas 0).patterns)
         (fits_over (base_at task.netlist 0) (operation_in (base_at task.netlist 0) (isas 0).patterns))
         (singles (job_steps (mode_stock task isas 0) job planned.choice)) live }
@@ -63,13 +63,13 @@ pub fn law_of_jump_words()
     ensures { (task : Task) → IsChecked task → (isas : Isas task.netlist) →
         (plans : List PlanModel) → ArePlans task isas plans →
         (parts : List LayoutPart) →
-        IsLayout (isas 0).rules task.flow parts (greatest_reach (isas 0).rules) →
+        IsLayout (isas 0).keeping task.flow parts (greatest_reach (isas 0).keeping) →
         ((at : ℕ) (f : BranchedTest) → slice_get parts at ≡ Some (Test f) →
         (job : JobModel) → slice_get (task_jobs task) f.tree ≡ Some job →
         (planned : PlanModel) → slice_get plans f.tree ≡ Some planned →
         IsBranchOf (mode_stock task isas 0) job planned.choice f) →
         (k : ℕ) (step : Step) →
-        slice_get (items_from (isas 0).rules (jump_form (isas 0).rules (greatest_reach (isas 0).rules))
+        slice_get (items_from (isas 0).keeping (jump_form (isas 0).keeping (greatest_reach (isas 0).keeping))
         (starts parts) 0 parts) k ≡ Some (Jump step) →
         (word : ℕ) × FitsTurn (base_at task.netlist 0) task.netlist.special word
         (operation_in (base_at task.netlist 0) (isas 0).patterns step) }

@@ -3,7 +3,7 @@ use Rattle.std.proofs.Common.{◌≡◌, ℕ, zero, suc, ◌<◌, List, [], ◌�
 use Rattle.net_model.specs.Exprs.{ExprModel, select}
 use Rattle.sym_expr.specs.declared.pool.Node.{Node}
 use Rattle.sym_expr.specs.Pools.{AllBelow, Grows, expr_of_id}
-use Rattle.sym_expr.proofs.CallerLemmas.{same_term}
+use Rattle.sym_expr.proofs.CallerLemmas.{same_expr}
 use Rattle.transfer_set.specs.declared.route.Route.{Route}
 use Rattle.route_trace.specs.declared.heads.Binary.{Binary}
 use Rattle.route_trace.specs.declared.heads.Binary.TheVariants.{Select}
@@ -24,4 +24,4 @@ select_fit_at pool (x ∷ xs) ys zs (suc i) c at f = select_fit_at pool xs ys zs
 
 -- the choices under a selector, in a pool that grew
 pub under_later : (old new : List Node) → Grows old new → (c : ℕ) → c < length old → (xs ys us vs : List ExprModel) → us ≡ xs → vs ≡ ys → pairs (Select c) (expr_of_id new) us vs ≡ under (expr_of_id old c) xs ys
-under_later old new g c h xs ys us vs e f = let d = same_term old new g c h in (λ j. each (λ a. map (select (d j) a) (f j)) (e j))
+under_later old new g c h xs ys us vs e f = let d = same_expr old new g c h in (λ j. each (λ a. map (select (d j) a) (f j)) (e j))

@@ -23,10 +23,10 @@ use Rattle.route_trace.proofs.Selecting.{given_later, selects_given, target_give
 -- choices between routes that were made one after the other, as they stood before
 pub selects_then : (book book1 book2 : Diagrams) (pool pool1 pool2 : List Node) → Extends book book1 → Extends book1 book2 → Grows pool pool1 → Grows pool1 pool2 → (nets : List (List Route)) → AreTables book pool nets
     → (legal : ℕ) → legal < length book.nodes → (width sel : ℕ) (one zero : Option ℕ) (ones zeros : List Route) → IsRouteTable book1 pool1 ones → (word : ℕ)
-    → models_under book1 pool1 ones word ≡ target_exprs book pool nets legal width one word → models_under book2 pool2 zeros word ≡ target_exprs book1 pool1 nets legal width zero word → (terms : List ExprModel)
-    → terms ≡ (if has_word book2 legal word then selects (models_under book2 pool2 (routes_at nets sel) word) (models_under book2 pool2 ones word) (models_under book2 pool2 zeros word) else [])
-    → terms ≡ (if has_word book legal word then selects (models_under book pool (routes_at nets sel) word) (target_exprs book pool nets legal width one word) (target_exprs book pool nets legal width zero word) else [])
-selects_then book book1 book2 pool pool1 pool2 e f g h nets t legal legal_in width sel one zero ones zeros table word eo ez terms is =
+    → models_under book1 pool1 ones word ≡ target_exprs book pool nets legal width one word → models_under book2 pool2 zeros word ≡ target_exprs book1 pool1 nets legal width zero word → (exprs : List ExprModel)
+    → exprs ≡ (if has_word book2 legal word then selects (models_under book2 pool2 (routes_at nets sel) word) (models_under book2 pool2 ones word) (models_under book2 pool2 zeros word) else [])
+    → exprs ≡ (if has_word book legal word then selects (models_under book pool (routes_at nets sel) word) (target_exprs book pool nets legal width one word) (target_exprs book pool nets legal width zero word) else [])
+selects_then book book1 book2 pool pool1 pool2 e f g h nets t legal legal_in width sel one zero ones zeros table word eo ez exprs is =
     is ∙ same
     (same_words book book2 (extends_trans book book1 book2 e f) legal legal_in word)
     (both_later book book2 pool pool2 (extends_trans book book1 book2 e f) (grows_trans pool pool1 pool2 g h) (routes_at nets sel) (t.tables sel) word)
@@ -38,13 +38,13 @@ selects_then book book1 book2 pool pool1 pool2 e f g h nets t legal legal_in wid
 
 module _ (book : Diagrams) (pool : List Node) (nets : List (List Route)) (legal : ℕ) (sets : List ℕ) (width sel : ℕ) (rows : List (ℕ × ℕ)) (rest : Option ℕ) (word : ℕ) where
   -- a case whose selector has one bit and no sets
-  pub bit_case : (0 < length sets → ⊥) → (terms : List ExprModel)
-      → terms ≡ (if has_word book legal word
+  pub bit_case : (0 < length sets → ⊥) → (exprs : List ExprModel)
+      → exprs ≡ (if has_word book legal word
       then selects (models_under book pool (routes_at nets sel) word) (target_exprs book pool nets legal width (target rows 1 rest) word) (target_exprs book pool nets legal width (target rows 0 rest) word) else [])
       → (t : ℕ → ExprModel) (u : ℕ → ℕ) (f : ℕ → Bool) → AllGive book pool nets legal t word (sel ∷ row_nets rows rest) → IsSelectedAt book sets word u f sel
-      → terms ≡ only book legal word (if f sel then case_expr t width (u sel) rows rest else select (t sel) (case_expr t width 1 rows rest) (case_expr t width 0 rows rest))
-  bit_case none terms is t u f given selected =
-      selects_given (has_word book legal word) (t sel) (case_expr t width 1 rows rest) (case_expr t width 0 rows rest) _ _ _ terms given.0
+      → exprs ≡ only book legal word (if f sel then case_expr t width (u sel) rows rest else select (t sel) (case_expr t width 1 rows rest) (case_expr t width 0 rows rest))
+  bit_case none exprs is t u f given selected =
+      selects_given (has_word book legal word) (t sel) (case_expr t width 1 rows rest) (case_expr t width 0 rows rest) _ _ _ exprs given.0
       (target_given book pool nets legal t word width 1 rows rest given.1) (target_given book pool nets legal t word width 0 rows rest given.1) is
       ∙ ap (λ b. only book legal word (if b then case_expr t width (u sel) rows rest else select (t sel) (case_expr t width 1 rows rest) (case_expr t width 0 rows rest))) (sym free)
     where
@@ -52,14 +52,14 @@ module _ (book : Diagrams) (pool : List Node) (nets : List (List Route)) (legal 
       free = elim selected as (λ _. f sel ≡ false) [ inl h ↦ absurd (none h.0) | inr h ↦ h.1 ]
 
   -- a case whose selector has sets, by the tests of its rows
-  pub tests_case : (book1 : Diagrams) → Extends book book1 → AreTables book pool nets → legal < length book.nodes → (tests : List (ℕ × ℕ)) → RowTests book1 word (number_at book sets word) tests rows → 0 < length sets → (terms : List ExprModel)
-      → terms ≡ (if has_word book1 legal word then (if passes book1 word tests then first_exprs book1 pool nets word tests else rest_exprs book1 pool nets width rest word) else [])
+  pub tests_case : (book1 : Diagrams) → Extends book book1 → AreTables book pool nets → legal < length book.nodes → (tests : List (ℕ × ℕ)) → RowTests book1 word (number_at book sets word) tests rows → 0 < length sets → (exprs : List ExprModel)
+      → exprs ≡ (if has_word book1 legal word then (if passes book1 word tests then first_exprs book1 pool nets word tests else rest_exprs book1 pool nets width rest word) else [])
       → (t : ℕ → ExprModel) (u : ℕ → ℕ) (f : ℕ → Bool) → AllGive book pool nets legal t word (sel ∷ row_nets rows rest) → IsSelectedAt book sets word u f sel
-      → terms ≡ only book legal word (if f sel then case_expr t width (u sel) rows rest else select (t sel) (case_expr t width 1 rows rest) (case_expr t width 0 rows rest))
-  tests_case book1 e tables legal_in tests tested some terms is t u f given selected =
+      → exprs ≡ only book legal word (if f sel then case_expr t width (u sel) rows rest else select (t sel) (case_expr t width 1 rows rest) (case_expr t width 0 rows rest))
+  tests_case book1 e tables legal_in tests tested some exprs is t u f given selected =
       given_case book1 pool nets legal t word width (u sel) tests rows rest (select (t sel) (case_expr t width 1 rows rest) (case_expr t width 0 rows rest)) (f sel) static.0
       (subst (λ k. RowTests book1 word k tests rows) static.1 tested)
-      (given_later book book1 pool pool e (grows_refl pool) nets tables legal legal_in word t (row_nets rows rest) given.1) terms is
+      (given_later book book1 pool pool e (grows_refl pool) nets tables legal legal_in word t (row_nets rows rest) given.1) exprs is
       ∙ ap (λ b. if b then (if f sel then case_expr t width (u sel) rows rest else select (t sel) (case_expr t width 1 rows rest) (case_expr t width 0 rows rest)) ∷ [] else []) (same_words book book1 e legal legal_in word)
     where
       static : (f sel ≡ true) × (number_at book sets word ≡ u sel)

@@ -115,13 +115,13 @@ left_apart t now true true whole outs i e h = no_exprs t now e
 left_apart t now false true whole outs i e h = absurd (true≢false (sym (i refl)))
 left_apart t now s false whole outs i e h = absurd (true≢false (sym h))
 
-pub left_none : (s l : Bool) (whole outs terms : List ExprModel) → l ≡ false → terms ≡ left_exprs s l whole outs → terms ≡ (if s then whole else outs)
-left_none s l whole outs terms h e = e ∙ ap (λ b. left_exprs s b whole outs) h
+pub left_none : (s l : Bool) (whole outs exprs : List ExprModel) → l ≡ false → exprs ≡ left_exprs s l whole outs → exprs ≡ (if s then whole else outs)
+left_none s l whole outs exprs h e = e ∙ ap (λ b. left_exprs s b whole outs) h
 
-pub left_part : (s l : Bool) (whole outs terms : List ExprModel) → terms ≡ left_exprs s l whole outs → (terms ≡ []) ⊎ (terms ≡ (if s then whole else outs))
-left_part true true whole outs terms e = inl e
-left_part true false whole outs terms e = inr e
-left_part false l whole outs terms e = inr e
+pub left_part : (s l : Bool) (whole outs exprs : List ExprModel) → exprs ≡ left_exprs s l whole outs → (exprs ≡ []) ⊎ (exprs ≡ (if s then whole else outs))
+left_part true true whole outs exprs e = inl e
+left_part true false whole outs exprs e = inr e
+left_part false l whole outs exprs e = inr e
 
 module _ (f : List ExprModel → List ExprModel) (book : Diagrams) (pool : List Node) (routes : List Route) (word : ℕ) where
   -- a route was added
@@ -142,16 +142,16 @@ module _ (f : List ExprModel → List ExprModel) (book : Diagrams) (pool : List 
       by false false r i eo ea = eo
 
   -- the words that no route holds went
-  pub left_free : f [] ≡ [] → (s l l' : Bool) (outs terms : List ExprModel) → l' ≡ (l && not (is_free (exprs_under book routes word)))
-      → terms ≡ left_exprs s l (f (models_under book pool routes word)) outs → terms ≡ left_exprs s l' (f (models_under book pool routes word)) outs
-  left_free none s l l' outs terms el e = by s l (exprs_under book routes word) e ∙ ap (λ b. left_exprs s b (f (models_under book pool routes word)) outs) (sym el)
+  pub left_free : f [] ≡ [] → (s l l' : Bool) (outs exprs : List ExprModel) → l' ≡ (l && not (is_free (exprs_under book routes word)))
+      → exprs ≡ left_exprs s l (f (models_under book pool routes word)) outs → exprs ≡ left_exprs s l' (f (models_under book pool routes word)) outs
+  left_free none s l l' outs exprs el e = by s l (exprs_under book routes word) e ∙ ap (λ b. left_exprs s b (f (models_under book pool routes word)) outs) (sym el)
     where
-      by : (s l : Bool) (xs : List ℕ) → terms ≡ left_exprs s l (f (map (expr_of_id pool) xs)) outs → terms ≡ left_exprs s (l && not (is_free xs)) (f (map (expr_of_id pool) xs)) outs
+      by : (s l : Bool) (xs : List ℕ) → exprs ≡ left_exprs s l (f (map (expr_of_id pool) xs)) outs → exprs ≡ left_exprs s (l && not (is_free xs)) (f (map (expr_of_id pool) xs)) outs
       by true true [] e = e ∙ sym none
       by true true (x ∷ xs) e = e
       by true false xs e = e
       by false l xs e = e
 
 -- what is added for a part of a set, said by the books before
-pub same_choice : (b c : Bool) (whole whole' outs outs' terms : List ExprModel) → b ≡ c → whole ≡ whole' → outs ≡ outs' → terms ≡ (if b then whole else outs) → terms ≡ (if c then whole' else outs')
-same_choice b c whole whole' outs outs' terms eb ew eo e = e ∙ (λ j. if eb j then ew j else eo j)
+pub same_choice : (b c : Bool) (whole whole' outs outs' exprs : List ExprModel) → b ≡ c → whole ≡ whole' → outs ≡ outs' → exprs ≡ (if b then whole else outs) → exprs ≡ (if c then whole' else outs')
+same_choice b c whole whole' outs outs' exprs eb ew eo e = e ∙ (λ j. if eb j then ew j else eo j)

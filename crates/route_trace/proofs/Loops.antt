@@ -6,7 +6,7 @@ use Rattle.bit_bdd.proofs.CallerLemmas.{same_words}
 use Rattle.net_model.specs.Exprs.{ExprModel, bin, cat, select, expr_width}
 use Rattle.sym_expr.specs.declared.pool.Node.{Node}
 use Rattle.sym_expr.specs.Pools.{AllBelow, Grows, expr_of_id}
-use Rattle.sym_expr.proofs.CallerLemmas.{grows_refl, same_term}
+use Rattle.sym_expr.proofs.CallerLemmas.{grows_refl, same_expr}
 use Rattle.transfer_set.specs.declared.route.Route.{Route}
 use Rattle.route_trace.specs.declared.heads.Head.{Head}
 use Rattle.route_trace.specs.declared.heads.Binary.{Binary}
@@ -71,14 +71,14 @@ binary_below n (Select c) a h p = (p.0, (h, tt))
 
 -- under a pool that grew
 pub binary-same : (old new : List Node) → Grows old new → (binary : Binary) → AllBelow (length old) (binary_parts binary) → (a : ℕ) → a < length old → (b : ExprModel) → head_expr (binary_head binary a) (expr_of_id new) b ≡ binary_expr binary (expr_of_id old) (expr_of_id old a) b
-binary-same old new g (Bin o) p a h b = let e = same_term old new g a h in (λ j. bin o (e j) b)
-binary-same old new g Cat p a h b = let e = same_term old new g a h in (λ j. cat (e j) b)
-binary-same old new g (Select c) p a h b = let d = same_term old new g c p.0 in let e = same_term old new g a h in (λ j. select (d j) (e j) b)
+binary-same old new g (Bin o) p a h b = let e = same_expr old new g a h in (λ j. bin o (e j) b)
+binary-same old new g Cat p a h b = let e = same_expr old new g a h in (λ j. cat (e j) b)
+binary-same old new g (Select c) p a h b = let d = same_expr old new g c p.0 in let e = same_expr old new g a h in (λ j. select (d j) (e j) b)
 
 pub all_fit_later : (old new : List Node) → Grows old new → (head : Head) → AllBelow (length old) (head_parts head) → (routes : List Route) → AllExprs (length old) routes → AllFit head old routes → AllFit head new routes
 all_fit_later old new g head p [] e f = tt
 all_fit_later old new g head p (r ∷ routes) e f =
-    (fits-later old new g head p _ _ (sym (ap expr_width (same_term old new g r.expr e.0))) f.0, all_fit_later old new g head p routes e.1 f.1)
+    (fits-later old new g head p _ _ (sym (ap expr_width (same_expr old new g r.expr e.0))) f.0, all_fit_later old new g head p routes e.1 f.1)
 
 pub binary_fit_at : (binary : Binary) (pool : List Node) (xs bs : List Route) (i : ℕ) (a : Route) → slice_get xs i ≡ Some a → AllBinaryFit binary pool xs bs → AllFit (binary_head binary a.expr) pool bs
 binary_fit_at binary pool [] bs i a at f = absurd (cc)

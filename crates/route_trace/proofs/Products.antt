@@ -6,7 +6,7 @@ use Rattle.net_model.specs.Exprs.{ExprModel, read, un, bin, cat, zext, sext, sel
 use Rattle.net_model.specs.Symbolic.{sliced}
 use Rattle.sym_expr.specs.declared.pool.Node.{Node}
 use Rattle.sym_expr.specs.Pools.{AllBelow, Grows, expr_of_id}
-use Rattle.sym_expr.proofs.CallerLemmas.{same_term}
+use Rattle.sym_expr.proofs.CallerLemmas.{same_expr}
 use Rattle.rec_bits.proofs.Lists.{around}
 use Rattle.transfer_set.specs.declared.route.Route.{Route}
 use Rattle.route_trace.specs.declared.heads.Head.{Head}
@@ -23,16 +23,16 @@ pub exprs_later : (m n : ℕ) → m ≤ n → (routes : List Route) → AllExprs
 exprs_later m n h [] e = tt
 exprs_later m n h (route ∷ routes) e = (omega (arith, h, e.0), exprs_later m n h routes e.1)
 
-pub terms_later : (book : Diagrams) (old new : List Node) → Grows old new → (routes : List Route) → AllExprs (length old) routes → (word : ℕ) → models_under book new routes word ≡ models_under book old routes word
-terms_later book old new g [] h word = refl
-terms_later book old new g (route ∷ routes) h word =
+pub models_later : (book : Diagrams) (old new : List Node) → Grows old new → (routes : List Route) → AllExprs (length old) routes → (word : ℕ) → models_under book new routes word ≡ models_under book old routes word
+models_later book old new g [] h word = refl
+models_later book old new g (route ∷ routes) h word =
     map-append (expr_of_id new) (row book route word) (exprs_under book routes word)
-    ∙ by (has_word book route.set word) (terms_later book old new g routes h.1 word)
+    ∙ by (has_word book route.set word) (models_later book old new g routes h.1 word)
     ∙ sym (map-append (expr_of_id old) (row book route word) (exprs_under book routes word))
   where
     by : (b : Bool) → map (expr_of_id new) (exprs_under book routes word) ≡ map (expr_of_id old) (exprs_under book routes word)
         → map (expr_of_id new) (if b then route.expr ∷ [] else []) ++ map (expr_of_id new) (exprs_under book routes word) ≡ map (expr_of_id old) (if b then route.expr ∷ [] else []) ++ map (expr_of_id old) (exprs_under book routes word)
-    by true rest = let e = same_term old new g route.expr h.0 in (λ j. e j ∷ rest j)
+    by true rest = let e = same_expr old new g route.expr h.0 in (λ j. e j ∷ rest j)
     by false rest = rest
 
 pub table_later : (book book' : Diagrams) (pool pool' : List Node) → Extends book book' → Grows pool pool' → (routes : List Route) → IsRouteTable book pool routes → IsRouteTable book' pool' routes
@@ -43,7 +43,7 @@ table_later book book' pool pool' e g routes t = record {
 
 pub both_later : (book book' : Diagrams) (pool pool' : List Node) → Extends book book' → Grows pool pool' → (routes : List Route) → IsRouteTable book pool routes → (word : ℕ) → models_under book' pool' routes word ≡ models_under book pool routes word
 both_later book book' pool pool' e g routes t word =
-    ap (map (expr_of_id pool')) (held_later book book' e routes t.right.sets word) ∙ terms_later book pool pool' g routes t.exprs word
+    ap (map (expr_of_id pool')) (held_later book book' e routes t.right.sets word) ∙ models_later book pool pool' g routes t.exprs word
 
 module _ (old new : List Node) (g : Grows old new) where
   pub head-same : (head : Head) → AllBelow (length old) (head_parts head) → (s t : ExprModel) → s ≡ t → head_expr head (expr_of_id new) s ≡ head_expr head (expr_of_id old) t
@@ -53,9 +53,9 @@ module _ (old new : List Node) (g : Grows old new) where
   head-same (Slice i l) h s t e = (λ j. sliced (e j) i l)
   head-same (Zext w) h s t e = (λ j. zext (e j) w)
   head-same (Sext w) h s t e = (λ j. sext (e j) w)
-  head-same (Bin o a) h s t e = let f = same_term old new g a h.0 in (λ j. bin o (f j) (e j))
-  head-same (Cat a) h s t e = let f = same_term old new g a h.0 in (λ j. cat (f j) (e j))
-  head-same (Select c a) h s t e = let d = same_term old new g c h.0 in let f = same_term old new g a h.1.0 in (λ j. select (d j) (f j) (e j))
+  head-same (Bin o a) h s t e = let f = same_expr old new g a h.0 in (λ j. bin o (f j) (e j))
+  head-same (Cat a) h s t e = let f = same_expr old new g a h.0 in (λ j. cat (f j) (e j))
+  head-same (Select c a) h s t e = let d = same_expr old new g c h.0 in let f = same_expr old new g a h.1.0 in (λ j. select (d j) (f j) (e j))
 
   pub fits-later : (head : Head) → AllBelow (length old) (head_parts head) → (v w : ℕ) → v ≡ w → LastFits head (expr_of_id old) v → LastFits head (expr_of_id new) w
   fits-later Same h v w e f = tt
@@ -64,9 +64,9 @@ module _ (old new : List Node) (g : Grows old new) where
   fits-later (Slice i l) h v w e f = (f.0, omega (arith, f.1, e))
   fits-later (Zext i) h v w e f = (omega (arith, f.0, e), f.1)
   fits-later (Sext i) h v w e f = (omega (arith, f.0, e), f.1)
-  fits-later (Bin o a) h v w e f = sym e ∙ f ∙ sym (ap expr_width (same_term old new g a h.0))
-  fits-later (Cat a) h v w e f = (let q = ap expr_width (same_term old new g a h.0) in omega (arith, q, f, e))
-  fits-later (Select c a) h v w e f = (ap expr_width (same_term old new g c h.0) ∙ f.0, sym e ∙ f.1 ∙ sym (ap expr_width (same_term old new g a h.1.0)))
+  fits-later (Bin o a) h v w e f = sym e ∙ f ∙ sym (ap expr_width (same_expr old new g a h.0))
+  fits-later (Cat a) h v w e f = (let q = ap expr_width (same_expr old new g a h.0) in omega (arith, q, f, e))
+  fits-later (Select c a) h v w e f = (ap expr_width (same_expr old new g c h.0) ∙ f.0, sym e ∙ f.1 ∙ sym (ap expr_width (same_expr old new g a h.1.0)))
 
   pub below_later : (is : List ℕ) → AllBelow (length old) is → AllBelow (length new) is
   below_later [] h = tt
@@ -75,12 +75,12 @@ module _ (old new : List Node) (g : Grows old new) where
 -- ---- one route
 
 -- a route was added
-pub added_exprs : (book book1 book2 : Diagrams) (pool pool1 : List Node) → Extends book book1 → Grows pool pool1 → (out out2 : List Route) → IsRouteTable book pool out → (expr : ℕ) (term : ExprModel) → expr_of_id pool1 expr ≡ term
+pub added_exprs : (book book1 book2 : Diagrams) (pool pool1 : List Node) → Extends book book1 → Grows pool pool1 → (out out2 : List Route) → IsRouteTable book pool out → (expr : ℕ) (model : ExprModel) → expr_of_id pool1 expr ≡ model
     → (word : ℕ) (b c : Bool) → c ≡ b → exprs_under book2 out2 word ≡ (if c then expr ∷ [] else exprs_under book1 out word)
-    → models_under book2 pool1 out2 word ≡ (if b then term ∷ [] else models_under book pool out word)
-added_exprs book book1 book2 pool pool1 e g out out2 t expr term is word true c eb h =
+    → models_under book2 pool1 out2 word ≡ (if b then model ∷ [] else models_under book pool out word)
+added_exprs book book1 book2 pool pool1 e g out out2 t expr model is word true c eb h =
     ap (map (expr_of_id pool1)) (h ∙ ap (λ d. if d then expr ∷ [] else exprs_under book1 out word) eb) ∙ (λ j. is j ∷ [])
-added_exprs book book1 book2 pool pool1 e g out out2 t expr term is word false c eb h =
+added_exprs book book1 book2 pool pool1 e g out out2 t expr model is word false c eb h =
     ap (map (expr_of_id pool1)) (h ∙ ap (λ d. if d then expr ∷ [] else exprs_under book1 out word) eb) ∙ both_later book book1 pool pool1 e g out t word
 
 -- ---- all routes

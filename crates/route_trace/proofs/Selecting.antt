@@ -8,7 +8,7 @@ use Rattle.net_model.specs.Symbolic.{case_expr}
 use Rattle.net_model.specs.Nets.{row_nets}
 use Rattle.sym_expr.specs.declared.pool.Node.{Node}
 use Rattle.sym_expr.specs.Pools.{Grows}
-use Rattle.sym_expr.proofs.CallerLemmas.{same_term}
+use Rattle.sym_expr.proofs.CallerLemmas.{same_expr}
 use Rattle.ctl_bdd.specs.Bits.{number_at}
 use Rattle.transfer_set.specs.declared.route.Route.{Route}
 use Rattle.transfer_set.specs.Routes.{routes_at, only, AllExprs}
@@ -22,7 +22,7 @@ use Rattle.route_trace.proofs.Given.{binary_fit_wide}
 
 pub wide_later : (old new : List Node) → Grows old new → (width : ℕ) (routes : List Route) → AllExprs (length old) routes → AllWide old width routes → AllWide new width routes
 wide_later old new g width [] e w = tt
-wide_later old new g width (r ∷ routes) e w = (ap expr_width (same_term old new g r.expr e.0) ∙ w.0, wide_later old new g width routes e.1 w.1)
+wide_later old new g width (r ∷ routes) e w = (ap expr_width (same_expr old new g r.expr e.0) ∙ w.0, wide_later old new g width routes e.1 w.1)
 
 pub target_wide : (pool : List Node) (nets : List (List Route)) (width key : ℕ) (rows : List (ℕ × ℕ)) (rest : Option ℕ) → AreRowsWide pool nets width rows rest → IsTargetWide pool nets width (target rows key rest)
 target_wide pool nets width key [] rest w = w

@@ -15,7 +15,7 @@ use Rattle.route_trace.specs.declared.stop.TraceStop.TheVariants.{Many, Memory}
 
 -- what is right for a part is nothing or right for the whole
 abbrev Becomes : Diagrams → (P Q : ℕ → List ExprModel → Type 0) → Type 0
-Becomes book P Q = (word : ℕ) → word < 2 ^ book.bits → (terms : List ExprModel) → P word terms → (terms ≡ []) ⊎ Q word terms
+Becomes book P Q = (word : ℕ) → word < 2 ^ book.bits → (exprs : List ExprModel) → P word exprs → (exprs ≡ []) ⊎ Q word exprs
 
 pub many_in : (stop : TraceStop) (book : Diagrams) (pool : List Node) (P Q : ℕ → List ExprModel → Type 0) → Becomes book P Q → IfMany stop (IsOver book pool P) → IfMany stop (IsOver book pool Q)
 many_in Memory book pool P Q f o = tt
@@ -51,11 +51,11 @@ held_taken book (route ∷ routes) (suc k) word one = by (has_word book route.se
         inr (ap (λ l. route.expr ∷ l) (elim (rest (omega (arith, one))) as (λ _. exprs_under book (take k routes) word ≡ exprs_under book routes word) [ inl e ↦ e ∙ sym empty | inr e ↦ e ]))
 
 -- what is added for the first of some routes
-pub part_taken : (f : List ExprModel → List ExprModel) → f [] ≡ [] → (book : Diagrams) (pool : List Node) (routes : List Route) (k word : ℕ) → length (exprs_under book routes word) ≤ 1 → (b : Bool) (outs terms : List ExprModel)
-    → terms ≡ (if b then f (models_under book pool (take k routes) word) else outs) → (terms ≡ []) ⊎ (terms ≡ (if b then f (models_under book pool routes word) else outs))
-part_taken f none book pool routes k word one false outs terms e = inr e
-part_taken f none book pool routes k word one true outs terms e =
-    elim (held_taken book routes k word one) as (λ _. (terms ≡ []) ⊎ (terms ≡ f (models_under book pool routes word))) [
+pub part_taken : (f : List ExprModel → List ExprModel) → f [] ≡ [] → (book : Diagrams) (pool : List Node) (routes : List Route) (k word : ℕ) → length (exprs_under book routes word) ≤ 1 → (b : Bool) (outs exprs : List ExprModel)
+    → exprs ≡ (if b then f (models_under book pool (take k routes) word) else outs) → (exprs ≡ []) ⊎ (exprs ≡ (if b then f (models_under book pool routes word) else outs))
+part_taken f none book pool routes k word one false outs exprs e = inr e
+part_taken f none book pool routes k word one true outs exprs e =
+    elim (held_taken book routes k word one) as (λ _. (exprs ≡ []) ⊎ (exprs ≡ f (models_under book pool routes word))) [
       | inl n ↦ inl (e ∙ ap (λ l. f (map (expr_of_id pool) l)) n ∙ none)
       | inr a ↦ inr (e ∙ ap (λ l. f (map (expr_of_id pool) l)) a)
     ]
@@ -76,21 +76,21 @@ first_taken book pool nets word (test ∷ tests) (suc k) = by (has_word book tes
     by false rest = rest
 
 -- what is added for the first of some tests
-pub part_tested : (book : Diagrams) (pool : List Node) (nets : List (List Route)) (word : ℕ) (tests : List (ℕ × ℕ)) (k : ℕ) (b : Bool) (outs terms : List ExprModel)
-    → terms ≡ (if b then first_exprs book pool nets word (take k tests) else outs) → (terms ≡ []) ⊎ (terms ≡ (if b then first_exprs book pool nets word tests else outs))
-part_tested book pool nets word tests k false outs terms e = inr e
-part_tested book pool nets word tests k true outs terms e =
-    elim (first_taken book pool nets word tests k) as (λ _. (terms ≡ []) ⊎ (terms ≡ first_exprs book pool nets word tests)) [
+pub part_tested : (book : Diagrams) (pool : List Node) (nets : List (List Route)) (word : ℕ) (tests : List (ℕ × ℕ)) (k : ℕ) (b : Bool) (outs exprs : List ExprModel)
+    → exprs ≡ (if b then first_exprs book pool nets word (take k tests) else outs) → (exprs ≡ []) ⊎ (exprs ≡ (if b then first_exprs book pool nets word tests else outs))
+part_tested book pool nets word tests k false outs exprs e = inr e
+part_tested book pool nets word tests k true outs exprs e =
+    elim (first_taken book pool nets word tests k) as (λ _. (exprs ≡ []) ⊎ (exprs ≡ first_exprs book pool nets word tests)) [
       | inl n ↦ inl (e ∙ n)
       | inr a ↦ inr (e ∙ a)
     ]
 
 -- what was added by the tests alone, before the rest
-pub part_of_tests : (book : Diagrams) (pool : List Node) (nets : List (List Route)) (word : ℕ) (tests : List (ℕ × ℕ)) (b : Bool) (rest terms : List ExprModel) → terms ≡ (if b then first_exprs book pool nets word tests else [])
-    → (terms ≡ []) ⊎ (terms ≡ (if b then (if passes book word tests then first_exprs book pool nets word tests else rest) else []))
-part_of_tests book pool nets word tests false rest terms e = inl e
-part_of_tests book pool nets word tests true rest terms e = by (passes book word tests) refl
+pub part_of_tests : (book : Diagrams) (pool : List Node) (nets : List (List Route)) (word : ℕ) (tests : List (ℕ × ℕ)) (b : Bool) (rest exprs : List ExprModel) → exprs ≡ (if b then first_exprs book pool nets word tests else [])
+    → (exprs ≡ []) ⊎ (exprs ≡ (if b then (if passes book word tests then first_exprs book pool nets word tests else rest) else []))
+part_of_tests book pool nets word tests false rest exprs e = inl e
+part_of_tests book pool nets word tests true rest exprs e = by (passes book word tests) refl
   where
-    by : (p : Bool) → passes book word tests ≡ p → (terms ≡ []) ⊎ (terms ≡ (if p then first_exprs book pool nets word tests else rest))
+    by : (p : Bool) → passes book word tests ≡ p → (exprs ≡ []) ⊎ (exprs ≡ (if p then first_exprs book pool nets word tests else rest))
     by true q = inr e
     by false q = inl (e ∙ none_taken book pool nets word tests q)

@@ -129,18 +129,18 @@ module _ (netlist : Netlist) (order : List ℕ) (o : IsOrder netlist order) (i :
     widths_later w = record { widths = λ m. wide_later pool pool' g (width_at netlist m) (routes_at nets m) (tables.tables m).exprs (w.widths m) }
 
     -- what the gate gives is the net's symbolic value
-    at_sym : (net : Net) → slice_get netlist.nets (slice_index order i) ≡ Some net → (word : ℕ) (terms : List ExprModel)
-        → terms ≡ only book legal word (gate_expr (sym_of netlist word) (value_of netlist no_state word) (is_static netlist) netlist net.width net.gate) → terms ≡ only book' legal word (sym_of netlist word (slice_index order i))
-    at_sym net at word terms is =
+    at_sym : (net : Net) → slice_get netlist.nets (slice_index order i) ≡ Some net → (word : ℕ) (exprs : List ExprModel)
+        → exprs ≡ only book legal word (gate_expr (sym_of netlist word) (value_of netlist no_state word) (is_static netlist) netlist net.width net.gate) → exprs ≡ only book' legal word (sym_of netlist word (slice_index order i))
+    at_sym net at word exprs is =
         let s = sym_is netlist word order o (slice_index order i) (o.nets i within) ∙ ap (net_expr (sym_of netlist word) (value_of netlist no_state word) (is_static netlist) netlist) at in
         let w = same_words book book' e legal legal_in word in
         is ∙ (λ j. if sym w j then sym s j ∷ [] else [])
 
     -- the routes that were given up are right so far
     pub over_sym : (net : Net) → slice_get netlist.nets (slice_index order i) ≡ Some net → all_nets (kept_at verdicts) (gate_nets net.gate) ≡ true
-        → IsOver book' pool' (λ word terms. (t : ℕ → ExprModel) → AllGive book pool nets legal t word (gate_nets net.gate) → terms ≡ only book legal word (gate_expr t (value_of netlist no_state word) (is_static netlist) netlist net.width net.gate))
-        → IsOver book' pool' (λ word terms. terms ≡ only book' legal word (sym_of netlist word (slice_index order i)))
-    over_sym net at kept over = many_in Many book' pool' _ _ (λ word fits terms h. inr (at_sym net at word terms (h (sym_of netlist word) (all_given net at kept word (low word fits))))) over
+        → IsOver book' pool' (λ word exprs. (t : ℕ → ExprModel) → AllGive book pool nets legal t word (gate_nets net.gate) → exprs ≡ only book legal word (gate_expr t (value_of netlist no_state word) (is_static netlist) netlist net.width net.gate))
+        → IsOver book' pool' (λ word exprs. exprs ≡ only book' legal word (sym_of netlist word (slice_index order i)))
+    over_sym net at kept over = many_in Many book' pool' _ _ (λ word fits exprs h. inr (at_sym net at word exprs (h (sym_of netlist word) (all_given net at kept word (low word fits))))) over
 
     module _ (out : List Route) (table : IsRouteTable book' pool' out)
         (net : Net) (at : slice_get netlist.nets (slice_index order i) ≡ Some net)

@@ -26,7 +26,7 @@ pub record HasOne (book : Diagrams) (pool : List Node) (netlist : Netlist) (n wo
     (routes : List Route) : Type 0 where
   pub expr : ℕ
   pub only : exprs_under book routes word ≡ expr ∷ []
-  pub term : expr_of_id pool expr ≡ sym_of netlist word n
+  pub is : expr_of_id pool expr ≡ sym_of netlist word n
 
 -- each word of `legal` is in one route's set alone, and each set holds a word
 abbrev pub AreWhole : Type 0

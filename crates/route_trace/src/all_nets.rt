@@ -12,8 +12,8 @@ ghost use Rattle.route_trace.specs.Inner.Verdicts.{IsFound, kept_at, verdict_at}
 
 use crate::RouteFault;
 use crate::stop::TraceStop;
+use crate::tracer::Tracer;
 use crate::verdict::{Verdict, all_kept, first_refusal, give_up, judge, new_verdicts};
-use crate::whole::net_routes;
 use bit_bdd::Book;
 use ctl_bdd::ControlBits;
 use net_model::Checked;
@@ -66,7 +66,12 @@ fn collect(
         let net = &nets[at];
         let named = net.gate.named(alloc)?;
         if all_kept(verdicts.as_slice(), named.as_slice()) {
-            match net_routes(alloc, netlist, controls, book, pool, routes.as_slice(), net) {
+            let tracer = Tracer {
+                netlist,
+                controls,
+                nets: routes.as_slice(),
+            };
+            match tracer.net_routes(alloc, book, pool, net) {
                 Ok(out) => {
                     let verdict = judge(pool, out.as_slice());
                     verdicts.set(at, verdict);

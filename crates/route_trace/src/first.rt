@@ -5,26 +5,17 @@ ghost use Rattle.bit_bdd.specs.Diagrams.{Extends, has_word};
 ghost use Rattle.sym_expr.specs.Pools.{Grows};
 ghost use Rattle.route_trace.specs.Inner.Routing.{AllTests, AreTables, first_exprs, passes};
 ghost use Rattle.route_trace.specs.Inner.Stops.{IfMany, IsOver};
-ghost use Rattle.transfer_set.specs.Routes.{IsRouteTable, exprs_under, models_under, routes_at};
+ghost use Rattle.transfer_set.specs.Routes.{IsRouteTable, exprs_under, models_under};
 
 use crate::heads::Head;
-use crate::product::add_all;
+use crate::product::{Operation, add_all};
 use crate::stop::TraceStop;
+use crate::tracer::Tracer;
 use bit_bdd::{Book, SetId};
 use rec_bits::{Items, NoMemory};
 use std::alloc::Global;
 use sym_expr::Pool;
 use transfer_set::Route;
-
-// The routes of a net.
-pub(crate) fn routes_of(nets: &[Items<Route>], net: u32) -> &[Route]
-    ensures { result.now ≡ routes_at nets.now net }
-{
-    match nets.get(net as usize) {
-        Some(routes) => routes.as_slice(),
-        None => &[],
-    }
-}
 
 // The words of a set that are not in another.
 pub(crate) fn without(
@@ -44,44 +35,53 @@ pub(crate) fn without(
     book.and(alloc, set, outside)
 }
 
-// Adds the words of a set, each with the routes of the first net whose test holds it, and gives the
-// words that no test holds.
-pub(crate) fn add_first(
-    alloc: Global,
-    book: &mut Book,
-    pool: &mut Pool,
-    out: &mut Items<Route>,
-    set: SetId,
-    tests: &[(SetId, u32)],
-    nets: &[Items<Route>],
-) -> Result<SetId, TraceStop>
-    requires set { set < length book.old.nodes }
-    requires tests { AllTests book.old tests.now }
-    requires nets { AreTables book.old pool.old nets.now }
-    requires table { IsRouteTable book.old pool.old out.old }
-    requires apart { (word : ℕ) → word < 2 ^ book.old.bits → has_word book.old set word ≡ true →
-        exprs_under book.old out.old word ≡ [] }
-    ensures book { Extends book.old book.new }
-    ensures pool { Grows pool.old pool.new }
-    ensures table { OnOk result (IsRouteTable book.new pool.new out.new) }
-    ensures terms { OnOk result ((word : ℕ) → word < 2 ^ book.old.bits →
-        models_under book.new pool.new out.new word
-        ≡ (if has_word book.old set word then first_exprs book.old pool.old nets.now word tests.now
-        else models_under book.old pool.old out.old word)) }
-    ensures left_within { IfOk result (λ left. left < length book.new.nodes) }
-    ensures left { IfOk result (λ left. (word : ℕ) → word < 2 ^ book.old.bits →
-        has_word book.new left word ≡ (has_word book.old set word && not (passes book.old word tests.now))) }
-    ensures many { IfErr result (λ stop. IfMany stop (IsOver book.new pool.new
-        (λ word terms. terms ≡ (if has_word book.old set word
-        then first_exprs book.old pool.old nets.now word tests.now
-        else models_under book.old pool.old out.old word)))) }
-{
-    let mut left = set;
-    for test in tests {
-        let here = book.and(alloc, left, test.0)?;
-        let routes = routes_of(nets, test.1);
-        add_all(alloc, book, pool, out, Head::Same, here, routes, 0)?;
-        left = without(alloc, book, left, test.0)?;
+impl Tracer<'_> {
+    // Adds the words without clash, each with the routes of the first net whose test holds it, and
+    // gives the words that no test holds.
+    pub(crate) fn add_first(
+        &self,
+        alloc: Global,
+        book: &mut Book,
+        pool: &mut Pool,
+        out: &mut Items<Route>,
+        tests: &[(SetId, u32)],
+    ) -> Result<SetId, TraceStop>
+        requires legal { self.now.controls.now.legal < length book.old.nodes }
+        requires tests { AllTests book.old tests.now }
+        requires nets { AreTables book.old pool.old self.now.nets.now }
+        requires table { IsRouteTable book.old pool.old out.old }
+        requires apart { (word : ℕ) → word < 2 ^ book.old.bits →
+            has_word book.old self.now.controls.now.legal word ≡ true →
+            exprs_under book.old out.old word ≡ [] }
+        ensures book { Extends book.old book.new }
+        ensures pool { Grows pool.old pool.new }
+        ensures table { OnOk result (IsRouteTable book.new pool.new out.new) }
+        ensures exprs { OnOk result ((word : ℕ) → word < 2 ^ book.old.bits →
+            models_under book.new pool.new out.new word
+            ≡ (if has_word book.old self.now.controls.now.legal word
+            then first_exprs book.old pool.old self.now.nets.now word tests.now
+            else models_under book.old pool.old out.old word)) }
+        ensures left_within { IfOk result (λ left. left < length book.new.nodes) }
+        ensures left { IfOk result (λ left. (word : ℕ) → word < 2 ^ book.old.bits →
+            has_word book.new left word
+            ≡ (has_word book.old self.now.controls.now.legal word && not (passes book.old word tests.now))) }
+        ensures many { IfErr result (λ stop. IfMany stop (IsOver book.new pool.new
+            (λ word exprs. exprs ≡ (if has_word book.old self.now.controls.now.legal word
+            then first_exprs book.old pool.old self.now.nets.now word tests.now
+            else models_under book.old pool.old out.old word)))) }
+    {
+        let mut left = self.controls.legal;
+        for test in tests {
+            let here = book.and(alloc, left, test.0)?;
+            let routes = self.routes_of(test.1);
+            let operation = Operation {
+                head: Head::Same,
+                routes,
+                start: 0,
+            };
+            add_all(alloc, book, pool, out, here, &operation)?;
+            left = without(alloc, book, left, test.0)?;
+        }
+        Ok(left)
     }
-    Ok(left)
 }

@@ -57,7 +57,7 @@ pub(crate) fn make_slice(
     requires high { hi < expr_width (expr_of_id pool.old of) }
     ensures grows { Grows pool.old pool.new }
     ensures within { IfOk result (λ id. id < length pool.new) }
-    ensures term { IfOk result (λ id. expr_of_id pool.new id ≡ sliced (expr_of_id pool.old of) hi lo) }
+    ensures expr { IfOk result (λ id. expr_of_id pool.new id ≡ sliced (expr_of_id pool.old of) hi lo) }
 {
     match slice_of_node(pool.node(of)) {
         Some((a, _, low)) => pool.intern(alloc, Node::Slice(a, low + hi, low + lo)),
@@ -83,7 +83,7 @@ pub(crate) fn close(
     requires fits { LastFits head (expr_of_id pool.old) (expr_width (expr_of_id pool.old last)) }
     ensures grows { Grows pool.old pool.new }
     ensures within { IfOk result (λ id. id < length pool.new) }
-    ensures term { IfOk result (λ id. expr_of_id pool.new id ≡ head_expr head (expr_of_id pool.old) (expr_of_id pool.old last)) }
+    ensures expr { IfOk result (λ id. expr_of_id pool.new id ≡ head_expr head (expr_of_id pool.old) (expr_of_id pool.old last)) }
 {
     match head {
         Head::Same => Ok(last),

@@ -13,6 +13,7 @@
 //! Files:
 //!
 //! - `stop`: why the routes of a net are given up.
+//! - `tracer`: `Tracer`, what the routes of a net are traced from.
 //! - `heads`: operators that lack their last operand, or two, and one closed over an expression.
 //! - `merge`, `lookup`: a route is added or joined to one with its expression; the route that holds
 //!   a word.
@@ -44,6 +45,7 @@ mod pairs;
 mod product;
 mod selects;
 mod stop;
+mod tracer;
 mod verdict;
 mod whole;
 

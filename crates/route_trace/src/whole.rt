@@ -15,13 +15,13 @@ ghost use Rattle.route_trace.specs.Inner.Routing.{AreTables};
 ghost use Rattle.route_trace.specs.Inner.Stops.{IfMany, IsOver};
 ghost use Rattle.route_trace.specs.Inner.Tests.{IsDecided};
 
-use crate::cases::{bus_routes, case_routes};
-use crate::gates::{leaf_routes, routes_over, routes_under};
+use crate::cases::Case;
+use crate::gates::{BinaryGate, leaf_routes};
 use crate::heads::{Binary, Head};
 use crate::stop::TraceStop;
+use crate::tracer::Tracer;
 use bit_bdd::{Book, SetId};
-use ctl_bdd::ControlBits;
-use net_model::{Gate, Net, Netlist};
+use net_model::{Gate, Net};
 use rec_bits::Items;
 use std::alloc::Global;
 use sym_expr::{Node, Pool};
@@ -41,7 +41,7 @@ fn routes_of_leaf(
     ensures book { Extends book.old book.new }
     ensures pool { Grows pool.old pool.new }
     ensures table { IfOk result (λ out. IsRouteTable book.new pool.new out) }
-    ensures terms { IfOk result (λ out. (word : ℕ) → word < 2 ^ book.old.bits →
+    ensures exprs { IfOk result (λ out. (word : ℕ) → word < 2 ^ book.old.bits →
         models_under book.new pool.new out word
         ≡ (if has_word book.old legal word then node_expr node (expr_of_id pool.old) ∷ [] else [])) }
     ensures few { IfErr result (λ stop. stop ≡ Memory) }
@@ -50,74 +50,82 @@ fn routes_of_leaf(
     Ok(routes)
 }
 
-// The routes of a net, from those of the nets that its gate names.
-pub(crate) fn net_routes(
-    alloc: Global,
-    netlist: &Netlist,
-    controls: &ControlBits,
-    book: &mut Book,
-    pool: &mut Pool,
-    nets: &[Items<Route>],
-    net: &Net,
-) -> Result<Items<Route>, TraceStop>
-    requires legal { controls.now.legal < length book.old.nodes }
-    requires decided { IsDecided netlist.now book.old controls.now.bits net.now.gate }
-    requires nets { AreTables book.old pool.old nets.now }
-    requires widths { HaveWidths netlist.now pool.old nets.now }
-    requires typed { IsTyped netlist.now }
-    requires fits { NetFits netlist.now (Some net.now) }
-    ensures book { Extends book.old book.new }
-    ensures pool { Grows pool.old pool.new }
-    ensures table { IfOk result (λ out. IsRouteTable book.new pool.new out) }
-    ensures terms { IfOk result (λ out. (t : ℕ → ExprModel) → (word : ℕ) → word < 2 ^ book.old.bits →
-        AllGive book.old pool.old nets.now controls.now.legal t word (gate_nets net.now.gate) →
-        models_under book.new pool.new out word
-        ≡ only book.old controls.now.legal word (gate_expr t (value_of netlist.now no_state word)
-        (is_static netlist.now) netlist.now net.now.width net.now.gate)) }
-    ensures many { IfErr result (λ stop. IfMany stop (IsOver book.new pool.new
-        (λ word terms. (t : ℕ → ExprModel) →
-        AllGive book.old pool.old nets.now controls.now.legal t word (gate_nets net.now.gate) →
-        terms ≡ only book.old controls.now.legal word (gate_expr t (value_of netlist.now no_state word)
-        (is_static netlist.now) netlist.now net.now.width net.now.gate)))) }
-{
-    let legal = controls.legal;
-    let width = net.width;
-    match &net.gate {
-        Gate::Word(_) => routes_of_leaf(alloc, book, pool, legal, Node::Word(width)),
-        Gate::Reg(id) => routes_of_leaf(alloc, book, pool, legal, Node::Reg(*id, width)),
-        Gate::Const(value) => {
-            let value = *value;
-            routes_of_leaf(alloc, book, pool, legal, Node::Const { width, value })
-        }
-        Gate::Read { memory, addr } => {
-            let space = netlist.space(*memory);
-            routes_under(
-                alloc,
-                book,
-                pool,
-                legal,
-                Head::Read(space, width),
-                nets,
-                *addr,
-            )
-        }
-        Gate::Wire(a) => routes_under(alloc, book, pool, legal, Head::Same, nets, *a),
-        Gate::Un(op, a) => routes_under(alloc, book, pool, legal, Head::Un(*op), nets, *a),
-        Gate::Slice { of, hi, lo } => {
-            routes_under(alloc, book, pool, legal, Head::Slice(*hi, *lo), nets, *of)
-        }
-        Gate::Zext(a) => routes_under(alloc, book, pool, legal, Head::Zext(width), nets, *a),
-        Gate::Sext(a) => routes_under(alloc, book, pool, legal, Head::Sext(width), nets, *a),
-        Gate::Bin(op, a, b) => {
-            routes_over(alloc, book, pool, legal, Binary::Bin(*op), nets, *a, *b)
-        }
-        Gate::Cat(a, b) => routes_over(alloc, book, pool, legal, Binary::Cat, nets, *a, *b),
-        Gate::Case { sel, rows, rest } => {
-            let rows = rows.as_slice();
-            case_routes(alloc, controls, book, pool, nets, *sel, rows, *rest, width)
-        }
-        Gate::Bus(drivers) => {
-            bus_routes(alloc, controls, book, pool, nets, drivers.as_slice(), width)
+impl Tracer<'_> {
+    // The routes of a net, from those of the nets that its gate names.
+    pub(crate) fn net_routes(
+        &self,
+        alloc: Global,
+        book: &mut Book,
+        pool: &mut Pool,
+        net: &Net,
+    ) -> Result<Items<Route>, TraceStop>
+        requires legal { self.now.controls.now.legal < length book.old.nodes }
+        requires decided { IsDecided self.now.netlist.now book.old self.now.controls.now.bits net.now.gate }
+        requires nets { AreTables book.old pool.old self.now.nets.now }
+        requires widths { HaveWidths self.now.netlist.now pool.old self.now.nets.now }
+        requires typed { IsTyped self.now.netlist.now }
+        requires fits { NetFits self.now.netlist.now (Some net.now) }
+        ensures book { Extends book.old book.new }
+        ensures pool { Grows pool.old pool.new }
+        ensures table { IfOk result (λ out. IsRouteTable book.new pool.new out) }
+        ensures exprs { IfOk result (λ out. (t : ℕ → ExprModel) → (word : ℕ) → word < 2 ^ book.old.bits →
+            AllGive book.old pool.old self.now.nets.now self.now.controls.now.legal t word (gate_nets net.now.gate) →
+            models_under book.new pool.new out word
+            ≡ only book.old self.now.controls.now.legal word (gate_expr t (value_of self.now.netlist.now no_state word)
+            (is_static self.now.netlist.now) self.now.netlist.now net.now.width net.now.gate)) }
+        ensures many { IfErr result (λ stop. IfMany stop (IsOver book.new pool.new
+            (λ word exprs. (t : ℕ → ExprModel) →
+            AllGive book.old pool.old self.now.nets.now self.now.controls.now.legal t word (gate_nets net.now.gate) →
+            exprs ≡ only book.old self.now.controls.now.legal word (gate_expr t (value_of self.now.netlist.now no_state word)
+            (is_static self.now.netlist.now) self.now.netlist.now net.now.width net.now.gate)))) }
+    {
+        let legal = self.controls.legal;
+        let width = net.width;
+        match &net.gate {
+            Gate::Word(_) => routes_of_leaf(alloc, book, pool, legal, Node::Word(width)),
+            Gate::Reg(id) => routes_of_leaf(alloc, book, pool, legal, Node::Reg(*id, width)),
+            Gate::Const(value) => {
+                let value = *value;
+                routes_of_leaf(alloc, book, pool, legal, Node::Const { width, value })
+            }
+            Gate::Read { memory, addr } => {
+                let space = self.netlist.space(*memory);
+                self.routes_under(alloc, book, pool, Head::Read(space, width), *addr)
+            }
+            Gate::Wire(a) => self.routes_under(alloc, book, pool, Head::Same, *a),
+            Gate::Un(op, a) => self.routes_under(alloc, book, pool, Head::Un(*op), *a),
+            Gate::Slice { of, hi, lo } => {
+                self.routes_under(alloc, book, pool, Head::Slice(*hi, *lo), *of)
+            }
+            Gate::Zext(a) => self.routes_under(alloc, book, pool, Head::Zext(width), *a),
+            Gate::Sext(a) => self.routes_under(alloc, book, pool, Head::Sext(width), *a),
+            Gate::Bin(op, a, b) => {
+                let gate = BinaryGate {
+                    binary: Binary::Bin(*op),
+                    a: *a,
+                    b: *b,
+                };
+                self.routes_over(alloc, book, pool, gate)
+            }
+            Gate::Cat(a, b) => {
+                let gate = BinaryGate {
+                    binary: Binary::Cat,
+                    a: *a,
+                    b: *b,
+                };
+                self.routes_over(alloc, book, pool, gate)
+            }
+            Gate::Case { sel, rows, rest } => {
+                let rows = rows.as_slice();
+                let case = Case {
+                    sel: *sel,
+                    rows,
+                    rest: *rest,
+                    width,
+                };
+                self.case_routes(alloc, book, pool, &case)
+            }
+            Gate::Bus(drivers) => self.bus_routes(alloc, book, pool, drivers.as_slice(), width),
         }
     }
 }

@@ -26,13 +26,13 @@ module _ (netlist : Netlist) (word : ℕ) (nodes : List Node) (ids : List ℕ) (
 
   array_same : (u : ℕ → ℕ) (cells : Cells) → ArrayFits netlist cells → array_transfer (net_exprs nodes ids) u cells ≡ array_transfer (sym_of netlist word) u cells
   array_same u cells f =
-      let x = a.terms cells.addr f.1.0 in
-      let y = a.terms cells.value f.0.0 in
+      let x = a.exprs cells.addr f.1.0 in
+      let y = a.exprs cells.value f.0.0 in
       (λ j. if is_enabled u cells.when then write_at (x j) (y j) else keep)
 
   pub storage_same : (u : ℕ → ℕ) (id : ℕ) (storage : Storage) → StorageFits netlist storage → storage_transfer (net_exprs nodes ids) u id storage ≡ storage_transfer (sym_of netlist word) u id storage
   storage_same u id (Register name width input when) f =
-      ap (λ (e : ExprModel). if is_enabled u when then (if same_reg e id then keep else write e) else keep) (a.terms input f.0.0)
+      ap (λ (e : ExprModel). if is_enabled u when then (if same_reg e id then keep else write e) else keep) (a.exprs input f.0.0)
   storage_same u id (Memory cells) f = array_same u cells f
   storage_same u id (File cells) f = array_same u cells f
 

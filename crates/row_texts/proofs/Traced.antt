@@ -20,7 +20,7 @@ use Rattle.rec_bits.proofs.Lists.{all_weaker}
 use Rattle.net_model.proofs.Orders.{place_at, at_place}
 use Rattle.sym_expr.specs.declared.pool.Node.{Node}
 use Rattle.sym_expr.specs.Pools.{Grows, expr_of_id}
-use Rattle.sym_expr.proofs.CallerLemmas.{same_term}
+use Rattle.sym_expr.proofs.CallerLemmas.{same_expr}
 use Rattle.row_texts.specs.Inner.Gates.{IsKnown, net_exprs}
 
 -- the net has the id of its symbolic value
@@ -31,7 +31,7 @@ pub record IsTraced (netlist : Netlist) (word : ℕ) (nodes : List Node) (ids : 
 traced_later : (netlist : Netlist) (word : ℕ) (old new : List Node) (ids : List ℕ) (n : ℕ) → Grows old new → IsTraced netlist word old ids n → IsTraced netlist word new ids n
 traced_later netlist word old new ids n g h = record {
   within = omega (arith, h.within, g.longer);
-  is = same_term old new g (slice_index ids n) h.within ∙ h.is;
+  is = same_expr old new g (slice_index ids n) h.within ∙ h.is;
 }
 
 module _ (netlist : Netlist) (word : ℕ) (order : List ℕ) (o : IsOrder netlist order) (nodes : List Node) (ids : List ℕ) (i : ℕ) (inside : i < length order) (done : (m : ℕ) → position_of order m < i → IsTraced netlist word nodes ids m)
@@ -57,8 +57,8 @@ module _ (netlist : Netlist) (word : ℕ) (order : List ℕ) (o : IsOrder netlis
   pub turn_controlled : IsControlled netlist → GateControlled netlist net.gate
   turn_controlled c = gate_controlled netlist c (slice_index order i) net there
 
-  turn_term : (values : ℕ → ℕ) → values ≡ value_of netlist no_state word → gate_expr (net_exprs nodes ids) values (is_static netlist) netlist net.width net.gate ≡ sym_of netlist word (slice_index order i)
-  turn_term values e =
+  turn_expr : (values : ℕ → ℕ) → values ≡ value_of netlist no_state word → gate_expr (net_exprs nodes ids) values (is_static netlist) netlist net.width net.gate ≡ sym_of netlist word (slice_index order i)
+  turn_expr values e =
       same_gate (net_exprs nodes ids) (sym_of netlist word) values (value_of netlist no_state word) (is_static netlist) netlist net.width net.gate
       (before (λ m. (net_exprs nodes ids m ≡ sym_of netlist word m) × (values m ≡ value_of netlist no_state word m)) (λ m h. ((done m h).is, ap (λ v. v m) e)))
       ∙ sym (sym_is netlist word order o (slice_index order i) (o.nets i inside) ∙ ap (net_expr (sym_of netlist word) (value_of netlist no_state word) (is_static netlist) netlist) there)
@@ -73,7 +73,7 @@ module _ (netlist : Netlist) (word : ℕ) (order : List ℕ) (o : IsOrder netlis
             subst (λ k. IsTraced netlist word new (slice_set ids (slice_index order i) id) k) (sym q)
             (record {
               within = subst (λ k. k < length new) (sym same) within;
-              is = ap (expr_of_id new) same ∙ e ∙ ap (λ (f : ℕ → Bool). gate_expr (net_exprs nodes ids) values f netlist net.width net.gate) se ∙ turn_term values ve;
+              is = ap (expr_of_id new) same ∙ e ∙ ap (λ (f : ℕ → Bool). gate_expr (net_exprs nodes ids) values f netlist net.width net.gate) se ∙ turn_expr values ve;
             })
         | inr q ↦
             let same : slice_index (slice_set ids (slice_index order i) id) m ≡ slice_index ids m = get_or-set_other ids (slice_index order i) m id 0 q in

@@ -12,14 +12,14 @@ use Rattle.net_model.specs.Symbolic.{case_expr, gate_expr, is_static}
 use Rattle.net_model.specs.Widths.{GateFits}
 use Rattle.sym_expr.specs.declared.pool.Node.{Node}
 use Rattle.sym_expr.specs.Pools.{Grows, expr_of_id}
-use Rattle.sym_expr.proofs.CallerLemmas.{same_term}
+use Rattle.sym_expr.proofs.CallerLemmas.{same_expr}
 use Rattle.row_texts.specs.Inner.Choices.{case_target, driver_target, expr_there}
 use Rattle.row_texts.specs.Inner.Gates.{IsKnown, IsWide, net_exprs}
 use Rattle.row_texts.proofs.Targets.{case_known, bus_known, case_expr_there, bus_expr_there}
 
 module _ (old new : List Node) (g : Grows old new) (ids : List ℕ) (width : ℕ) where
   wide_later : (n : ℕ) → IsWide old ids width n → IsWide new ids width n
-  wide_later n h = (omega (arith, h.0, g.longer), ap expr_width (same_term old new g (slice_index ids n) h.0) ∙ h.1)
+  wide_later n h = (omega (arith, h.0, g.longer), ap expr_width (same_expr old new g (slice_index ids n) h.0) ∙ h.1)
 
   pub some_wide_later : (o : Option ℕ) → IfSome o (IsWide old ids width) → IfSome o (IsWide new ids width)
   some_wide_later None h = tt
@@ -27,7 +27,7 @@ module _ (old new : List Node) (g : Grows old new) (ids : List ℕ) (width : ℕ
 
   pub there_later : (o : Option ℕ) → IfSome o (IsWide old ids width) → expr_there (net_exprs new ids) width o ≡ expr_there (net_exprs old ids) width o
   there_later None h = refl
-  there_later (Some n) h = same_term old new g (slice_index ids n) h.0
+  there_later (Some n) h = same_expr old new g (slice_index ids n) h.0
 
 pub there_wide : (nodes : List Node) (ids : List ℕ) (width : ℕ) (o : Option ℕ) → IfSome o (IsWide nodes ids width) → expr_width (expr_there (net_exprs nodes ids) width o) ≡ width
 there_wide nodes ids width None h = refl
@@ -40,10 +40,10 @@ module _ (a b c : List Node) (f : Grows a b) (g : Grows b c) (ids : List ℕ) (w
     (on_in : on < length b) (on_is : expr_of_id b on ≡ expr_there (net_exprs a ids) width one) (off_is : expr_of_id c off ≡ expr_there (net_exprs b ids) width zero) where
   test_expr : expr_of_id c test ≡ net_exprs a ids sel
   test_expr =
-      ap (expr_of_id c) test_is ∙ same_term b c g (slice_index ids sel) (omega (arith, sel_known.0, f.longer)) ∙ same_term a b f (slice_index ids sel) sel_known.0
+      ap (expr_of_id c) test_is ∙ same_expr b c g (slice_index ids sel) (omega (arith, sel_known.0, f.longer)) ∙ same_expr a b f (slice_index ids sel) sel_known.0
 
   on_expr : expr_of_id c on ≡ expr_there (net_exprs a ids) width one
-  on_expr = same_term b c g on on_in ∙ on_is
+  on_expr = same_expr b c g on on_in ∙ on_is
 
   off_expr : expr_of_id c off ≡ expr_there (net_exprs a ids) width zero
   off_expr = off_is ∙ there_later a b f ids width zero zero_known

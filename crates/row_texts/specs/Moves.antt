@@ -16,7 +16,7 @@ use Rattle.row_texts.specs.declared.moves.WordMoves.{WordMoves}
 pub record AreIds (netlist : Netlist) (word : ℕ) (nodes : List Node) (ids : List ℕ) : Type 0 where
   pub long : length ids ≡ length netlist.nets
   pub within : (n : ℕ) → n < length netlist.nets → slice_index ids n < length nodes
-  pub terms : (n : ℕ) → n < length netlist.nets → expr_of_id nodes (slice_index ids n) ≡ sym_of netlist word n
+  pub exprs : (n : ℕ) → n < length netlist.nets → expr_of_id nodes (slice_index ids n) ≡ sym_of netlist word n
 
 -- the transfer that ids stand for
 abbrev pub transfer_in : List Node → StorageMove → TransferModel

@@ -2,16 +2,20 @@
 
 ghost use Rattle.std.specs.Prelude.{◌≤◌, length};
 ghost use Rattle.isa_extract.specs.Extraction.{IsExtractedFrom};
+ghost use Rattle.transfer_set.specs.Ready.{IsReady};
 
 use crate::expr_text::{add_expr, add_storage};
 use crate::fault::RowFault;
 use crate::text::put;
+use bit_bdd::Book;
 use form_model::{Form, Forms, Goal, RegSet, Target};
 use form_set::forms;
 use isa_extract::{Isa, read_extracted_taken};
 use net_model::{Checked, Expr, Space};
 use rec_bits::NoMemory;
 use std::alloc::{AllocError, Global};
+use sym_expr::Pool;
+use transfer_set::{Machine, Patterns};
 
 /// A netlist, its forms, and how many patterns it has.
 #[derive(Drop)]
@@ -19,6 +23,24 @@ pub struct NetForms {
     pub checked: Checked,
     pub forms: Forms,
     pub patterns: u32,
+}
+
+// The forms of a netlist with these patterns.
+fn forms_by(
+    alloc: Global,
+    checked: &Checked,
+    pool: &Pool,
+    patterns: &Patterns,
+    book: &mut Book,
+) -> Result<Forms, NoMemory>
+    requires { IsReady checked.now.netlist book.old pool.now patterns.now }
+{
+    let machine = Machine {
+        checked,
+        pool,
+        patterns,
+    };
+    forms(alloc, &machine, book)
 }
 
 // The forms of a netlist that was extracted, and how many patterns it has.
@@ -31,7 +53,7 @@ fn forms_in(alloc: Global, checked: &Checked, extracted: &mut Isa) -> Result<(Fo
         patterns,
         ..
     } = extracted;
-    let found = forms(alloc, checked, patterns, book, pool)?;
+    let found = forms_by(alloc, checked, pool, patterns, book)?;
     Ok((found, patterns.len()))
 }
 

@@ -19,37 +19,46 @@ use rec_bits::NoMemory;
 use std::alloc::Global;
 use sym_expr::{ExprId, Node, Pool};
 
+// A netlist under an instruction word, where all storages hold 0.
+#[derive(Clone, Copy)]
+pub(crate) struct AtWord<'a> {
+    pub word: u64,
+    // The value of each net.
+    pub values: &'a [u64],
+    // For each net, whether it depends on the instruction word and constants alone.
+    pub statics: &'a [bool],
+}
+
 // The symbolic value of a net's gate.
 pub(crate) fn gate_id(
     alloc: Global,
     netlist: &Netlist,
     pool: &mut Pool,
     ids: &[ExprId],
-    values: &[u64],
-    statics: &[bool],
+    at: &AtWord<'_>,
     net: &Net,
 ) -> Result<ExprId, NoMemory>
     requires low { 1 ≤ net.now.width }
     requires high { net.now.width ≤ 64 }
     requires gate { GateFits netlist.now net.now.width net.now.gate }
     requires control { GateControlled netlist.now net.now.gate }
-    requires statics { flag_at statics.now ≡ is_static netlist.now }
+    requires statics { flag_at at.now.statics.now ≡ is_static netlist.now }
     requires known { AllByRecursion (IsKnown netlist.now pool.old ids.now) (gate_nets net.now.gate) }
     ensures grows { Grows pool.old pool.new }
     ensures within { IfOk result (λ id. id < length pool.new) }
-    ensures term { IfOk result (λ id. expr_of_id pool.new id
-        ≡ gate_expr (net_exprs pool.old ids.now) (slice_index values.now) (flag_at statics.now)
-        netlist.now net.now.width net.now.gate) }
+    ensures expr { IfOk result (λ id. expr_of_id pool.new id
+        ≡ gate_expr (net_exprs pool.old ids.now) (slice_index at.now.values.now)
+        (flag_at at.now.statics.now) netlist.now net.now.width net.now.gate) }
 {
     let width = net.width;
     match &net.gate {
         Gate::Word(_) => pool.intern(alloc, Node::Word(width)),
         Gate::Reg(id) => pool.intern(alloc, Node::Reg(*id, width)),
         Gate::Read { memory, addr } => {
-            let at = value_at(ids, *addr);
+            let addr = value_at(ids, *addr);
             match netlist.space(*memory) {
-                Space::Memory => pool.intern(alloc, Node::Read(at, width)),
-                Space::File => pool.intern(alloc, Node::Cell(at, width)),
+                Space::Memory => pool.intern(alloc, Node::Read(addr, width)),
+                Space::File => pool.intern(alloc, Node::Cell(addr, width)),
             }
         }
         Gate::Const(value) => pool.intern(
@@ -70,17 +79,23 @@ pub(crate) fn gate_id(
         Gate::Sext(a) => pool.intern(alloc, Node::Sext(value_at(ids, *a), width)),
         Gate::Case { sel, rows, rest } => {
             let rows = rows.as_slice();
-            if is_set(statics, *sel) {
-                let net = target_of(value_at(values, *sel), rows, *rest);
+            if is_set(at.statics, *sel) {
+                let net = target_of(value_at(at.values, *sel), rows, *rest);
                 id_there(alloc, pool, ids, width, net)
             } else {
                 let one = target_of(1, rows, *rest);
                 let zero = target_of(0, rows, *rest);
-                select_id(alloc, pool, ids, width, *sel, one, zero)
+                let choice = Choice {
+                    sel: *sel,
+                    one,
+                    zero,
+                    width,
+                };
+                select_id(alloc, pool, ids, choice)
             }
         }
         Gate::Bus(drivers) => {
-            let net = driver_of(values, drivers.as_slice());
+            let net = driver_of(at.values, drivers.as_slice());
             id_there(alloc, pool, ids, width, net)
         }
     }
@@ -99,7 +114,7 @@ fn id_there(
     requires known { IfSome net (IsWide pool.old ids.now width) }
     ensures grows { Grows pool.old pool.new }
     ensures within { IfOk result (λ id. id < length pool.new) }
-    ensures term { IfOk result (λ id. expr_of_id pool.new id ≡ expr_there (net_exprs pool.old ids.now) width net) }
+    ensures expr { IfOk result (λ id. expr_of_id pool.new id ≡ expr_there (net_exprs pool.old ids.now) width net) }
 {
     match net {
         Some(net) => Ok(value_at(ids, net)),
@@ -107,29 +122,36 @@ fn id_there(
     }
 }
 
-// The choice between two nets by a third.
+// A choice by a net of one bit between two nets of a width, or the constant 0 where there is none.
+#[derive(Clone, Copy)]
+struct Choice {
+    sel: u32,
+    one: Option<u32>,
+    zero: Option<u32>,
+    width: u8,
+}
+
+// The symbolic value of a choice.
 fn select_id(
     alloc: Global,
     pool: &mut Pool,
     ids: &[ExprId],
-    width: u8,
-    sel: u32,
-    one: Option<u32>,
-    zero: Option<u32>,
+    choice: Choice,
 ) -> Result<ExprId, NoMemory>
-    requires low { 1 ≤ width }
-    requires high { width ≤ 64 }
-    requires sel { IsWide pool.old ids.now 1 sel }
-    requires one { IfSome one (IsWide pool.old ids.now width) }
-    requires zero { IfSome zero (IsWide pool.old ids.now width) }
+    requires low { 1 ≤ choice.width }
+    requires high { choice.width ≤ 64 }
+    requires sel { IsWide pool.old ids.now 1 choice.sel }
+    requires one { IfSome choice.one (IsWide pool.old ids.now choice.width) }
+    requires zero { IfSome choice.zero (IsWide pool.old ids.now choice.width) }
     ensures grows { Grows pool.old pool.new }
     ensures within { IfOk result (λ id. id < length pool.new) }
-    ensures term { IfOk result (λ id. expr_of_id pool.new id ≡ select (net_exprs pool.old ids.now sel)
-        (expr_there (net_exprs pool.old ids.now) width one) (expr_there (net_exprs pool.old ids.now) width zero)) }
+    ensures expr { IfOk result (λ id. expr_of_id pool.new id ≡ select (net_exprs pool.old ids.now choice.sel)
+        (expr_there (net_exprs pool.old ids.now) choice.width choice.one)
+        (expr_there (net_exprs pool.old ids.now) choice.width choice.zero)) }
 {
-    let test = value_at(ids, sel);
-    let on = id_there(alloc, pool, ids, width, one)?;
-    let off = id_there(alloc, pool, ids, width, zero)?;
+    let test = value_at(ids, choice.sel);
+    let on = id_there(alloc, pool, ids, choice.width, choice.one)?;
+    let off = id_there(alloc, pool, ids, choice.width, choice.zero)?;
     pool.intern(alloc, Node::Select(test, on, off))
 }
 
@@ -150,7 +172,7 @@ fn slice_id(alloc: Global, pool: &mut Pool, of: ExprId, hi: u8, lo: u8) -> Resul
     requires high { hi < expr_width (expr_of_id pool.old of) }
     ensures grows { Grows pool.old pool.new }
     ensures within { IfOk result (λ id. id < length pool.new) }
-    ensures term { IfOk result (λ id. expr_of_id pool.new id ≡ sliced (expr_of_id pool.old of) hi lo) }
+    ensures expr { IfOk result (λ id. expr_of_id pool.new id ≡ sliced (expr_of_id pool.old of) hi lo) }
 {
     match parts_of_slice(pool.node(of)) {
         Some((a, _, low)) => pool.intern(alloc, Node::Slice(a, low + hi, low + lo)),

@@ -11,6 +11,7 @@ ghost use Rattle.row_texts.specs.Inner.Gates.{StorageKnown, is_register_node, ne
 ghost use Rattle.row_texts.specs.Moves.{AreIds, AreMoves, IsMoveWithin, IsWordMoves, transfer_in};
 
 use crate::evaluate::values_of;
+use crate::gates::AtWord;
 use crate::trace::ids_of;
 use cycle_sim::{find_clash, value_at};
 use net_model::{Checked, Net, Storage};
@@ -57,24 +58,15 @@ pub fn word_moves(
 {
     let values = values_of(alloc, checked, word)?;
     let statics = checked.static_flags(alloc)?;
-    let ids = ids_of(
-        alloc,
-        checked,
-        pool,
+    let at = AtWord {
         word,
-        values.as_slice(),
-        statics.as_slice(),
-    )?;
+        values: values.as_slice(),
+        statics: statics.as_slice(),
+    };
+    let ids = ids_of(alloc, checked, pool, &at)?;
     let netlist = checked.netlist();
     let clash = first_clash(values.as_slice(), netlist.nets.as_slice());
-    let moves = moves_of(
-        alloc,
-        checked,
-        pool,
-        word,
-        ids.as_slice(),
-        values.as_slice(),
-    )?;
+    let moves = moves_of(alloc, checked, pool, ids.as_slice(), &at)?;
     Ok(WordMoves {
         values,
         statics,
@@ -95,23 +87,22 @@ fn first_clash(values: &[u64], nets: &[Net]) -> Option<u32>
     }
 }
 
-// What each storage does.
+// What each storage does under the instruction word.
 fn moves_of(
     alloc: Global,
     checked: &Checked,
     pool: &Pool,
-    _word: u64,
     ids: &[ExprId],
-    values: &[u64],
+    at: &AtWord<'_>,
 ) -> Result<Items<StorageMove>, NoMemory>
-    requires ids { AreIds checked.now.netlist _word pool.now ids.now }
-    requires values { slice_index values.now ≡ value_of checked.now.netlist no_state _word }
-    ensures { IfOk result (λ moves. AreMoves checked.now.netlist _word pool.now moves) }
+    requires ids { AreIds checked.now.netlist at.now.word pool.now ids.now }
+    requires values { slice_index at.now.values.now ≡ value_of checked.now.netlist no_state at.now.word }
+    ensures { IfOk result (λ moves. AreMoves checked.now.netlist at.now.word pool.now moves) }
 {
     let storages = checked.netlist().storages.as_slice();
     let mut moves = Items::new(alloc);
     for (id, storage) in storages.iter().enumerate() {
-        moves.push(move_of(pool, ids, values, id, storage))?;
+        moves.push(move_of(pool, ids, at.values, id, storage))?;
     }
     Ok(moves)
 }

@@ -7,36 +7,34 @@ ghost use Rattle.sym_expr.specs.Pools.{Grows};
 ghost use Rattle.net_model.specs.Flags.{flag_at};
 ghost use Rattle.row_texts.specs.Moves.{AreIds};
 
-use crate::gates::gate_id;
+use crate::gates::{AtWord, gate_id};
 use cycle_sim::zeros;
 use net_model::Checked;
 use rec_bits::{Items, NoMemory};
 use std::alloc::Global;
 use sym_expr::{ExprId, Pool};
 
-// The id of each net's symbolic value, from the values of the static nets.
+// The id of each net's symbolic value under the instruction word.
 pub(crate) fn ids_of(
     alloc: Global,
     checked: &Checked,
     pool: &mut Pool,
-    _word: u64,
-    values: &[u64],
-    statics: &[bool],
+    at: &AtWord<'_>,
 ) -> Result<Items<ExprId>, NoMemory>
-    requires values { slice_index values.now ≡ value_of checked.now.netlist no_state _word }
-    requires statics { flag_at statics.now ≡ is_static checked.now.netlist }
+    requires values { slice_index at.now.values.now ≡ value_of checked.now.netlist no_state at.now.word }
+    requires statics { flag_at at.now.statics.now ≡ is_static checked.now.netlist }
     ensures grows { Grows pool.old pool.new }
-    ensures ids { IfOk result (λ ids. AreIds checked.now.netlist _word pool.new ids) }
+    ensures ids { IfOk result (λ ids. AreIds checked.now.netlist at.now.word pool.new ids) }
 {
     let netlist = checked.netlist();
     let nets = netlist.nets.as_slice();
     let order = checked.order().as_slice();
     let mut ids = zeros(alloc, nets.len())?;
     for id in order {
-        let at = *id as usize;
+        let place = *id as usize;
         let current = ids.as_slice();
-        let found = gate_id(alloc, netlist, pool, current, values, statics, &nets[at])?;
-        ids.set(at, found);
+        let found = gate_id(alloc, netlist, pool, current, at, &nets[place])?;
+        ids.set(place, found);
     }
     Ok(ids)
 }

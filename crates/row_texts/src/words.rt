@@ -46,43 +46,53 @@ fn word_bits(checked: &Checked) -> u8
     checked.netlist().word_width()
 }
 
-// What the patterns tell that a word does to a storage.
-fn told(book: &Book, patterns: &Patterns, storage: u32, word: u64) -> StorageMove
-    requires { AreSets book.now patterns.now.rows }
-{
-    for pattern in 0..patterns.len() {
-        if patterns.storage_of(pattern) != Some(storage) {
-            continue;
-        }
-        if let (Some(set), Some((addr, value))) = (
-            patterns.set_of(pattern),
-            patterns.expr_of(pattern),
-        ) {
-            if book.holds(set, word) {
-                return match addr {
-                    None => StorageMove::Write(value),
-                    Some(addr) => StorageMove::WriteAt { addr, value },
-                };
-            }
-        }
-    }
-    StorageMove::Keep
+// What is extracted of a netlist's words: patterns, and the set of the words without clash.
+#[derive(Clone, Copy)]
+struct Extracted<'a> {
+    book: &'a Book,
+    patterns: &'a Patterns,
+    legal: SetId,
 }
 
-// Whether the patterns tell this of a word's storages, and nothing of a word that clashes.
-fn agrees(book: &Book, patterns: &Patterns, moves: &[StorageMove], clash: bool, word: u64) -> bool
-    requires { AreSets book.now patterns.now.rows }
-{
-    for (storage, alone) in moves.iter().enumerate() {
-        let Ok(storage) = u32::try_from(storage) else {
-            return false;
-        };
-        let wanted = if clash { StorageMove::Keep } else { *alone };
-        if told(book, patterns, storage, word) != wanted {
-            return false;
+impl Extracted<'_> {
+    // What the patterns tell that a word does to a storage.
+    fn told(&self, storage: u32, word: u64) -> StorageMove
+        requires { AreSets self.now.book.now self.now.patterns.now.rows }
+    {
+        for pattern in 0..self.patterns.len() {
+            if self.patterns.storage_of(pattern) != Some(storage) {
+                continue;
+            }
+            if let (Some(set), Some((addr, value))) = (
+                self.patterns.set_of(pattern),
+                self.patterns.expr_of(pattern),
+            ) {
+                if self.book.holds(set, word) {
+                    return match addr {
+                        None => StorageMove::Write(value),
+                        Some(addr) => StorageMove::WriteAt { addr, value },
+                    };
+                }
+            }
         }
+        StorageMove::Keep
     }
-    true
+
+    // Whether the patterns tell this of a word's storages, and nothing of a word that clashes.
+    fn agrees(&self, moves: &[StorageMove], clash: bool, word: u64) -> bool
+        requires { AreSets self.now.book.now self.now.patterns.now.rows }
+    {
+        for (storage, alone) in moves.iter().enumerate() {
+            let Ok(storage) = u32::try_from(storage) else {
+                return false;
+            };
+            let wanted = if clash { StorageMove::Keep } else { *alone };
+            if self.told(storage, word) != wanted {
+                return false;
+            }
+        }
+        true
+    }
 }
 
 // Whether a word does by itself, and whether it clashes, what the patterns and the set of the words
@@ -90,20 +100,19 @@ fn agrees(book: &Book, patterns: &Patterns, moves: &[StorageMove], clash: bool, 
 fn compare_word(
     alloc: Global,
     checked: &Checked,
-    book: &Book,
     pool: &mut Pool,
-    patterns: &Patterns,
-    legal: SetId,
+    extracted: &Extracted<'_>,
     word: u64,
 ) -> Result<(bool, bool), NoMemory>
     requires word { WordFits checked.now.netlist word }
-    requires sets { AreSets book.now patterns.now.rows }
-    requires legal { legal < length book.now.nodes }
+    requires sets { AreSets extracted.now.book.now extracted.now.patterns.now.rows }
+    requires legal { extracted.now.legal < length extracted.now.book.now.nodes }
 {
     let alone = word_moves(alloc, checked, pool, word)?;
     let clash = alone.clash.is_some();
-    let same = agrees(book, patterns, alone.moves.as_slice(), clash, word);
-    Ok((clash, same && clash != book.holds(legal, word)))
+    let same = extracted.agrees(alone.moves.as_slice(), clash, word);
+    let legal = extracted.book.holds(extracted.legal, word);
+    Ok((clash, same && clash != legal))
 }
 
 // Goes through all words of a code of at most 16 bits.
@@ -122,13 +131,18 @@ fn compare_all(
     // the netlist is read for what it keeps
     let _ = checked.netlist();
     let words = 1u64 << word_bits(checked);
+    let extracted = Extracted {
+        book,
+        patterns,
+        legal,
+    };
     let mut found = Compared {
         words,
         clashes: 0,
         differ: 0,
     };
     for word in 0..words {
-        let (clash, same) = compare_word(alloc, checked, book, pool, patterns, legal, word)?;
+        let (clash, same) = compare_word(alloc, checked, pool, &extracted, word)?;
         found.clashes = found.clashes.saturating_add(u64::from(clash));
         found.differ = found.differ.saturating_add(u64::from(!same));
     }

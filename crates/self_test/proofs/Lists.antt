@@ -8,12 +8,12 @@ use Rattle.transfer_set.specs.Rows.{row_patterns}
 use Rattle.self_test.specs.Candidates.{value_at, values_from}
 
 -- one pattern's value, and those of the patterns behind it
-pub rows_step : (netlist : Netlist) (rules : List FormModel) (pool : List Node) (rows : List Row) (i number : ℕ) → i < length rows → values_from netlist rules number (drop i (row_patterns pool rows)) ≡ value_at netlist rules number (slice_get (row_patterns pool rows) i) ++ values_from netlist rules (number + 1) (drop (i + 1) (row_patterns pool rows))
-rows_step netlist rules pool rows i number h =
+pub rows_step : (netlist : Netlist) (forms : List FormModel) (pool : List Node) (rows : List Row) (i number : ℕ) → i < length rows → values_from netlist forms number (drop i (row_patterns pool rows)) ≡ value_at netlist forms number (slice_get (row_patterns pool rows) i) ++ values_from netlist forms (number + 1) (drop (i + 1) (row_patterns pool rows))
+rows_step netlist forms pool rows i number h =
     by rows i h
-    ∙ ap (λ k. value_at netlist rules number (slice_get (row_patterns pool rows) i) ++ values_from netlist rules (number + 1) (drop k (row_patterns pool rows))) (sym (add-one i))
+    ∙ ap (λ k. value_at netlist forms number (slice_get (row_patterns pool rows) i) ++ values_from netlist forms (number + 1) (drop k (row_patterns pool rows))) (sym (add-one i))
   where
-    by : (rows : List Row) (i : ℕ) → i < length rows → values_from netlist rules number (drop i (row_patterns pool rows)) ≡ value_at netlist rules number (slice_get (row_patterns pool rows) i) ++ values_from netlist rules (number + 1) (drop (suc i) (row_patterns pool rows))
+    by : (rows : List Row) (i : ℕ) → i < length rows → values_from netlist forms number (drop i (row_patterns pool rows)) ≡ value_at netlist forms number (slice_get (row_patterns pool rows) i) ++ values_from netlist forms (number + 1) (drop (suc i) (row_patterns pool rows))
     by [] i h = absurd (omega arith)
     by (row ∷ rows) zero h = refl
     by (row ∷ rows) (suc i) h = by rows i (omega arith)

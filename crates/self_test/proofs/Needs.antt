@@ -15,39 +15,39 @@ use Rattle.self_test.specs.Inner.Values.{greatest_inner, exprs_at}
 use Rattle.self_test.specs.Trees.{widths_of}
 use Rattle.self_test.proofs.Inner.{temps_are}
 
-module _ (netlist : Netlist) (rules : List FormModel) (patterns : List Pattern) (pool : List Node) (ids : List ℕ) (found : exprs_at pool ids ≡ test_values netlist rules patterns) where
+module _ (netlist : Netlist) (forms : List FormModel) (patterns : List Pattern) (pool : List Node) (ids : List ℕ) (found : exprs_at pool ids ≡ test_values netlist forms patterns) where
   module _ (width temps operands : ℕ) (w : width ≡ memory_width netlist.storages) (t : temps ≡ capped (greatest_inner width (exprs_at pool ids))) (o : operands ≡ capped (all_operands (exprs_at pool ids))) where
-    temps_found : temps ≡ capped (test_temps netlist rules patterns)
+    temps_found : temps ≡ capped (test_temps netlist forms patterns)
     temps_found =
         t
         ∙ ap (λ v. capped (greatest_inner v (exprs_at pool ids))) w
         ∙ ap (λ (values : List ExprModel). capped (greatest_inner (memory_width netlist.storages) values)) found
-        ∙ ap capped (sym (temps_are (widths_of netlist) (test_values netlist rules patterns)))
+        ∙ ap capped (sym (temps_are (widths_of netlist) (test_values netlist forms patterns)))
 
-    operands_found : operands ≡ capped (all_operands (test_values netlist rules patterns))
+    operands_found : operands ≡ capped (all_operands (test_values netlist forms patterns))
     operands_found = o ∙ ap (λ (values : List ExprModel). capped (all_operands values)) found
 
-    values_found : length ids ≡ length (test_values netlist rules patterns)
+    values_found : length ids ≡ length (test_values netlist forms patterns)
     values_found = sym (length-map ids (expr_of_id pool)) ∙ ap (λ (values : List ExprModel). length values) found
 
     module _ (outputs need : ℕ) (f : outputs ≡ min (temps + operands) (2 ^ 64 - 1)) (n : need ≡ min (outputs + length ids) (2 ^ 64 - 1)) where
-      pub need_found : need ≡ capped (test_need netlist rules patterns)
+      pub need_found : need ≡ capped (test_need netlist forms patterns)
       need_found = omega (arith, temps_found, operands_found, values_found, f, n)
 
       -- a count that a memory has room for is as it is
       module _ (have : ℕ) (few : have < 2 ^ 32) (room : need ≤ have) where
-        pub temps_exact : temps ≡ test_temps netlist rules patterns
+        pub temps_exact : temps ≡ test_temps netlist forms patterns
         temps_exact = omega (arith, temps_found, operands_found, values_found, f, n, few, room)
 
-        outputs_exact : outputs ≡ test_temps netlist rules patterns + all_operands (test_values netlist rules patterns)
+        outputs_exact : outputs ≡ test_temps netlist forms patterns + all_operands (test_values netlist forms patterns)
         outputs_exact = omega (arith, temps_found, operands_found, values_found, f, n, few, room)
 
-        pub need_within : test_need netlist rules patterns ≤ have
+        pub need_within : test_need netlist forms patterns ≤ have
         need_within = omega (arith, need_found, few, room)
 
-        pub jobs_found : (works : List JobModel) → works ≡ jobs_from (widths_of netlist) temps outputs (exprs_at pool ids) → works ≡ test_jobs netlist rules patterns
-        jobs_found works e =
+        pub jobs_found : (jobs : List JobModel) → jobs ≡ jobs_from (widths_of netlist) temps outputs (exprs_at pool ids) → jobs ≡ test_jobs netlist forms patterns
+        jobs_found jobs e =
             e
             ∙ ap (λ at. jobs_from (widths_of netlist) at outputs (exprs_at pool ids)) temps_exact
-            ∙ ap (λ out. jobs_from (widths_of netlist) (test_temps netlist rules patterns) out (exprs_at pool ids)) outputs_exact
-            ∙ ap (λ (values : List ExprModel). jobs_from (widths_of netlist) (test_temps netlist rules patterns) (test_temps netlist rules patterns + all_operands (test_values netlist rules patterns)) values) found
+            ∙ ap (λ out. jobs_from (widths_of netlist) (test_temps netlist forms patterns) out (exprs_at pool ids)) outputs_exact
+            ∙ ap (λ (values : List ExprModel). jobs_from (widths_of netlist) (test_temps netlist forms patterns) (test_temps netlist forms patterns + all_operands (test_values netlist forms patterns)) values) found

@@ -87,19 +87,19 @@ is_candidate netlist p =
 
 -- the pattern of this number gives a form
 abbrev pub gives_form : List FormModel → ℕ → Bool
-gives_form rules number = list_any (λ (rule : FormModel). nat_eq rule.pattern number) rules
+gives_form forms number = list_any (λ (form : FormModel). nat_eq form.pattern number) forms
 
 -- the value of the pattern of this number, if it is a candidate that gives a form
 abbrev pub value_at : Netlist → List FormModel → ℕ → Option Pattern → List ExprModel
-value_at netlist rules number None = []
-value_at netlist rules number (Some p) =
-    if gives_form rules number && is_candidate netlist p then value_of_transfer p.move ∷ [] else []
+value_at netlist forms number None = []
+value_at netlist forms number (Some p) =
+    if gives_form forms number && is_candidate netlist p then value_of_transfer p.move ∷ [] else []
 
 -- those of patterns that are numbered from a number on, in their order
 abbrev pub values_from : Netlist → List FormModel → ℕ → List Pattern → List ExprModel
-values_from netlist rules number [] = []
-values_from netlist rules number (p ∷ patterns) =
-    value_at netlist rules number (Some p) ++ values_from netlist rules (number + 1) patterns
+values_from netlist forms number [] = []
+values_from netlist forms number (p ∷ patterns) =
+    value_at netlist forms number (Some p) ++ values_from netlist forms (number + 1) patterns
 
 abbrev pub candidate_values : Netlist → List FormModel → List Pattern → List ExprModel
-candidate_values netlist rules patterns = values_from netlist rules 0 patterns
+candidate_values netlist forms patterns = values_from netlist forms 0 patterns

@@ -7,7 +7,7 @@ ghost use Rattle.form_model.specs.Forms.{cell, models_of_forms};
 ghost use Rattle.net_model.specs.Nets.{memory_size};
 ghost use Rattle.src_trees.specs.Jobs.{model_of_job, models_of_jobs};
 ghost use Rattle.sym_expr.specs.Pools.{expr_of_id};
-ghost use Rattle.transfer_set.specs.Rows.{row_patterns};
+ghost use Rattle.transfer_set.specs.Machines.{machine_netlist, machine_patterns};
 ghost use Rattle.self_test.specs.Cells.{all_operands as all_operands_of, test_need, test_temps, test_jobs, jobs_from};
 ghost use Rattle.self_test.specs.Inner.Values.{AreBelow, AreKnown, IsKnown, greatest_inner, exprs_at};
 ghost use Rattle.self_test.specs.Told.{IsTold};
@@ -22,7 +22,7 @@ use net_model::Checked;
 use rec_bits::{Items, NoMemory};
 use std::alloc::Global;
 use sym_expr::{ExprId, Pool};
-use transfer_set::Patterns;
+use transfer_set::Machine;
 
 /// The jobs of a self-test.
 #[derive(Drop)]
@@ -115,23 +115,26 @@ fn jobs(
 /// more than the memory has. Its `need` stands at 2^64 - 1 for more.
 pub fn candidates(
     alloc: Global,
-    checked: &Checked,
-    patterns: &Patterns,
+    machine: &Machine<'_>,
     forms: &Forms,
-    pool: &Pool,
 ) -> Result<TestJobs, BindFault>
-    requires ready { IsTold checked.now.netlist pool.now patterns.now }
+    requires ready { IsTold (machine_netlist machine.now) machine.now.pool.now machine.now.patterns.now }
     ensures temps { IfOk result (λ tests. tests.temps
-        ≡ test_temps checked.now.netlist (models_of_forms forms.now.list.items) (row_patterns pool.now patterns.now.rows)) }
+        ≡ test_temps (machine_netlist machine.now) (models_of_forms forms.now.list.items) (machine_patterns machine.now)) }
     ensures flow { IfOk result (λ tests. tests.blocks.flow ≡ []) }
     ensures jobs { IfOk result (λ tests. models_of_jobs tests.blocks.jobs.items
-        ≡ test_jobs checked.now.netlist (models_of_forms forms.now.list.items) (row_patterns pool.now patterns.now.rows)) }
-    ensures enough { IfOk result (λ _. test_need checked.now.netlist (models_of_forms forms.now.list.items)
-        (row_patterns pool.now patterns.now.rows) ≤ memory_size checked.now.netlist.storages) }
+        ≡ test_jobs (machine_netlist machine.now) (models_of_forms forms.now.list.items) (machine_patterns machine.now)) }
+    ensures enough { IfOk result (λ _. test_need (machine_netlist machine.now) (models_of_forms forms.now.list.items)
+        (machine_patterns machine.now) ≤ memory_size (machine_netlist machine.now).storages) }
     ensures refused { IfErr result (IsBindFault
-        (capped (test_need checked.now.netlist (models_of_forms forms.now.list.items) (row_patterns pool.now patterns.now.rows)))
-        (memory_size checked.now.netlist.storages)) }
+        (capped (test_need (machine_netlist machine.now) (models_of_forms forms.now.list.items) (machine_patterns machine.now)))
+        (memory_size (machine_netlist machine.now).storages)) }
 {
+    let Machine {
+        checked,
+        pool,
+        patterns,
+    } = *machine;
     let values = values(alloc, checked, pool, patterns, &forms.list)?;
     let values = values.as_slice();
     let temps = all_temps(pool, values, checked.memory_width());

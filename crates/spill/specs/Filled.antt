@@ -12,21 +12,21 @@ abbrev pub first_cells : List (List ℕ) → List ℕ
 first_cells [] = []
 first_cells (cells ∷ rest) = cells
 
--- the cells inside the operands and those of the form's own cuts, joined in the order of the sites
+-- the cells inside the operands and those of the form's own cuts, joined in the order of the leaves
 abbrev pub woven_cells : List LeafModel → List (List ℕ) → List (List ℕ) → List ℕ
 woven_cells [] of_operands of_cuts = []
-woven_cells (operand home tree whole ∷ sites) of_operands of_cuts =
-    first_cells of_operands ++ woven_cells sites (drop 1 of_operands) of_cuts
-woven_cells (cut shape tree ∷ sites) of_operands of_cuts =
-    first_cells of_cuts ++ woven_cells sites of_operands (drop 1 of_cuts)
+woven_cells (operand home tree whole ∷ leaves) of_operands of_cuts =
+    first_cells of_operands ++ woven_cells leaves (drop 1 of_operands) of_cuts
+woven_cells (cut shape tree ∷ leaves) of_operands of_cuts =
+    first_cells of_cuts ++ woven_cells leaves of_operands (drop 1 of_cuts)
 
 abbrev mutual
   -- those of a cover of a tree that goes to a destination, where n is the first cell
   pub filled_cells : StockModel → CoverModel → ℕ → DestinationModel → ExprModel → Bool → List ℕ
   filled_cells stock (use_form k ps cs) n destination tree whole =
-      woven_cells (match_at stock k destination tree whole).sites
-      (filled_in_operands stock ps (cover_operand_cells (match_at stock k destination tree whole).sites ps cs n))
-      (filled_by_cuts stock cs (cover_cut_cells (match_at stock k destination tree whole).sites ps cs n))
+      woven_cells (match_at stock k destination tree whole).leaves
+      (filled_in_operands stock ps (cover_operand_cells (match_at stock k destination tree whole).leaves ps cs n))
+      (filled_by_cuts stock cs (cover_cut_cells (match_at stock k destination tree whole).leaves ps cs n))
 
   -- for each operand, from left to right, those inside it
   pub filled_in_operands : StockModel → CoverOperandsModel → List OperandCellsModel → List (List ℕ)

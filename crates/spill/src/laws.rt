@@ -11,17 +11,17 @@ ghost use Rattle.spill.specs.Filled.{filled_cells};
 /// The steps of an orderly cover fill as many cells as it has cuts, all of them below this count,
 /// and none of them twice.
 pub fn law_of_cells()
-    ensures many { (stock : StockModel) (plan : CoverModel) (destination : DestinationModel) (tree : ExprModel) (whole : Bool) →
-        IsOrderly stock destination tree whole plan →
-        length (filled_cells stock plan 0 destination tree whole) ≡ cut_count plan }
-    ensures below { (stock : StockModel) (plan : CoverModel) (destination : DestinationModel) (tree : ExprModel)
+    ensures many { (stock : StockModel) (cover : CoverModel) (destination : DestinationModel) (tree : ExprModel) (whole : Bool) →
+        IsOrderly stock destination tree whole cover →
+        length (filled_cells stock cover 0 destination tree whole) ≡ cut_count cover }
+    ensures below { (stock : StockModel) (cover : CoverModel) (destination : DestinationModel) (tree : ExprModel)
         (whole : Bool) (i cell : ℕ) →
-        IsOrderly stock destination tree whole plan →
-        slice_get (filled_cells stock plan 0 destination tree whole) i ≡ Some cell →
-        cell < cut_count plan }
-    ensures once { (stock : StockModel) (plan : CoverModel) (destination : DestinationModel) (tree : ExprModel)
+        IsOrderly stock destination tree whole cover →
+        slice_get (filled_cells stock cover 0 destination tree whole) i ≡ Some cell →
+        cell < cut_count cover }
+    ensures once { (stock : StockModel) (cover : CoverModel) (destination : DestinationModel) (tree : ExprModel)
         (whole : Bool) (i j cell : ℕ) →
-        IsOrderly stock destination tree whole plan →
-        slice_get (filled_cells stock plan 0 destination tree whole) i ≡ Some cell →
-        slice_get (filled_cells stock plan 0 destination tree whole) j ≡ Some cell → i ≡ j }
+        IsOrderly stock destination tree whole cover →
+        slice_get (filled_cells stock cover 0 destination tree whole) i ≡ Some cell →
+        slice_get (filled_cells stock cover 0 destination tree whole) j ≡ Some cell → i ≡ j }
 {}

@@ -12,8 +12,8 @@ use Rattle.rec_bits.specs.Faults.{fault_at}
 use Rattle.rec_bits.specs.Faults.{or_else}
 use Rattle.rec_bits.specs.Faults.{least}
 
-abbrev pub listing : List Declared → List Stmt → ProgramModel
-listing vars body = record { vars = vars; body = map model_of_stmt body }
+abbrev pub program_with : List Declared → List Stmt → ProgramModel
+program_with vars body = record { vars = vars; body = map model_of_stmt body }
 
 -- the first fault behind S1
 abbrev pub behind_duplicates : ℕ → ProgramModel → Option SrcFault

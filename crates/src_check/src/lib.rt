@@ -19,7 +19,7 @@
 //! - `walk`: S2 to S5 statement by statement: a `LoopRule` is the rule that is asked.
 //! - `whole`: the rules in their order, with S6 and what is asked of declarations, and `check`.
 //! - `specs/`: `Refusals`, cited by public contracts, and the rules are `src_model/specs`.
-//!   `specs/Inner/`: `Questions`, `Rounds` and `Tables`, which go with the walk.
+//!   `specs/Inner/`: `LoopRules`, `Rounds` and `Tables`, which go with the walk.
 //! - `proofs/`: `Walks` and `Tables` one statement and one declaration further, `Ranges`, `Lengths`
 //!   and `Weights` for the rules by themselves.
 #![tactic(auto)]

@@ -11,7 +11,7 @@ ghost use Rattle.rec_bits.specs.Faults.{fault_at};
 ghost use Rattle.rec_bits.specs.Faults.{or_else};
 ghost use Rattle.src_model.specs.declared.fault.SrcFault.TheVariants.{Duplicate};
 ghost use Rattle.src_check.specs.Inner.LoopRules.{model_of_loop_rule};
-ghost use Rattle.src_check.specs.Refusals.{listing, behind_duplicates, IsCheckFault};
+ghost use Rattle.src_check.specs.Refusals.{program_with, behind_duplicates, IsCheckFault};
 
 use crate::names::{SymbolTable, declare};
 use crate::rounds::Rounds;
@@ -52,7 +52,7 @@ fn empty_arrays(vars: &[Var]) -> Option<u64>
 
 #[tactic(auto, using(rec_bits::proofs::Faults::least_rules))]
 fn bad_width(vars: &[Var], word: u64, body: &[Stmt]) -> Option<u64>
-    ensures { result ≡ least (bad_widths word (listing vars.now body.now)) }
+    ensures { result ≡ least (bad_widths word (program_with vars.now body.now)) }
 {
     lesser_offset(empty_arrays(vars), broken_in(&LoopRule::Widths(word), body))
 }
@@ -79,7 +79,7 @@ fn above(kind: SrcKind, count: u64, bound: u64) -> Option<SrcFault>
 }
 
 fn limits(vars: &[Var], word: u64, body: &[Stmt]) -> Option<SrcFault>
-    ensures { result ≡ limits (listing vars.now body.now) }
+    ensures { result ≡ limits (program_with vars.now body.now) }
 {
     let sizes = block_sizes(word, body);
     if let Some(fault) = above(SrcKind::Length, longest(vars), LENGTH) {
@@ -99,7 +99,7 @@ fn behind_duplicates(
     body: &[Stmt],
 ) -> Option<SrcFault>
     requires { table.now ≡ vars.now }
-    ensures { result ≡ behind_duplicates word (listing vars.now body.now) }
+    ensures { result ≡ behind_duplicates word (program_with vars.now body.now) }
 {
     if let Some(at) = broken_in(&LoopRule::Names(table), body) {
         return Some(SrcFault::Unknown(at));
@@ -125,7 +125,7 @@ fn first_of(
     body: &[Stmt],
 ) -> Option<SrcFault>
     requires { table.now ≡ vars.now }
-    ensures { result ≡ or_else (fault_at Duplicate repeated) (behind_duplicates word (listing vars.now body.now)) }
+    ensures { result ≡ or_else (fault_at Duplicate repeated) (behind_duplicates word (program_with vars.now body.now)) }
 {
     match repeated {
         Some(at) => Some(SrcFault::Duplicate(at)),

@@ -14,7 +14,7 @@ ghost use Rattle.src_eval.specs.Inner.Laid.{IsDoing, IsAsking, entry, Laid, Laid
 use crate::formula::{Comparison, Formula};
 use crate::machine::Step;
 use crate::resolve::{resolve, resolve_index, resolve_test};
-use crate::table::SymbolTable;
+use crate::table::Scope;
 use rec_bits::{Items, Name, NoMemory, Op2};
 use src_model::{Cmp, Spot, SrcExpr, SrcTest, Stmt, block_sizes};
 use std::alloc::Global;
@@ -58,22 +58,21 @@ fn entry(block: &[Stmt], tree: usize, next: usize) -> usize
 // The step of an assignment.
 fn push_assign(
     alloc: Global,
-    word: u8,
-    table: &SymbolTable<'_>,
+    scope: &Scope<'_>,
     steps: &mut Items<Step>,
     place: &Spot,
     e: &SrcExpr,
     next: usize,
 ) -> Result<(), NoMemory>
-    requires word { IsWidth word }
-    requires place { Fitting word word (place_shape (model_of_spot place.now)) }
-    requires value { FitsWord word (model_of_src_node e.now.node) }
-    ensures { OnOk result (Pushed word steps.old steps.new
-        (IsDoing (assigned word table.now (model_of_spot place.now) (model_of_src_expr e.now)) next)) }
+    requires word { IsWidth scope.now.word }
+    requires place { Fitting scope.now.word scope.now.word (place_shape (model_of_spot place.now)) }
+    requires value { FitsWord scope.now.word (model_of_src_node e.now.node) }
+    ensures { OnOk result (Pushed scope.now.word steps.old steps.new
+        (IsDoing (assigned scope.now.word scope.now.table (model_of_spot place.now) (model_of_src_expr e.now)) next)) }
 {
-    let first = table.first_cell(&place.name);
-    let index = resolve_index(alloc, word, table, place)?;
-    let value = resolve(alloc, word, table, word, e)?;
+    let first = scope.table.first_cell(&place.name);
+    let index = resolve_index(alloc, scope, place)?;
+    let value = resolve(alloc, scope, scope.word, e)?;
     steps.push(Step::Assign {
         first,
         index,
@@ -85,18 +84,18 @@ fn push_assign(
 
 // The start of a `for`.
 fn push_start(
-    table: &SymbolTable<'_>,
-    word: u8,
+    scope: &Scope<'_>,
     steps: &mut Items<Step>,
     counter: &Name,
     from: u64,
     next: usize,
 ) -> Result<(), NoMemory>
-    requires { from < 2 ^ word }
-    ensures { OnOk result (Pushed word steps.old steps.new (IsDoing (started table.now counter.now from) next)) }
+    requires { from < 2 ^ scope.now.word }
+    ensures { OnOk result (Pushed scope.now.word steps.old steps.new
+        (IsDoing (started scope.now.table counter.now from) next)) }
 {
     steps.push(Step::Assign {
-        first: table.first_cell(counter),
+        first: scope.table.first_cell(counter),
         index: Formula::Number(0),
         value: Formula::Number(from),
         next,
@@ -107,22 +106,22 @@ fn push_start(
 // The step of a `for`.
 fn push_step(
     alloc: Global,
-    word: u8,
-    table: &SymbolTable<'_>,
+    scope: &Scope<'_>,
     steps: &mut Items<Step>,
     counter: &Name,
     next: usize,
 ) -> Result<(), NoMemory>
-    requires word { IsWidth word }
-    ensures { OnOk result (Pushed word steps.old steps.new (IsDoing (stepped word table.now counter.now) next)) }
+    requires word { IsWidth scope.now.word }
+    ensures { OnOk result (Pushed scope.now.word steps.old steps.new
+        (IsDoing (stepped scope.now.word scope.now.table counter.now) next)) }
 {
-    let first = table.first_cell(counter);
+    let first = scope.table.first_cell(counter);
     let count = Box::new(alloc, Formula::Cell(first))?;
     let one = Box::new(alloc, Formula::Number(1))?;
     steps.push(Step::Assign {
         first,
         index: Formula::Number(0),
-        value: Formula::Bin(Op2::Add, word, count, one),
+        value: Formula::Bin(Op2::Add, scope.word, count, one),
         next,
     })?;
     Ok(())
@@ -131,19 +130,18 @@ fn push_step(
 // The step of a test.
 fn push_test(
     alloc: Global,
-    word: u8,
-    table: &SymbolTable<'_>,
+    scope: &Scope<'_>,
     steps: &mut Items<Step>,
     test: &SrcTest,
     on_true: usize,
     on_false: usize,
 ) -> Result<(), NoMemory>
-    requires word { IsWidth word }
-    requires fitting { FitsSides word (model_of_src_node test.now.left.node) (model_of_src_node test.now.right.node) }
-    ensures { OnOk result (Pushed word steps.old steps.new
-        (IsAsking (holds word table.now (model_of_src_test test.now)) on_true on_false)) }
+    requires word { IsWidth scope.now.word }
+    requires fitting { FitsSides scope.now.word (model_of_src_node test.now.left.node) (model_of_src_node test.now.right.node) }
+    ensures { OnOk result (Pushed scope.now.word steps.old steps.new
+        (IsAsking (holds scope.now.word scope.now.table (model_of_src_test test.now)) on_true on_false)) }
 {
-    let test = resolve_test(alloc, word, table, test)?;
+    let test = resolve_test(alloc, scope, test)?;
     steps.push(Step::Test {
         test,
         on_true,
@@ -154,23 +152,22 @@ fn push_test(
 
 // The test of a `for`.
 fn push_counting(
-    table: &SymbolTable<'_>,
-    word: u8,
+    scope: &Scope<'_>,
     steps: &mut Items<Step>,
     counter: &Name,
     to: u64,
     on_true: usize,
     on_false: usize,
 ) -> Result<(), NoMemory>
-    requires word { IsWidth word }
-    requires last { to + 1 < 2 ^ word }
-    ensures { OnOk result (Pushed word steps.old steps.new
-        (IsAsking (counting table.now counter.now to) on_true on_false)) }
+    requires word { IsWidth scope.now.word }
+    requires last { to + 1 < 2 ^ scope.now.word }
+    ensures { OnOk result (Pushed scope.now.word steps.old steps.new
+        (IsAsking (counting scope.now.table counter.now to) on_true on_false)) }
 {
     let test = Comparison {
         cmp: Cmp::Ne,
-        width: word,
-        left: Formula::Cell(table.first_cell(counter)),
+        width: scope.word,
+        left: Formula::Cell(scope.table.first_cell(counter)),
         right: Formula::Number(to + 1),
     };
     steps.push(Step::Test {
@@ -185,42 +182,39 @@ fn push_counting(
 #[cycle(build)]
 pub fn build(
     alloc: Global,
-    word: u8,
-    table: &SymbolTable<'_>,
+    scope: &Scope<'_>,
     steps: &mut Items<Step>,
     statement: &Stmt,
     next: usize,
 ) -> Result<(), NoMemory>
-    requires ready { Ready word steps.old (statements (model_of_stmt statement.now)) next }
-    requires fits { FitsStmt word (model_of_stmt statement.now) }
-    ensures { OnOk result (Built word steps.old steps.new (statements (model_of_stmt statement.now)) (λ last.
-        Laid word table.now last (model_of_stmt statement.now) (length steps.old) next)) }
+    requires ready { Ready scope.now.word steps.old (statements (model_of_stmt statement.now)) next }
+    requires fits { FitsStmt scope.now.word (model_of_stmt statement.now) }
+    ensures { OnOk result (Built scope.now.word steps.old steps.new (statements (model_of_stmt statement.now)) (λ last.
+        Laid scope.now.word scope.now.table last (model_of_stmt statement.now) (length steps.old) next)) }
 {
     match statement {
-        Stmt::Assign { place, value } => {
-            push_assign(alloc, word, table, steps, place, value, next)
-        }
+        Stmt::Assign { place, value } => { push_assign(alloc, scope, steps, place, value, next) }
         Stmt::If { test, yes, no } => {
             let tree = steps.len();
             let on_true = entry(yes, tree + 1, next);
             match no {
                 None => {
-                    push_test(alloc, word, table, steps, test, on_true, next)?;
-                    build_block(alloc, word, table, steps, yes, next)
+                    push_test(alloc, scope, steps, test, on_true, next)?;
+                    build_block(alloc, scope, steps, yes, next)
                 }
                 Some(other) => {
                     let on_false = entry(other, tree + 1 + trees_in(yes), next);
-                    push_test(alloc, word, table, steps, test, on_true, on_false)?;
-                    build_block(alloc, word, table, steps, yes, next)?;
-                    build_block(alloc, word, table, steps, other, next)
+                    push_test(alloc, scope, steps, test, on_true, on_false)?;
+                    build_block(alloc, scope, steps, yes, next)?;
+                    build_block(alloc, scope, steps, other, next)
                 }
             }
         }
         Stmt::While { test, body } => {
             let tree = steps.len();
             let on_true = entry(body, tree + 1, tree);
-            push_test(alloc, word, table, steps, test, on_true, next)?;
-            build_block(alloc, word, table, steps, body, tree)
+            push_test(alloc, scope, steps, test, on_true, next)?;
+            build_block(alloc, scope, steps, body, tree)
         }
         Stmt::For {
             counter,
@@ -232,10 +226,10 @@ pub fn build(
             let tree = steps.len();
             let step = tree + 2 + trees_in(body);
             let on_true = entry(body, tree + 2, step);
-            push_start(table, word, steps, counter, *from, tree + 1)?;
-            push_counting(table, word, steps, counter, *to, on_true, next)?;
-            build_block(alloc, word, table, steps, body, step)?;
-            push_step(alloc, word, table, steps, counter, tree + 1)
+            push_start(scope, steps, counter, *from, tree + 1)?;
+            push_counting(scope, steps, counter, *to, on_true, next)?;
+            build_block(alloc, scope, steps, body, step)?;
+            push_step(alloc, scope, steps, counter, tree + 1)
         }
     }
 }
@@ -244,21 +238,21 @@ pub fn build(
 #[cycle(build)]
 pub fn build_block(
     alloc: Global,
-    word: u8,
-    table: &SymbolTable<'_>,
+    scope: &Scope<'_>,
     steps: &mut Items<Step>,
     block: &[Stmt],
     next: usize,
 ) -> Result<(), NoMemory>
-    requires ready { Ready word steps.old (statements_in (stmts_of (map model_of_stmt block.now))) next }
-    requires fits { FitsStmts word (stmts_of (map model_of_stmt block.now)) }
-    ensures { OnOk result (Built word steps.old steps.new (statements_in (stmts_of (map model_of_stmt block.now))) (λ last.
-        LaidIn word table.now last (stmts_of (map model_of_stmt block.now)) (length steps.old) next)) }
+    requires ready { Ready scope.now.word steps.old (statements_in (stmts_of (map model_of_stmt block.now))) next }
+    requires fits { FitsStmts scope.now.word (stmts_of (map model_of_stmt block.now)) }
+    ensures { OnOk result (Built scope.now.word steps.old steps.new
+        (statements_in (stmts_of (map model_of_stmt block.now))) (λ last.
+        LaidIn scope.now.word scope.now.table last (stmts_of (map model_of_stmt block.now)) (length steps.old) next)) }
 {
     let mut left = block;
     while let Some((statement, rest)) = left.split_first() {
         let after = entry(rest, steps.len() + trees(statement), next);
-        build(alloc, word, table, steps, statement, after)?;
+        build(alloc, scope, steps, statement, after)?;
         left = rest;
     }
     Ok(())

@@ -12,7 +12,7 @@
 //!
 //! Files:
 //!
-//! - `table`: the cells of variables, by their names.
+//! - `table`: the cells of variables, by their names, and the scope in which names are resolved.
 //! - `formula`: expressions with cells in place of names, and their values.
 //! - `resolve`: expressions of a program as formulas.
 //! - `machine`: a program as steps, and a run through them.

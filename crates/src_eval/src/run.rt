@@ -5,7 +5,7 @@ ghost use Rattle.src_eval.specs.Inner.Props.{kept_prop};
 
 use crate::build::build_block;
 use crate::machine::Machine;
-use crate::table::declare;
+use crate::table::{Scope, declare};
 use rec_bits::{Items, NoMemory};
 use src_model::{Checkpoint, Store, Typed};
 use std::alloc::Global;
@@ -36,8 +36,9 @@ impl<'a> Runner<'a> {
         let word = typed.width();
         let program = typed.program();
         let table = declare(alloc, program.vars.as_slice())?;
+        let scope = Scope { word, table };
         let mut steps = Items::new(alloc);
-        build_block(alloc, word, &table, &mut steps, &program.body, usize::MAX)?;
+        build_block(alloc, &scope, &mut steps, &program.body, usize::MAX)?;
         let machine = Machine {
             typed,
             steps,

@@ -57,3 +57,12 @@ pub fn declare<'a>(alloc: Global, vars: &'a [Var]) -> Result<SymbolTable<'a>, No
     }
     Ok(SymbolTable { vars, first, total })
 }
+
+/// Where the names of a program are resolved.
+#[derive(Drop)]
+pub struct Scope<'a> {
+    /// The width of a word, in bits.
+    pub word: u8,
+    /// The cells of the program's variables.
+    pub table: SymbolTable<'a>,
+}

@@ -52,6 +52,6 @@ text_long ts l t =
     let k : length t.value ≤ length t.front = lines_long t.front t.value t.first in
     omega (arith, ap length t.parts, length-append t.front t.back, ap (λ (m : ProgramModel). length m.vars) t.second.second.same)
 
-pub few_variables : (bytes : List ℕ) (listing : ProgramModel) → IsSrcText bytes listing → length listing.vars ≤ length bytes
-few_variables bytes listing text =
-    omega (arith, text_long (src_lexed bytes) listing text.spelled, few_words reserved_of sign_word programs bytes)
+pub few_variables : (bytes : List ℕ) (program : ProgramModel) → IsSrcText bytes program → length program.vars ≤ length bytes
+few_variables bytes program text =
+    omega (arith, text_long (src_lexed bytes) program text.spelled, few_words reserved_of sign_word programs bytes)

@@ -132,10 +132,10 @@ named_lines ts vars named (some {us = us} {b = b} {zs = zs} {w = w} is rest) =
     let both = named_parts us zs named in
     all_append IsNamed b w (named_decls us b both.0 is) (named_lines zs w both.1 rest)
 
-named_text : (ts : List Lexed) (listing : ProgramModel) → NamedTokens ts → IsProgram ts listing → AreNamed listing.vars
-named_text ts listing named is =
+named_text : (ts : List Lexed) (program : ProgramModel) → NamedTokens ts → IsProgram ts program → AreNamed program.vars
+named_text ts program named is =
     subst (λ (l : ProgramModel). AreNamed l.vars) (sym is.second.second.same) (named_lines is.front is.value (named_front is named) is.first)
 
 -- the variables of a program text are named by names
-pub source_names : (bytes : List ℕ) (listing : ProgramModel) → IsSrcText bytes listing → AreNamed listing.vars
-source_names bytes listing text = named_text (src_lexed bytes) listing (named_words bytes) text.spelled
+pub source_names : (bytes : List ℕ) (program : ProgramModel) → IsSrcText bytes program → AreNamed program.vars
+source_names bytes program text = named_text (src_lexed bytes) program (named_words bytes) text.spelled

@@ -11,20 +11,20 @@ use Rattle.src_front.specs.declared.front.SrcRefusal.{SrcRefusal}
 use Rattle.src_front.specs.declared.front.SrcRefusal.TheVariants.{Text, Fault, Memory}
 
 -- the bytes are a program text, of this listing and no other
-pub record SaysSrc (bytes : List ℕ) (listing : ProgramModel) : Type 0 where
-  pub text : IsSrcText bytes listing
-  pub only : (l : ProgramModel) → IsSrcText bytes l → listing ≡ l
+pub record SaysSrc (bytes : List ℕ) (program : ProgramModel) : Type 0 where
+  pub text : IsSrcText bytes program
+  pub only : (l : ProgramModel) → IsSrcText bytes l → program ≡ l
 
 -- the bytes are a program text, and it keeps the rules for words of `width` bits
-pub record IsSrcFile (bytes : List ℕ) (width : ℕ) (listing : ProgramModel) : Type 0 where
-  pub says : SaysSrc bytes listing
-  pub kept : first_fault width listing ≡ None
+pub record IsSrcFile (bytes : List ℕ) (width : ℕ) (program : ProgramModel) : Type 0 where
+  pub says : SaysSrc bytes program
+  pub kept : first_fault width program ≡ None
 
 -- the bytes are a program text, and this is the first rule that it breaks
 pub record BreaksSrcRule (bytes : List ℕ) (width : ℕ) (fault : SrcFault) : Type 0 where
-  pub listing : ProgramModel
-  pub says : SaysSrc bytes listing
-  pub broken : first_fault width listing ≡ Some fault
+  pub program : ProgramModel
+  pub says : SaysSrc bytes program
+  pub broken : first_fault width program ≡ Some fault
 
 -- why the bytes are no program's; nothing is said where memory ran out
 abbrev pub IsSrcRefusal : List ℕ → ℕ → SrcRefusal → Type 0

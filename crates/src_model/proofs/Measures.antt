@@ -24,7 +24,7 @@ measured_append word xs ys n m =
 
 -- the sizes of a block, and of a list of statements
 abbrev pub stmts_measured : ℕ → StmtsModel → Sizes
-stmts_measured word acts = measured word (roots_in acts) (statements_in acts)
+stmts_measured word stmts = measured word (roots_in stmts) (statements_in stmts)
 
 abbrev pub list_measured : ℕ → List Stmt → Sizes
 list_measured word list = stmts_measured word (stmts_of (map model_of_stmt list))
@@ -47,14 +47,14 @@ module _ (word : ℕ) where
   same_is_word : (n : ℕ) → is_word n n ≡ 1
   same_is_word n = ap (λ b. if b then 1 else 0) (eq-eqb n n refl)
 
-  for_whole : (counter : List ℕ) (at from to : ℕ) (acts : StmtsModel) → measured word (start_roots counter at from to ++ roots_in acts ++ step_roots counter at) (3 + statements_in acts) ≡ together for_sizes (stmts_measured word acts)
-  for_whole counter at from to acts =
+  for_whole : (counter : List ℕ) (at from to : ℕ) (stmts : StmtsModel) → measured word (start_roots counter at from to ++ roots_in stmts ++ step_roots counter at) (3 + statements_in stmts) ≡ together for_sizes (stmts_measured word stmts)
+  for_whole counter at from to stmts =
       let one = same_is_word word in
-      let a : capped (3 + statements_in acts) ≡ capped (3 + capped (statements_in acts)) = omega arith in
-      let b : capped (greatest nodes_of (start_roots counter at from to ++ roots_in acts ++ step_roots counter at)) ≡ max 5 (capped (greatest nodes_of (roots_in acts)))
-      = omega (arith, greatest_append nodes_of (roots_in acts) (step_roots counter at)) in
-      let d : capped (greatest (temps_of word) (start_roots counter at from to ++ roots_in acts ++ step_roots counter at)) ≡ max 3 (capped (greatest (temps_of word) (roots_in acts)))
-      = omega (arith, one, greatest_append (temps_of word) (roots_in acts) (step_roots counter at)) in
+      let a : capped (3 + statements_in stmts) ≡ capped (3 + capped (statements_in stmts)) = omega arith in
+      let b : capped (greatest nodes_of (start_roots counter at from to ++ roots_in stmts ++ step_roots counter at)) ≡ max 5 (capped (greatest nodes_of (roots_in stmts)))
+      = omega (arith, greatest_append nodes_of (roots_in stmts) (step_roots counter at)) in
+      let d : capped (greatest (temps_of word) (start_roots counter at from to ++ roots_in stmts ++ step_roots counter at)) ≡ max 3 (capped (greatest (temps_of word) (roots_in stmts)))
+      = omega (arith, one, greatest_append (temps_of word) (roots_in stmts) (step_roots counter at)) in
       λ j. record { statements = a j; nodes = b j; temps = d j }
 
   pub for_measured : (s : Stmt) (counter : List ℕ) (at from to : ℕ) (body : Vec Stmt Global) → s ≡ For counter at from to body → stmt_measured word s ≡ together for_sizes (list_measured word body.items)

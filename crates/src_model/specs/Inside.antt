@@ -80,4 +80,4 @@ unfoldable mutual
 -- the first m checkpoints that a program passes from a store before it uses an index that doesn't
 -- lie in its array
 abbrev pub strace_inside : ℕ → ProgramModel → List ℕ → ℕ → List Passed
-strace_inside word listing cells m = all_inside word listing.vars (stmts_of listing.body) 0 finish m cells
+strace_inside word program cells m = all_inside word program.vars (stmts_of program.body) 0 finish m cells

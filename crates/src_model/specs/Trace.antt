@@ -57,4 +57,4 @@ unfoldable mutual
 
 -- the first m checkpoints that a program passes from a store, or all of them where there are fewer
 abbrev pub strace : ℕ → ProgramModel → List ℕ → ℕ → List Passed
-strace word listing cells m = run_in word listing.vars (stmts_of listing.body) 0 finish m cells
+strace word program cells m = run_in word program.vars (stmts_of program.body) 0 finish m cells

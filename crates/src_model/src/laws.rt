@@ -10,7 +10,7 @@ ghost use Rattle.src_model.specs.Inside.{strace_inside};
 /// In each run of a program that keeps the rules every index lies in its array: one that would stop
 /// at the first index that doesn't passes the same checkpoints.
 pub fn law_of_indexes()
-    ensures { (word : ℕ) (listing : ProgramModel) (cells : List ℕ) (m : ℕ) →
-        first_fault word listing ≡ None → FitsStore word listing.vars cells →
-        strace_inside word listing cells m ≡ strace word listing cells m }
+    ensures { (word : ℕ) (program : ProgramModel) (cells : List ℕ) (m : ℕ) →
+        first_fault word program ≡ None → FitsStore word program.vars cells →
+        strace_inside word program cells m ≡ strace word program cells m }
 {}

@@ -13,8 +13,8 @@ abbrev pub src_lexed : List ℕ → List Lexed
 src_lexed bytes = src_words bytes (src_tokens bytes)
 
 -- the bytes are a program text, of these declarations and statements
-pub record IsSrcText (bytes : List ℕ) (listing : ProgramModel) : Type 0 where
-  pub spelled : IsProgram (src_lexed bytes) listing
+pub record IsSrcText (bytes : List ℕ) (program : ProgramModel) : Type 0 where
+  pub spelled : IsProgram (src_lexed bytes) program
 
 -- the bytes are none: the offset of the first token with which those before it begin no text any
 -- more, or the length of the bytes

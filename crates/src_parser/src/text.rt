@@ -20,8 +20,8 @@ pub fn read(alloc: Global, bytes: &[u8]) -> Result<Program, ParseFault>
     ensures found { IfOk result (λ program. IsSrcText bytes.now (model_of_program program)) }
 
     // Whatever they say is answered, and nothing else, unless memory runs out.
-    ensures only { (listing : ProgramModel) → IsSrcText bytes.now listing →
-        MatchResult result (λ program. model_of_program program ≡ listing) (λ fault. fault ≡ ParseFault.Memory) }
+    ensures only { (model : ProgramModel) → IsSrcText bytes.now model →
+        MatchResult result (λ program. model_of_program program ≡ model) (λ fault. fault ≡ ParseFault.Memory) }
 
     // Where they are no text, the fault is at the first token that shows it.
     ensures fault { IfErr result (IsSrcTextFault bytes.now) }

@@ -35,8 +35,8 @@ fn program(alloc: Global, ts: &[Lexed]) -> Result<(Program, &[Lexed]), ParseStop
 /// The program that the tokens spell.
 fn text(alloc: Global, ts: &[Lexed]) -> Result<Program, ParseStop>
     ensures found { IfOk result (λ program. IsProgram ts.now (model_of_program program)) }
-    ensures only { (listing : ProgramModel) → IsProgram ts.now listing →
-        MatchResult result (λ program. model_of_program program ≡ listing) (λ stop. stop ≡ ParseStop.Memory) }
+    ensures only { (model : ProgramModel) → IsProgram ts.now model →
+        MatchResult result (λ program. model_of_program program ≡ model) (λ stop. stop ≡ ParseStop.Memory) }
     ensures fault { IfErr result (IsStop IsProgram ts.now) }
 {
     let (program, rest) = program(alloc, ts)?;
@@ -55,8 +55,8 @@ pub fn parse(alloc: Global, bytes: &[u8], tokens: &Items<Token>) -> Result<Progr
     ensures found { IfOk result (λ program. IsProgram (src_words bytes.now tokens.now) (model_of_program program)) }
 
     // Whatever they spell is answered, and nothing else, unless memory runs out.
-    ensures only { (listing : ProgramModel) → IsProgram (src_words bytes.now tokens.now) listing →
-        MatchResult result (λ program. model_of_program program ≡ listing) (λ fault. fault ≡ ParseFault.Memory) }
+    ensures only { (model : ProgramModel) → IsProgram (src_words bytes.now tokens.now) model →
+        MatchResult result (λ program. model_of_program program ≡ model) (λ fault. fault ≡ ParseFault.Memory) }
 
     // Where they spell nothing, the fault is at the first token that shows it.
     ensures fault { IfErr result (IsParseFault IsProgram bytes.now (src_words bytes.now tokens.now)) }

@@ -64,8 +64,8 @@ module _ (at : ℕ) (cells others : List ℕ) (alike : Alike at cells others) wh
   aim_lies filed l = tt
   aim_lies tested l = tt
 
-  pub lies_behind : (work : JobModel) → Lies at cells work → Lies at others work
-  lies_behind work l = let e = alike.long in let b = l.below in record { reads = all_read work.trees l.reads; destination = aim_lies work.destination l.destination; below = omega (arith, b, e) }
+  pub lies_behind : (job : JobModel) → Lies at cells job → Lies at others job
+  lies_behind job l = let e = alike.long in let b = l.below in record { reads = all_read job.trees l.reads; destination = aim_lies job.destination l.destination; below = omega (arith, b, e) }
 
   job_behind : (trees : List ExprModel) → AllRead at cells trees → job_value cells trees ≡ job_value others trees
   job_behind [] r = refl
@@ -86,10 +86,10 @@ set_alike at a b v w cells others k le e f =
     }
 
 -- a job keeps that
-pub done_behind : (at : ℕ) (cells others : List ℕ) (work : JobModel) → Alike at cells others → Lies at cells work → Alike at (done work cells) (done work others)
-done_behind at cells others work k l = by work.destination l.destination (job_behind at cells others k work.trees l.reads)
+pub done_behind : (at : ℕ) (cells others : List ℕ) (job : JobModel) → Alike at cells others → Lies at cells job → Alike at (done job cells) (done job others)
+done_behind at cells others job k l = by job.destination l.destination (job_behind at cells others k job.trees l.reads)
   where
-    by : (destination : DestinationModel) → DestinationLies at cells destination → job_value cells work.trees ≡ job_value others work.trees → Alike at (put_at destination (job_value cells work.trees) cells) (put_at destination (job_value others work.trees) others)
+    by : (destination : DestinationModel) → DestinationLies at cells destination → job_value cells job.trees ≡ job_value others job.trees → Alike at (put_at destination (job_value cells job.trees) cells) (put_at destination (job_value others job.trees) others)
     by (cell a) h v = set_alike at a a _ _ cells others k h.0 refl v
     by (stored t) h v = set_alike at (tree_value cells t) (tree_value others t) _ _ cells others k h.1 (value_behind at cells others k t h.0) v
     by (into id) h v = k
@@ -98,10 +98,10 @@ done_behind at cells others work k l = by work.destination l.destination (job_be
     by tested h v = k
 
 -- and so do jobs one after the other
-pub all_done_behind : (at : ℕ) (cells others : List ℕ) (works : List JobModel) → Alike at cells others → AllLie at cells works → Alike at (all_done works cells) (all_done works others)
+pub all_done_behind : (at : ℕ) (cells others : List ℕ) (jobs : List JobModel) → Alike at cells others → AllLie at cells jobs → Alike at (all_done jobs cells) (all_done jobs others)
 all_done_behind at cells others [] k l = k
-all_done_behind at cells others (work ∷ later) k l = all_done_behind at (done work cells) (done work others) later (done_behind at cells others work k l.0) l.1
+all_done_behind at cells others (job ∷ later) k l = all_done_behind at (done job cells) (done job others) later (done_behind at cells others job k l.0) l.1
 
-pub all_lie_behind : (at : ℕ) (cells others : List ℕ) (works : List JobModel) → Alike at cells others → AllLie at cells works → AllLie at others works
+pub all_lie_behind : (at : ℕ) (cells others : List ℕ) (jobs : List JobModel) → Alike at cells others → AllLie at cells jobs → AllLie at others jobs
 all_lie_behind at cells others [] k l = tt
-all_lie_behind at cells others (work ∷ later) k l = (lies_behind at cells others k work l.0, all_lie_behind at (done work cells) (done work others) later (done_behind at cells others work k l.0) l.1)
+all_lie_behind at cells others (job ∷ later) k l = (lies_behind at cells others k job l.0, all_lie_behind at (done job cells) (done job others) later (done_behind at cells others job k l.0) l.1)

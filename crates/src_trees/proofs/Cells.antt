@@ -251,8 +251,8 @@ put_below P None v cells less h = h
 put_below P (Some address) v cells less h = set_below P cells address v less h
 
 -- a job whose value fits leaves cells that fit
-pub done_words : (P : ℕ) (work : JobModel) (cells : List ℕ) → ((k : ℕ) → slice_index cells k < P) → job_value cells work.trees < P → (k : ℕ) → slice_index (done work cells) k < P
-done_words P work cells h less = put_below P (destination_cell cells work.destination) (job_value cells work.trees) cells less h
+pub done_words : (P : ℕ) (job : JobModel) (cells : List ℕ) → ((k : ℕ) → slice_index cells k < P) → job_value cells job.trees < P → (k : ℕ) → slice_index (done job cells) k < P
+done_words P job cells h less = put_below P (destination_cell cells job.destination) (job_value cells job.trees) cells less h
 
 -- ---- variables behind each other
 

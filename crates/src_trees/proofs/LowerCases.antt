@@ -11,11 +11,11 @@ use Rattle.src_model.proofs.Views.{stmt_If, stmt_While, stmt_For, else_stmts}
 use Rattle.code_model.specs.declared.image.Place.{Place as VariablePlace}
 use Rattle.form_model.specs.declared.trees.Job.{Job}
 use Rattle.form_model.specs.declared.flow.Flow.{Flow}
-use Rattle.src_trees.specs.Lowered.{MemoryMap, JobModel, works, jobs_in}
+use Rattle.src_trees.specs.Lowered.{MemoryMap, JobModel, stmt_jobs, jobs_in}
 use Rattle.src_trees.specs.Flows.{places_for, flow_in}
 use Rattle.src_trees.specs.Jobs.{models_of_jobs}
 use Rattle.src_trees.specs.Inner.Lowering.{IsPlain, ArePlain, IsReady, IsLowered, AreLowered}
-use Rattle.src_trees.proofs.Parts.{flow_length, in_length, works_length, works_in_length}
+use Rattle.src_trees.proofs.Parts.{flow_length, in_length, stmt_jobs_length, jobs_in_length}
 use Rattle.src_trees.proofs.LowerLemmas.{places_few, in_few, jobs_length}
 
 -- ---- what statements are
@@ -52,7 +52,7 @@ pub record Counted (list : StmtsModel) (old new : List Job) (made : List Flow) :
 
 pub counted : (m : MemoryMap) (list : StmtsModel) (at : ℕ) (old new : List Job) (flow : List Flow) → AreLowered m list at old new flow → Counted list old new flow
 counted m list at old new flow h = record {
-  jobs = let x = jobs_length new in let y = jobs_length old in let z = ap length h.jobs_are in let w = length-append (models_of_jobs old) (jobs_in m list) in let v = works_in_length m list in omega (arith, x, y, z, w, v);
+  jobs = let x = jobs_length new in let y = jobs_length old in let z = ap length h.jobs_are in let w = length-append (models_of_jobs old) (jobs_in m list) in let v = jobs_in_length m list in omega (arith, x, y, z, w, v);
   flow = let e = ap length h.flow_is in let l = in_length list (length old) at in let f = in_few list in omega (arith, e, l, f);
 }
 
@@ -105,7 +105,7 @@ module _ (word : ℕ) (places : List VariablePlace) (a : StmtModel) (at : ℕ) (
 
 module _ (m : MemoryMap) (left rest : List Stmt) (s : Stmt) (is : left ≡ s ∷ rest) (place n : ℕ) (jobs next : List Job) (more : List Flow) (h : IsLowered m (model_of_stmt s) place jobs next more) (e : n ≡ length more) where
   next_long : length next ≡ length jobs + statements (model_of_stmt s)
-  next_long = let x = jobs_length next in let y = jobs_length jobs in let z = ap length h.jobs_are in let w = length-append (models_of_jobs jobs) (works m (model_of_stmt s)) in let v = works_length m (model_of_stmt s) in omega (arith, x, y, z, w, v)
+  next_long = let x = jobs_length next in let y = jobs_length jobs in let z = ap length h.jobs_are in let w = length-append (models_of_jobs jobs) (stmt_jobs m (model_of_stmt s)) in let v = stmt_jobs_length m (model_of_stmt s) in omega (arith, x, y, z, w, v)
 
   more_long : n ≡ places_for (model_of_stmt s)
   more_long = e ∙ ap length h.flow_is ∙ flow_length (model_of_stmt s) (length jobs) place
@@ -118,7 +118,7 @@ module _ (m : MemoryMap) (left rest : List Stmt) (s : Stmt) (is : left ≡ s ∷
       ∙ ap (λ l. flow ++ flow_in (block_stmts l) (length jobs) place) (sym is) ∙ w
 
   pub jobs_on : (whole : List JobModel) → models_of_jobs jobs ++ jobs_in m (block_stmts left) ≡ whole → models_of_jobs next ++ jobs_in m (block_stmts rest) ≡ whole
-  jobs_on whole w = ap (λ xs. xs ++ jobs_in m (block_stmts rest)) h.jobs_are ∙ append_assoc (models_of_jobs jobs) (works m (model_of_stmt s)) (jobs_in m (block_stmts rest)) ∙ ap (λ l. models_of_jobs jobs ++ jobs_in m (block_stmts l)) (sym is) ∙ w
+  jobs_on whole w = ap (λ xs. xs ++ jobs_in m (block_stmts rest)) h.jobs_are ∙ append_assoc (models_of_jobs jobs) (stmt_jobs m (model_of_stmt s)) (jobs_in m (block_stmts rest)) ∙ ap (λ l. models_of_jobs jobs ++ jobs_in m (block_stmts l)) (sym is) ∙ w
 
   pub ready_on : IsReady place jobs (statements_in (block_stmts left)) → IsReady (place + n) next (statements_in (block_stmts rest))
   ready_on r =

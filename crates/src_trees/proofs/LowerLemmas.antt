@@ -11,7 +11,7 @@ use Rattle.src_trees.specs.Lowered.{MemoryMap, JobModel, job_of_test, job_of_sta
 use Rattle.src_trees.specs.Flows.{places_for, places_in, places_else, asked, flow_in}
 use Rattle.src_trees.specs.Jobs.{model_of_job, models_of_jobs}
 use Rattle.src_trees.specs.Inner.Lowering.{IsLowered, AreLowered}
-use Rattle.src_trees.proofs.Parts.{in_length, works_in_length}
+use Rattle.src_trees.proofs.Parts.{in_length, jobs_in_length}
 
 -- ---- counts
 
@@ -35,19 +35,19 @@ jobs_more [] job = refl
 jobs_more (j ∷ old) job = ap (λ xs. model_of_job j ∷ xs) (jobs_more old job)
 
 -- a job more
-record Pushed (old new : List Job) (work : JobModel) : Type 0 where
+record Pushed (old new : List Job) (job : JobModel) : Type 0 where
   long : length new ≡ length old + 1
-  jobs : models_of_jobs new ≡ models_of_jobs old ++ work ∷ []
+  jobs : models_of_jobs new ≡ models_of_jobs old ++ job ∷ []
 
-pushed : (old new : List Job) (job : Job) (work : JobModel) → new ≡ old ++ job ∷ [] → model_of_job job ≡ work → Pushed old new work
-pushed old new job work e t = record {
+pushed : (old new : List Job) (job : Job) (model : JobModel) → new ≡ old ++ job ∷ [] → model_of_job job ≡ model → Pushed old new model
+pushed old new job model e t = record {
   long = ap length e ∙ length-append old (job ∷ []);
   jobs = ap models_of_jobs e ∙ jobs_more old job ∙ ap (λ x. models_of_jobs old ++ x ∷ []) t;
 }
 
 -- and the jobs of statements
-then_jobs : (old one two : List Job) (work : JobModel) (more : List JobModel) → Pushed old one work → models_of_jobs two ≡ models_of_jobs one ++ more → models_of_jobs two ≡ models_of_jobs old ++ (work ∷ more)
-then_jobs old one two work more p e = e ∙ ap (λ xs. xs ++ more) p.jobs ∙ append_assoc (models_of_jobs old) (work ∷ []) more
+then_jobs : (old one two : List Job) (job : JobModel) (more : List JobModel) → Pushed old one job → models_of_jobs two ≡ models_of_jobs one ++ more → models_of_jobs two ≡ models_of_jobs old ++ (job ∷ more)
+then_jobs old one two job more p e = e ∙ ap (λ xs. xs ++ more) p.jobs ∙ append_assoc (models_of_jobs old) (job ∷ []) more
 
 pub jobs_length : (jobs : List Job) → length (models_of_jobs jobs) ≡ length jobs
 jobs_length [] = refl
@@ -87,7 +87,7 @@ module _ (m : MemoryMap) (a : StmtModel) (at : ℕ) (old : List Job) where
         let i : inner ≡ flow_in taken (length old + 1) (at + 1) = b.flow_is ∙ ap (λ x. flow_in taken x (at + 1)) q.long in
         let l : length inner ≡ places_in taken = ap length i ∙ in_length taken (length old + 1) (at + 1) in
         let two_long : length two ≡ length old + 1 + statements_in taken =
-        (let x = jobs_length two in let y = jobs_length one in let z = ap length b.jobs_are in let w = length-append (models_of_jobs one) (jobs_in m taken) in let v = works_in_length m taken in let u = q.long in omega (arith, x, y, z, w, v, u)) in
+        (let x = jobs_length two in let y = jobs_length one in let z = ap length b.jobs_are in let w = length-append (models_of_jobs one) (jobs_in m taken) in let v = jobs_in_length m taken in let u = q.long in omega (arith, x, y, z, w, v, u)) in
         let g : after ≡ flow_in other (length old + 1 + statements_in taken) (at + 1 + places_in taken + 1) = c.flow_is ∙ (λ j. flow_in other (two_long j) (at + 1 + l j + 1)) in
         let h : length after ≡ places_in other = ap length g ∙ in_length other (length old + 1 + statements_in taken) (at + 1 + places_in taken + 1) in
         subst (λ x. IsLowered m x at old three flow) (sym is)
@@ -108,7 +108,7 @@ module _ (m : MemoryMap) (a : StmtModel) (at : ℕ) (old : List Job) where
       let i : inner ≡ flow_in body (length old + 2) (at + 2) = b.flow_is ∙ ap (λ x. flow_in body x (at + 2)) two_long in
       let l : length inner ≡ places_in body = ap length i ∙ in_length body (length old + 2) (at + 2) in
       let three_long : length three ≡ length old + 2 + statements_in body =
-      (let x = jobs_length three in let y = jobs_length two in let z = ap length b.jobs_are in let w = length-append (models_of_jobs two) (jobs_in m body) in let v = works_in_length m body in omega (arith, x, y, z, w, v, two_long)) in
+      (let x = jobs_length three in let y = jobs_length two in let z = ap length b.jobs_are in let w = length-append (models_of_jobs two) (jobs_in m body) in let v = jobs_in_length m body in omega (arith, x, y, z, w, v, two_long)) in
       let e : k ≡ length old + 2 + statements_in body = ek ∙ three_long in
       let jobs : models_of_jobs three ≡ models_of_jobs old ++ (job_of_start m counter from ∷ (job_of_counting m counter from_at to ∷ jobs_in m body)) =
       then_jobs old one three (job_of_start m counter from) (job_of_counting m counter from_at to ∷ jobs_in m body) q1 (then_jobs one two three (job_of_counting m counter from_at to) (jobs_in m body) q2 b.jobs_are) in

@@ -25,7 +25,7 @@ use Rattle.src_model.specs.Sizes.{Root, value, assigned_root, indexed_root, comp
 use Rattle.src_model.specs.Rules.{first_fault, temp_count}
 use Rattle.form_model.specs.Trees.{is_tree, is_number}
 use Rattle.form_model.specs.Forms.{cell, tested}
-use Rattle.src_trees.specs.Lowered.{MemoryMap, JobModel, base_of, narrowed, computed_address, element_address, tree_of, element_destination, assigned_destination, job_of_assign, compared_trees, job_of_step, works, jobs_in, jobs_else}
+use Rattle.src_trees.specs.Lowered.{MemoryMap, JobModel, base_of, narrowed, computed_address, element_address, tree_of, element_destination, assigned_destination, job_of_assign, compared_trees, job_of_step, stmt_jobs, jobs_in, jobs_else}
 use Rattle.src_model.specs.Inner.Sound.{Sound, SoundIn, SoundElse}
 use Rattle.form_model.specs.WideNodes.{wide_nodes, wide_below}
 use Rattle.src_trees.specs.Measures.{TreesAre, IsSmall, AllSmall}
@@ -294,7 +294,7 @@ module _ (m : MemoryMap) (vars : List Declared) (some : 1 ≤ m.addr) where
     greatest_parts f n (x ∷ xs) ys h = let r = greatest_parts f n xs ys (omega arith) in (omega (arith, r), r.1)
 
     mutual
-      stmt_small : (rounds : List Round) (a : StmtModel) → Sound m.word vars rounds a → greatest (temps_of m.word) (roots a) ≤ t → greatest nodes_of (roots a) ≤ most → AllSmall m.word t (2 * most) (works m a)
+      stmt_small : (rounds : List Round) (a : StmtModel) → Sound m.word vars rounds a → greatest (temps_of m.word) (roots a) ≤ t → greatest nodes_of (roots a) ≤ most → AllSmall m.word t (2 * most) (stmt_jobs m a)
       stmt_small rounds (assign place e) f h k = (assign_small place e f.left.fits f.right.fits (omega arith) (omega arith), tt)
       stmt_small rounds (choice test taken other) f h k =
           let p = greatest_parts (temps_of m.word) t (tested_roots test ++ roots_in taken) (roots_else other) h in
@@ -328,7 +328,7 @@ module _ (m : MemoryMap) (vars : List Declared) (some : 1 ≤ m.addr) where
       stmts_small rounds (act a rest) f h k =
           let p = greatest_parts (temps_of m.word) t (roots a) (roots_in rest) h in
           let q = greatest_parts nodes_of most (roots a) (roots_in rest) k in
-          all_small (works m a) (jobs_in m rest) (stmt_small rounds a f.0 p.0 q.0) (stmts_small rounds rest f.1 p.1 q.1)
+          all_small (stmt_jobs m a) (jobs_in m rest) (stmt_small rounds a f.0 p.0 q.0) (stmts_small rounds rest f.1 p.1 q.1)
 
       else_small : (rounds : List Round) (o : ElseModel) → SoundElse m.word vars rounds o → greatest (temps_of m.word) (roots_else o) ≤ t → greatest nodes_of (roots_else o) ≤ most → AllSmall m.word t (2 * most) (jobs_else m o)
       else_small rounds without f h k = tt

@@ -13,7 +13,7 @@ use Rattle.src_model.specs.Sizes.{Root, assigned_root, indexed_root, compared as
 use Rattle.src_model.specs.Rules.{node_count}
 use Rattle.src_model.proofs.Measures.{greatest_append}
 use Rattle.form_model.specs.Forms.{tested}
-use Rattle.src_trees.specs.Lowered.{MemoryMap, JobModel, base_of, narrowed, element_address, tree_of, element_destination, assigned_destination, compared_trees, job_of_step, works, jobs_in, jobs_else}
+use Rattle.src_trees.specs.Lowered.{MemoryMap, JobModel, base_of, narrowed, element_address, tree_of, element_destination, assigned_destination, compared_trees, job_of_step, stmt_jobs, jobs_in, jobs_else}
 use Rattle.src_trees.specs.Flows.{program_jobs}
 use Rattle.src_trees.specs.Measures.{node_size, trees_nodes, most_nodes}
 
@@ -106,7 +106,7 @@ module _ (m : MemoryMap) where
       record { most = omega (arith, a, b, h.most, k.most); same = λ lt. omega (arith, a, b, h.same lt, k.same lt) }
 
   mutual
-    stmt_counts : (a : StmtModel) → Has (most_nodes (works m a)) (greatest nodes_of (roots a))
+    stmt_counts : (a : StmtModel) → Has (most_nodes (stmt_jobs m a)) (greatest nodes_of (roots a))
     stmt_counts (assign place e) = let h = assign_counts place.name place.index e.shape in record { most = omega (arith, h.most); same = λ lt. omega (arith, h.same lt) }
     stmt_counts (choice test taken other) =
         let t = test_counts test in
@@ -131,7 +131,7 @@ module _ (m : MemoryMap) where
 
     in_counts : (list : StmtsModel) → Has (most_nodes (jobs_in m list)) (greatest nodes_of (roots_in list))
     in_counts no_acts = record { most = omega arith; same = λ lt. refl }
-    in_counts (act a rest) = both_count (works m a) (jobs_in m rest) (roots a) (roots_in rest) (stmt_counts a) (in_counts rest)
+    in_counts (act a rest) = both_count (stmt_jobs m a) (jobs_in m rest) (roots a) (roots_in rest) (stmt_counts a) (in_counts rest)
 
     else_counts : (o : ElseModel) → Has (most_nodes (jobs_else m o)) (greatest nodes_of (roots_else o))
     else_counts without = record { most = omega arith; same = λ lt. refl }

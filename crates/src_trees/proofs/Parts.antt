@@ -7,7 +7,7 @@ use Rattle.form_model.specs.Forms.{DestinationModel, into, cell, filed, stored, 
 use Rattle.net_model.specs.Exprs.{ExprModel}
 use Rattle.src_model.specs.Written.{StmtModel, assign, choice, while, count, StmtsModel, no_acts, act, ElseModel, without, otherwise}
 use Rattle.src_model.specs.Sizes.{statements, statements_in, statements_else}
-use Rattle.src_trees.specs.Lowered.{MemoryMap, JobModel, works, jobs_in, jobs_else, job_of_step}
+use Rattle.src_trees.specs.Lowered.{MemoryMap, JobModel, stmt_jobs, jobs_in, jobs_else, job_of_step}
 use Rattle.src_trees.specs.Flows.{places_for, places_in, places_else, flow_of, flow_in, flow_else}
 use Rattle.src_trees.specs.Doing.{put_at, done, all_done, Lies, AllLie, AllAre}
 use Rattle.src_trees.specs.Seen.{tree_value}
@@ -76,21 +76,21 @@ mutual
   else_length (otherwise body) tree at = let t = in_length body tree (at + 1) in omega (arith, t)
 
 mutual
-  pub works_length : (m : MemoryMap) (a : StmtModel) → length (works m a) ≡ statements a
-  works_length m (assign place e) = refl
-  works_length m (choice test taken other) = let t = works_in_length m taken in let o = works_else_length m other in omega (arith, length-append (jobs_in m taken) (jobs_else m other), t, o)
-  works_length m (while test body) = let t = works_in_length m body in omega (arith, t)
-  works_length m (count counter at from to body) =
-      let t = works_in_length m body in
+  pub stmt_jobs_length : (m : MemoryMap) (a : StmtModel) → length (stmt_jobs m a) ≡ statements a
+  stmt_jobs_length m (assign place e) = refl
+  stmt_jobs_length m (choice test taken other) = let t = jobs_in_length m taken in let o = jobs_else_length m other in omega (arith, length-append (jobs_in m taken) (jobs_else m other), t, o)
+  stmt_jobs_length m (while test body) = let t = jobs_in_length m body in omega (arith, t)
+  stmt_jobs_length m (count counter at from to body) =
+      let t = jobs_in_length m body in
       omega (arith, length-append (jobs_in m body) (job_of_step m counter ∷ []), t)
 
-  pub works_in_length : (m : MemoryMap) (list : StmtsModel) → length (jobs_in m list) ≡ statements_in list
-  works_in_length m no_acts = refl
-  works_in_length m (act a rest) = let t = works_length m a in let o = works_in_length m rest in omega (arith, length-append (works m a) (jobs_in m rest), t, o)
+  pub jobs_in_length : (m : MemoryMap) (list : StmtsModel) → length (jobs_in m list) ≡ statements_in list
+  jobs_in_length m no_acts = refl
+  jobs_in_length m (act a rest) = let t = stmt_jobs_length m a in let o = jobs_in_length m rest in omega (arith, length-append (stmt_jobs m a) (jobs_in m rest), t, o)
 
-  pub works_else_length : (m : MemoryMap) (o : ElseModel) → length (jobs_else m o) ≡ statements_else o
-  works_else_length m without = refl
-  works_else_length m (otherwise body) = works_in_length m body
+  pub jobs_else_length : (m : MemoryMap) (o : ElseModel) → length (jobs_else m o) ≡ statements_else o
+  jobs_else_length m without = refl
+  jobs_else_length m (otherwise body) = jobs_in_length m body
 
 -- ---- jobs one after the other
 

@@ -155,30 +155,30 @@ module _ (netlist : Netlist) (image : Image) (mem : MemoryMap) (temps : ℕ) (va
   -- ---- assignments
 
   -- a job that does what an assignment says
-  record Does (work : JobModel) (j k : Phase) (change : List ℕ → List ℕ) : Type 0 where
-    lies : (cells : List ℕ) → HoldsCells temps mem cells → Meets mem.word vars j (seen_store mem cells) → Lies temps cells work
-    is : (cells : List ℕ) → HoldsCells temps mem cells → Meets mem.word vars j (seen_store mem cells) → seen_store mem (done work cells) ≡ change (seen_store mem cells)
-    fits : (cells : List ℕ) → HoldsCells temps mem cells → Meets mem.word vars j (seen_store mem cells) → job_value cells work.trees < 2 ^ mem.word
+  record Does (job : JobModel) (j k : Phase) (change : List ℕ → List ℕ) : Type 0 where
+    lies : (cells : List ℕ) → HoldsCells temps mem cells → Meets mem.word vars j (seen_store mem cells) → Lies temps cells job
+    is : (cells : List ℕ) → HoldsCells temps mem cells → Meets mem.word vars j (seen_store mem cells) → seen_store mem (done job cells) ≡ change (seen_store mem cells)
+    fits : (cells : List ℕ) → HoldsCells temps mem cells → Meets mem.word vars j (seen_store mem cells) → job_value cells job.trees < 2 ^ mem.word
     keeps : (store : List ℕ) → Meets mem.word vars j store → Meets mem.word vars k (change store)
 
-  one_more : (i b n : ℕ) (c j k : Phase) (g change : List ℕ → List ℕ) (tree : ℕ) (work : JobModel) → slice_get flow i ≡ Some (Assign tree) → slice_get jobs tree ≡ Some work → Does work j k change
+  one_more : (i b n : ℕ) (c j k : Phase) (g change : List ℕ → List ℕ) (tree : ℕ) (job : JobModel) → slice_get flow i ≡ Some (Assign tree) → slice_get jobs tree ≡ Some job → Does job j k change
       → (n ≡ 0) ⊎ (continues flow i ≡ true) → Pending i b n c j g → Pending (i + 1) b (suc n) c k (λ cells. change (g cells))
-  one_more i b n c j k g change tree work at_flow at_jobs does inside p =
+  one_more i b n c j k g change tree job at_flow at_jobs does inside p =
       let h = p.here in
       let item : slice_get flow (b + n) ≡ Some (Assign tree) = ap (slice_get flow) h ∙ at_flow in
-      let more : jobs_at flow jobs b (suc n) ≡ jobs_at flow jobs b n ++ work ∷ [] =
+      let more : jobs_at flow jobs b (suc n) ≡ jobs_at flow jobs b n ++ job ∷ [] =
       ap (λ o. jobs_at flow jobs b n ++ job_at jobs o) item ∙ ap (λ o. jobs_at flow jobs b n ++ job_list o) at_jobs in
       record {
         here = omega arith;
         first = p.first;
         inner = λ x lt some. by_inner x lt some (order x n lt);
         assigns = λ x lt. by_assigns x item (order x n lt);
-        lie = λ s a m. subst (AllLie temps s.cells) (sym more) (all_lie_more temps (jobs_at flow jobs b n) work s.cells (p.lie s a m) (does.lies _ (long s a m) (met s a m)));
+        lie = λ s a m. subst (AllLie temps s.cells) (sym more) (all_lie_more temps (jobs_at flow jobs b n) job s.cells (p.lie s a m) (does.lies _ (long s a m) (met s a m)));
         store = λ s a m.
-            ap (λ ts. seen_store mem (all_done ts s.cells)) more ∙ ap (seen_store mem) (all_done_more (jobs_at flow jobs b n) work s.cells) ∙ does.is _ (long s a m) (met s a m) ∙ ap change (p.store s a m);
+            ap (λ ts. seen_store mem (all_done ts s.cells)) more ∙ ap (seen_store mem) (all_done_more (jobs_at flow jobs b n) job s.cells) ∙ does.is _ (long s a m) (met s a m) ∙ ap change (p.store s a m);
         meets = λ s a m. does.keeps _ (p.meets s a m);
-        words = λ s a m. subst (λ cells. (k : ℕ) → slice_index cells k < 2 ^ mem.word) (sym (ap (λ ts. all_done ts s.cells) more ∙ all_done_more (jobs_at flow jobs b n) work s.cells))
-            (done_words (2 ^ mem.word) work _ (p.words s a m) (does.fits _ (long s a m) (met s a m)));
+        words = λ s a m. subst (λ cells. (k : ℕ) → slice_index cells k < 2 ^ mem.word) (sym (ap (λ ts. all_done ts s.cells) more ∙ all_done_more (jobs_at flow jobs b n) job s.cells))
+            (done_words (2 ^ mem.word) job _ (p.words s a m) (does.fits _ (long s a m) (met s a m)));
       }
     where
       order : (x n : ℕ) → x < suc n → (x < n) ⊎ (x ≡ n)
@@ -206,14 +206,14 @@ module _ (netlist : Netlist) (image : Image) (mem : MemoryMap) (temps : ℕ) (va
       met : (s : State) → IsCalm netlist (starts b) s → Meets mem.word vars c (store_in image s) → Meets mem.word vars j (seen_store mem (all_done (jobs_at flow jobs b n) s.cells))
       met s a m = subst (Meets mem.word vars j) (sym (p.store s a m)) (p.meets s a m)
 
-  assigned_stands : (i : ℕ) (j k : Phase) (change : List ℕ → List ℕ) (tree : ℕ) (work : JobModel) (way : Onward) (m : ℕ) → i ≤ end → slice_get flow i ≡ Some (Assign tree) → slice_get jobs tree ≡ Some work → Does work j k change
+  assigned_stands : (i : ℕ) (j k : Phase) (change : List ℕ → List ℕ) (tree : ℕ) (job : JobModel) (way : Onward) (m : ℕ) → i ≤ end → slice_get flow i ≡ Some (Assign tree) → slice_get jobs tree ≡ Some job → Does job j k change
       → StandsIn (i + 1) k way m → StandsIn i j (after_change change way) m
-  assigned_stands i j k change tree work way m within at_flow at_jobs does h b n c g p = by (continues flow i) refl
+  assigned_stands i j k change tree job way m within at_flow at_jobs does h b n c g p = by (continues flow i) refl
     where
       by : (t : Bool) → continues flow i ≡ t → Stands netlist image (IsRestful netlist) (starts end) (starts end - starts b) (Stated b c) (λ more cells. after_change change way more (g cells)) m
-      by true e = h b (suc n) c (λ cells. change (g cells)) (one_more i b n c j k g change tree work at_flow at_jobs does (inr e) p)
+      by true e = h b (suc n) c (λ cells. change (g cells)) (one_more i b n c j k g change tree job at_flow at_jobs does (inr e) p)
       by false e =
-          closed i j (after_change change way) m within e (h i 1 j change (one_more i i 0 j j k (λ cells. cells) change tree work at_flow at_jobs does (inl refl) (nothing_pending i j e))) b n c g p
+          closed i j (after_change change way) m within e (h i 1 j change (one_more i i 0 j j k (λ cells. cells) change tree job at_flow at_jobs does (inl refl) (nothing_pending i j e))) b n c g p
 
   -- ---- jumps
 
@@ -245,9 +245,9 @@ module _ (netlist : Netlist) (image : Image) (mem : MemoryMap) (temps : ℕ) (va
   -- ---- tests
 
   -- a job whose trees tell a test, and what the store keeps behind it
-  record Tells (work : JobModel) (cmp : Cmp) (test : List ℕ → Bool) (j k other : Phase) : Type 0 where
-    lies : (cells : List ℕ) → HoldsCells temps mem cells → Meets mem.word vars j (seen_store mem cells) → Lies temps cells work
-    are : (cells : List ℕ) → HoldsCells temps mem cells → Meets mem.word vars j (seen_store mem cells) → AllAre (bit_of (answer cmp (test (seen_store mem cells)))) cells work.trees
+  record Tells (job : JobModel) (cmp : Cmp) (test : List ℕ → Bool) (j k other : Phase) : Type 0 where
+    lies : (cells : List ℕ) → HoldsCells temps mem cells → Meets mem.word vars j (seen_store mem cells) → Lies temps cells job
+    are : (cells : List ℕ) → HoldsCells temps mem cells → Meets mem.word vars j (seen_store mem cells) → AllAre (bit_of (answer cmp (test (seen_store mem cells)))) cells job.trees
     on_true : (store : List ℕ) → Meets mem.word vars j store → test store ≡ true → Meets mem.word vars k store
     on_false : (store : List ℕ) → Meets mem.word vars j store → test store ≡ false → Meets mem.word vars other store
 
@@ -258,9 +258,9 @@ module _ (netlist : Netlist) (image : Image) (mem : MemoryMap) (temps : ℕ) (va
     no_later : clocks ≤ starts no_to
     tests : (s : State) → Stated i j s → Tests netlist image tree test (Stated yes_to k) (Stated no_to other) clocks s
 
-  asking : (i tree yes_to no_to : ℕ) (work : JobModel) (cmp : Cmp) (test : List ℕ → Bool) (j k other : Phase) → slice_get flow i ≡ Some (asked cmp tree yes_to no_to) → slice_get jobs tree ≡ Some work
-      → Tells work cmp test j k other → Asking i tree yes_to no_to test j k other
-  asking i tree yes_to no_to work cmp test j k other at_flow at_jobs tells = by (holds_at_one cmp) refl at_flow
+  asking : (i tree yes_to no_to : ℕ) (job : JobModel) (cmp : Cmp) (test : List ℕ → Bool) (j k other : Phase) → slice_get flow i ≡ Some (asked cmp tree yes_to no_to) → slice_get jobs tree ≡ Some job
+      → Tells job cmp test j k other → Asking i tree yes_to no_to test j k other
+  asking i tree yes_to no_to job cmp test j k other at_flow at_jobs tells = by (holds_at_one cmp) refl at_flow
     where
       long : (s : State) → Stated i j s → HoldsCells temps mem s.cells
       long s q = held_in s q.0.here.state
@@ -268,15 +268,15 @@ module _ (netlist : Netlist) (image : Image) (mem : MemoryMap) (temps : ℕ) (va
       met : (s : State) → Stated i j s → Meets mem.word vars j (seen_store mem s.cells)
       met s q = subst (Meets mem.word vars j) (store_is s) q.1
 
-      value : (b : Bool) → holds_at_one cmp ≡ b → (s : State) → Stated i j s → (used : ExprModel) (which : ℕ) → slice_get work.trees which ≡ Some used → (h : Bool) → test (store_in image s) ≡ h
+      value : (b : Bool) → holds_at_one cmp ≡ b → (s : State) → Stated i j s → (used : ExprModel) (which : ℕ) → slice_get job.trees which ≡ Some used → (h : Bool) → test (store_in image s) ≡ h
           → tree_value s.cells used ≡ bit_of (if b then h else not h)
       value b e s q used which among h is =
-          all_are_at _ s.cells work.trees which used (tells.are s.cells (long s q) (met s q)) among
+          all_are_at _ s.cells job.trees which used (tells.are s.cells (long s q) (met s q)) among
           ∙ (λ x. bit_of (if e x then ((ap test (sym (store_is s)) ∙ is) x) else not ((ap test (sym (store_is s)) ∙ is) x)))
 
       by : (b : Bool) → holds_at_one cmp ≡ b → slice_get flow i ≡ Some (if b then Test tree yes_to no_to else Test tree no_to yes_to) → Asking i tree yes_to no_to test j k other
       by true e at_flow =
-          let d : DoesTest netlist image temps tree work (starts i) (starts yes_to) (starts no_to) = placed.tests i tree yes_to no_to at_flow work at_jobs in
+          let d : DoesTest netlist image temps tree job (starts i) (starts yes_to) (starts no_to) = placed.tests i tree yes_to no_to at_flow job at_jobs in
           let a = d.one_later in
           let b = d.zero_later in
           record {
@@ -294,7 +294,7 @@ module _ (netlist : Netlist) (image : Image) (mem : MemoryMap) (temps : ℕ) (va
                 };
           }
       by false e at_flow =
-          let d : DoesTest netlist image temps tree work (starts i) (starts no_to) (starts yes_to) = placed.tests i tree no_to yes_to at_flow work at_jobs in
+          let d : DoesTest netlist image temps tree job (starts i) (starts no_to) (starts yes_to) = placed.tests i tree no_to yes_to at_flow job at_jobs in
           let a = d.one_later in
           let b = d.zero_later in
           record {
@@ -344,17 +344,17 @@ module _ (netlist : Netlist) (image : Image) (mem : MemoryMap) (temps : ℕ) (va
     right = record { fits = f.right.fits; known = f.right.known; inside = inside mem.word vars store h.fits.below rounds h.counts mem.word e.shape f.right.fits f.right.known f.right.within };
   }
 
-  assign_does : (rounds : List Round) (place : SpotModel) (e : SrcExprModel) (work : JobModel) → SoundAssign mem.word vars rounds place e → DoesAssign mem temps vars place e work → Does work (body rounds) (body rounds) (assigned mem.word vars place e)
-  assign_does rounds place e work f d = record {
+  assign_does : (rounds : List Round) (place : SpotModel) (e : SrcExprModel) (job : JobModel) → SoundAssign mem.word vars rounds place e → DoesAssign mem temps vars place e job → Does job (body rounds) (body rounds) (assigned mem.word vars place e)
+  assign_does rounds place e job f d = record {
     lies = λ cells long h. d.lies cells long (can_assign rounds place e f (seen_store mem cells) h, f.width);
     is = λ cells long h. d.store cells long (can_assign rounds place e f (seen_store mem cells) h, f.width);
     fits = λ cells long h. d.fits cells long (can_assign rounds place e f (seen_store mem cells) h, f.width);
     keeps = λ store h. assign_holds mem.word vars rounds place e store f (can_assign rounds place e f store h).left.inside h;
   }
 
-  start_does : (rounds : List Round) (counter : List ℕ) (from to : ℕ) (work : JobModel) → SoundCount mem.word vars rounds counter from to → DoesStart mem temps vars counter from work
-      → Does work (body rounds) (turn rounds counter from to) (started vars counter from)
-  start_does rounds counter from to work f d =
+  start_does : (rounds : List Round) (counter : List ℕ) (from to : ℕ) (job : JobModel) → SoundCount mem.word vars rounds counter from to → DoesStart mem temps vars counter from job
+      → Does job (body rounds) (turn rounds counter from to) (started vars counter from)
+  start_does rounds counter from to job f d =
       let below : from < 2 ^ mem.word = omega (arith, f.fits.order, f.fits.below) in
       record {
         lies = λ cells long h. d.lies cells long (f.plain, below);
@@ -363,9 +363,9 @@ module _ (netlist : Netlist) (image : Image) (mem : MemoryMap) (temps : ℕ) (va
         keeps = λ store h. start_turns mem.word vars rounds counter from to f store h;
       }
 
-  step_does : (rounds : List Round) (counter : List ℕ) (from to : ℕ) (work : JobModel) → SoundCount mem.word vars rounds counter from to → DoesStep mem temps vars counter work
-      → Does work (body (record { counter = counter; from = from; to = to } ∷ rounds)) (turn rounds counter from to) (stepped mem.word vars counter)
-  step_does rounds counter from to work f d = record {
+  step_does : (rounds : List Round) (counter : List ℕ) (from to : ℕ) (job : JobModel) → SoundCount mem.word vars rounds counter from to → DoesStep mem temps vars counter job
+      → Does job (body (record { counter = counter; from = from; to = to } ∷ rounds)) (turn rounds counter from to) (stepped mem.word vars counter)
+  step_does rounds counter from to job f d = record {
     lies = λ cells long h. d.lies cells long f.plain;
     is = λ cells long h. d.store cells long f.plain;
     fits = λ cells long h. d.fits cells long f.plain;
@@ -383,8 +383,8 @@ module _ (netlist : Netlist) (image : Image) (mem : MemoryMap) (temps : ℕ) (va
         (inside mem.word vars store h.fits.below rounds h.counts _ test.right.shape f.sides.right f.right_known f.right_within);
   }
 
-  test_tells : (rounds : List Round) (test : Tested) (work : JobModel) → SoundTest mem.word vars rounds test → TellsTest mem temps vars test work → Tells work test.cmp (holds mem.word vars test) (body rounds) (body rounds) (body rounds)
-  test_tells rounds test work f d = record {
+  test_tells : (rounds : List Round) (test : Tested) (job : JobModel) → SoundTest mem.word vars rounds test → TellsTest mem temps vars test job → Tells job test.cmp (holds mem.word vars test) (body rounds) (body rounds) (body rounds)
+  test_tells rounds test job f d = record {
     lies = λ cells long h. d.lies cells long (can_test rounds test f (seen_store mem cells) h);
     are = λ cells long h. d.value cells long (can_test rounds test f (seen_store mem cells) h);
     on_true = λ store h e. h;
@@ -400,9 +400,9 @@ module _ (netlist : Netlist) (image : Image) (mem : MemoryMap) (temps : ℕ) (va
     inside = refl;
   }
 
-  counting_tells : (rounds : List Round) (counter : List ℕ) (at from to : ℕ) (work : JobModel) → SoundCount mem.word vars rounds counter from to → TellsTest mem temps vars (count_test counter at to) work
-      → Tells work Ne (counting vars counter to) (turn rounds counter from to) (body (record { counter = counter; from = from; to = to } ∷ rounds)) (body rounds)
-  counting_tells rounds counter at from to work f d = record {
+  counting_tells : (rounds : List Round) (counter : List ℕ) (at from to : ℕ) (job : JobModel) → SoundCount mem.word vars rounds counter from to → TellsTest mem temps vars (count_test counter at to) job
+      → Tells job Ne (counting vars counter to) (turn rounds counter from to) (body (record { counter = counter; from = from; to = to } ∷ rounds)) (body rounds)
+  counting_tells rounds counter at from to job f d = record {
     lies = λ cells long t. d.lies cells long (can_count rounds counter at from to f (seen_store mem cells) t);
     are = λ cells long t. d.value cells long (can_count rounds counter at from to f (seen_store mem cells) t);
     on_true = λ store t e. turn_holds mem.word vars rounds counter from to f store t e;
@@ -422,7 +422,7 @@ module _ (netlist : Netlist) (image : Image) (mem : MemoryMap) (temps : ℕ) (va
     stmt_stands : (rounds : List Round) (a : StmtModel) (tree at : ℕ) → Sound mem.word vars rounds a → at + places_for a ≤ end → Stand flow at (flow_of a tree at) → DoStmt mem temps vars jobs tree a → (way : Onward) (m : ℕ)
         → StandsIn (at + places_for a) (body rounds) way m → StandsIn at (body rounds) (run_stmt mem.word vars a tree way) m
     stmt_stands rounds (assign place e) tree at f le in_flow in_jobs way m h =
-        assigned_stands at (body rounds) (body rounds) (assigned mem.word vars place e) tree in_jobs.work way m (omega arith) in_flow.0 in_jobs.at (assign_does rounds place e in_jobs.work f in_jobs.is) h
+        assigned_stands at (body rounds) (body rounds) (assigned mem.word vars place e) tree in_jobs.job way m (omega arith) in_flow.0 in_jobs.at (assign_does rounds place e in_jobs.job f in_jobs.is) h
     stmt_stands rounds (choice test taken other) tree at f le in_flow in_jobs way m h =
         let flow_taken : Stand flow (at + 1) (flow_in taken (tree + 1) (at + 1)) =
         stand_left flow (at + 1) (flow_in taken (tree + 1) (at + 1)) (flow_else other (tree + 1 + statements_in taken) (at + 1 + places_in taken)) in_flow.1 in
@@ -430,7 +430,7 @@ module _ (netlist : Netlist) (image : Image) (mem : MemoryMap) (temps : ℕ) (va
         stand_right flow (at + 1) (at + 1 + places_in taken) (flow_in taken (tree + 1) (at + 1)) (flow_else other (tree + 1 + statements_in taken) (at + 1 + places_in taken))
         (let n = in_length taken (tree + 1) (at + 1) in omega (arith, n)) in_flow.1 in
         let k : Asking at tree (at + 1) (else_entry other (at + 1 + places_in taken)) (holds mem.word vars test) (body rounds) (body rounds) (body rounds) =
-        asking at tree (at + 1) (else_entry other (at + 1 + places_in taken)) in_jobs.0.work test.cmp (holds mem.word vars test) (body rounds) (body rounds) (body rounds) in_flow.0 in_jobs.0.at (test_tells rounds test in_jobs.0.work f.0 in_jobs.0.is) in
+        asking at tree (at + 1) (else_entry other (at + 1 + places_in taken)) in_jobs.0.job test.cmp (holds mem.word vars test) (body rounds) (body rounds) (body rounds) in_flow.0 in_jobs.0.at (test_tells rounds test in_jobs.0.job f.0 in_jobs.0.is) in
         let o : Elsewhere rounds (at + 1 + places_in taken) other (run_else mem.word vars other (tree + 1 + statements_in taken) way) way m =
         else_stands rounds other (tree + 1 + statements_in taken) (at + 1 + places_in taken) at test.cmp tree f.2 (omega arith) in_flow.0 flow_other in_jobs.2 way m
         (let e : at + (1 + places_in taken + places_else other) ≡ at + 1 + places_in taken + places_else other = omega arith in subst (λ n. StandsIn n (body rounds) way m) e h) in
@@ -444,7 +444,7 @@ module _ (netlist : Netlist) (image : Image) (mem : MemoryMap) (temps : ℕ) (va
         let flow_back : slice_get flow (at + 1 + places_in inner) ≡ Some (Jump at) =
         (stand_right flow (at + 1) (at + 1 + places_in inner) (flow_in inner (tree + 1) (at + 1)) (Jump at ∷ []) (let n = in_length inner (tree + 1) (at + 1) in omega (arith, n)) in_flow.1).0 in
         let k : Asking at tree (at + 1) (at + 1 + places_in inner + 1) (holds mem.word vars test) (body rounds) (body rounds) (body rounds) =
-        asking at tree (at + 1) (at + 1 + places_in inner + 1) in_jobs.0.work test.cmp (holds mem.word vars test) (body rounds) (body rounds) (body rounds) in_flow.0 in_jobs.0.at (test_tells rounds test in_jobs.0.work f.0 in_jobs.0.is) in
+        asking at tree (at + 1) (at + 1 + places_in inner + 1) in_jobs.0.job test.cmp (holds mem.word vars test) (body rounds) (body rounds) (body rounds) in_flow.0 in_jobs.0.at (test_tells rounds test in_jobs.0.job f.0 in_jobs.0.is) in
         let e : at + (1 + places_in inner + 1) ≡ at + 1 + places_in inner + 1 = omega arith in
         loop_in at tree (at + 1) (at + 1 + places_in inner + 1) test.cmp (holds mem.word vars test) (body rounds) (body rounds) (body rounds) (run_in mem.word vars inner (tree + 1)) way m
         (omega arith) (omega arith) (omega arith) in_flow.0 k (body_keeps mem.word vars inner (tree + 1))
@@ -461,18 +461,18 @@ module _ (netlist : Netlist) (image : Image) (mem : MemoryMap) (temps : ℕ) (va
         let flow_back : Stand flow (at + 2 + places_in inner) back =
         stand_right flow (at + 2) (at + 2 + places_in inner) (flow_in inner (tree + 2) (at + 2)) back (let n = in_length inner (tree + 2) (at + 2) in omega (arith, n)) rest in
         let k : Asking (at + 1) (tree + 1) (at + 2) (at + 2 + places_in inner + 2) (counting vars counter to) (turn rounds counter from to) (body (round ∷ rounds)) (body rounds) =
-        asking (at + 1) (tree + 1) (at + 2) (at + 2 + places_in inner + 2) in_jobs.1.work Ne (counting vars counter to) (turn rounds counter from to) (body (round ∷ rounds)) (body rounds)
-        in_flow.1.0 in_jobs.1.at (counting_tells rounds counter from_at from to in_jobs.1.work f.0 in_jobs.1.is) in
+        asking (at + 1) (tree + 1) (at + 2) (at + 2 + places_in inner + 2) in_jobs.1.job Ne (counting vars counter to) (turn rounds counter from to) (body (round ∷ rounds)) (body rounds)
+        in_flow.1.0 in_jobs.1.at (counting_tells rounds counter from_at from to in_jobs.1.job f.0 in_jobs.1.is) in
         let e : at + (2 + places_in inner + 2) ≡ at + 2 + places_in inner + 2 = omega arith in
-        assigned_stands at (body rounds) (turn rounds counter from to) (started vars counter from) tree in_jobs.0.work
-        (loop (At (tree + 1)) (counting vars counter to) (counted_body mem.word vars counter inner (tree + 2)) way) m (omega arith) in_flow.0 in_jobs.0.at (start_does rounds counter from to in_jobs.0.work f.0 in_jobs.0.is)
+        assigned_stands at (body rounds) (turn rounds counter from to) (started vars counter from) tree in_jobs.0.job
+        (loop (At (tree + 1)) (counting vars counter to) (counted_body mem.word vars counter inner (tree + 2)) way) m (omega arith) in_flow.0 in_jobs.0.at (start_does rounds counter from to in_jobs.0.job f.0 in_jobs.0.is)
         (loop_in (at + 1) (tree + 1) (at + 2) (at + 2 + places_in inner + 2) Ne (counting vars counter to) (turn rounds counter from to) (body (round ∷ rounds)) (body rounds) (counted_body mem.word vars counter inner (tree + 2)) way m
         (omega arith) (omega arith) (omega arith) in_flow.1.0 k (counted_keeps mem.word vars counter inner (tree + 2))
         (λ next n again.
         opened (at + 2) (body (round ∷ rounds)) (run_in mem.word vars inner (tree + 2) (after_change (stepped mem.word vars counter) next)) n (begins_behind flow (at + 1) (at + 2) test_item (omega arith) in_flow.1.0 (asked_other Ne (tree + 1) (at + 2) (at + 2 + places_in inner + 2)))
         (stmts_stand (round ∷ rounds) inner (tree + 2) (at + 2) f.1 (omega arith) flow_inner in_jobs.2 (after_change (stepped mem.word vars counter) next) n
-        (assigned_stands (at + 2 + places_in inner) (body (round ∷ rounds)) (turn rounds counter from to) (stepped mem.word vars counter) (tree + 2 + statements_in inner) in_jobs.3.work next n (omega arith) flow_back.0 in_jobs.3.at
-        (step_does rounds counter from to in_jobs.3.work f.0 in_jobs.3.is)
+        (assigned_stands (at + 2 + places_in inner) (body (round ∷ rounds)) (turn rounds counter from to) (stepped mem.word vars counter) (tree + 2 + statements_in inner) in_jobs.3.job next n (omega arith) flow_back.0 in_jobs.3.at
+        (step_does rounds counter from to in_jobs.3.job f.0 in_jobs.3.is)
         (jumped_back (at + 2 + places_in inner + 1) (at + 1) (turn rounds counter from to) next n (omega arith) flow_back.1.0 again))))
         (opened (at + 2 + places_in inner + 2) (body rounds) way m (begins_behind flow (at + 2 + places_in inner + 1) (at + 2 + places_in inner + 2) (Jump (at + 1)) (omega arith) flow_back.1.0 refl)
         (subst (λ n. StandsIn n (body rounds) way m) e h)))

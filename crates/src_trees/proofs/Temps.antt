@@ -16,7 +16,7 @@ use Rattle.src_model.specs.Inner.Sound.{Sound, SoundIn, SoundElse}
 use Rattle.src_model.proofs.Measures.{greatest_append}
 use Rattle.src_model.proofs.SoundLemmas.{program_sound}
 use Rattle.form_model.specs.Forms.{cell, tested}
-use Rattle.src_trees.specs.Lowered.{MemoryMap, JobModel, base_of, tree_of, element_destination, assigned_destination, compared_trees, job_of_step, works, jobs_in, jobs_else}
+use Rattle.src_trees.specs.Lowered.{MemoryMap, JobModel, base_of, tree_of, element_destination, assigned_destination, compared_trees, job_of_step, stmt_jobs, jobs_in, jobs_else}
 use Rattle.src_trees.specs.Flows.{program_jobs}
 use Rattle.form_model.specs.WideNodes.{wide_nodes}
 use Rattle.src_trees.specs.Measures.{trees_temps, most_temps}
@@ -72,7 +72,7 @@ module _ (m : MemoryMap) (vars : List Declared) (some : 1 ≤ m.addr) where
   -- ---- statements
 
   mutual
-    stmt_temps : (rounds : List Round) (a : StmtModel) → Sound m.word vars rounds a → most_temps m.word (works m a) ≡ greatest (temps_of m.word) (roots a)
+    stmt_temps : (rounds : List Round) (a : StmtModel) → Sound m.word vars rounds a → most_temps m.word (stmt_jobs m a) ≡ greatest (temps_of m.word) (roots a)
     stmt_temps rounds (assign place e) f = let h = assign_temps place e f.left.fits f.right.fits in omega (arith, h)
     stmt_temps rounds (choice test taken other) f =
         let h = compared_temps test.cmp test.left.shape test.right.shape f.0.sides.left f.0.sides.right f.0.sides.left_width in
@@ -104,7 +104,7 @@ module _ (m : MemoryMap) (vars : List Declared) (some : 1 ≤ m.addr) where
     in_temps rounds (act a rest) f =
         let h = stmt_temps rounds a f.0 in
         let t = in_temps rounds rest f.1 in
-        omega (arith, h, t, most_append m.word (works m a) (jobs_in m rest), greatest_append (temps_of m.word) (roots a) (roots_in rest))
+        omega (arith, h, t, most_append m.word (stmt_jobs m a) (jobs_in m rest), greatest_append (temps_of m.word) (roots a) (roots_in rest))
 
     else_temps : (rounds : List Round) (o : ElseModel) → SoundElse m.word vars rounds o → most_temps m.word (jobs_else m o) ≡ greatest (temps_of m.word) (roots_else o)
     else_temps rounds without f = refl

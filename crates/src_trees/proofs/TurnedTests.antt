@@ -80,41 +80,41 @@ module _ (turned : Turns) where
 
   -- ---- jobs that are turned back
 
-  told_at : (works : List JobModel) (k from : ℕ) → slice_get (told_from turned from works) k ≡ option_map (job_of_told (turned (from + k))) (slice_get works k)
+  told_at : (jobs : List JobModel) (k from : ℕ) → slice_get (told_from turned from jobs) k ≡ option_map (job_of_told (turned (from + k))) (slice_get jobs k)
   told_at [] k from = refl
-  told_at (work ∷ later) zero from = (let e : from ≡ from + zero = omega arith in ap (λ n. Some (job_of_told (turned n) work)) e)
-  told_at (work ∷ later) (suc k) from =
+  told_at (job ∷ later) zero from = (let e : from ≡ from + zero = omega arith in ap (λ n. Some (job_of_told (turned n) job)) e)
+  told_at (job ∷ later) (suc k) from =
       let e : from + 1 + k ≡ from + suc k = omega arith in
       told_at later k (from + 1) ∙ ap (λ n. option_map (job_of_told (turned n)) (slice_get later k)) e
 
-  pub told_there : (works : List JobModel) (tree : ℕ) → slice_get (jobs_of_told turned works) tree ≡ option_map (job_of_told (turned tree)) (slice_get works tree)
-  told_there works tree =
+  pub told_there : (jobs : List JobModel) (tree : ℕ) → slice_get (jobs_of_told turned jobs) tree ≡ option_map (job_of_told (turned tree)) (slice_get jobs tree)
+  told_there jobs tree =
       let e : 0 + tree ≡ tree = omega arith in
-      told_at works tree 0 ∙ ap (λ n. option_map (job_of_told (turned n)) (slice_get works tree)) e
+      told_at jobs tree 0 ∙ ap (λ n. option_map (job_of_told (turned n)) (slice_get jobs tree)) e
 
-  told_none : (work : Option JobModel) → option_map (job_of_told false) work ≡ work
+  told_none : (job : Option JobModel) → option_map (job_of_told false) job ≡ job
   told_none None = refl
-  told_none (Some work) = refl
+  told_none (Some job) = refl
 
   -- the jobs of assignments stay
-  module _ (flow : List Flow) (works : List JobModel) (tests : TurnsTests turned flow) where
-    kept_job : (f : Option Flow) → ((tree : ℕ) → f ≡ Some (Assign tree) → turned tree ≡ false) → job_at works (option_map (turned_place turned) f) ≡ job_at (jobs_of_told turned works) f
+  module _ (flow : List Flow) (jobs : List JobModel) (tests : TurnsTests turned flow) where
+    kept_job : (f : Option Flow) → ((tree : ℕ) → f ≡ Some (Assign tree) → turned tree ≡ false) → job_at jobs (option_map (turned_place turned) f) ≡ job_at (jobs_of_told turned jobs) f
     kept_job None h = refl
     kept_job (Some (Assign tree)) h =
-        sym (ap job_list (told_there works tree ∙ ap (λ b. option_map (job_of_told b) (slice_get works tree)) (h tree refl) ∙ told_none (slice_get works tree)))
+        sym (ap job_list (told_there jobs tree ∙ ap (λ b. option_map (job_of_told b) (slice_get jobs tree)) (h tree refl) ∙ told_none (slice_get jobs tree)))
     kept_job (Some (Test tree one zer)) h = by (turned tree)
       where
-        by : (b : Bool) → job_at works (Some (cond b (Test tree zer one) (Test tree one zer))) ≡ []
+        by : (b : Bool) → job_at jobs (Some (cond b (Test tree zer one) (Test tree one zer))) ≡ []
         by true = refl
         by false = refl
     kept_job (Some (Jump to)) h = refl
     kept_job (Some End) h = refl
 
-    kept_jobs : (at n : ℕ) → jobs_at (turned_flow turned flow) works at n ≡ jobs_at flow (jobs_of_told turned works) at n
+    kept_jobs : (at n : ℕ) → jobs_at (turned_flow turned flow) jobs at n ≡ jobs_at flow (jobs_of_told turned jobs) at n
     kept_jobs at zero = refl
     kept_jobs at (suc n) =
-        let one : job_at works (slice_get (turned_flow turned flow) (at + n)) ≡ job_at (jobs_of_told turned works) (slice_get flow (at + n)) =
-        ap (job_at works) (slice_get-map (turned_place turned) flow (at + n)) ∙ kept_job (slice_get flow (at + n)) (λ tree e. tests (at + n) tree e) in
+        let one : job_at jobs (slice_get (turned_flow turned flow) (at + n)) ≡ job_at (jobs_of_told turned jobs) (slice_get flow (at + n)) =
+        ap (job_at jobs) (slice_get-map (turned_place turned) flow (at + n)) ∙ kept_job (slice_get flow (at + n)) (λ tree e. tests (at + n) tree e) in
         cc (kept_jobs at n, one)
 
 -- ---- where no test is turned
@@ -126,12 +126,12 @@ turned_nowhere (Test tree one zer ∷ rest) = ap (λ fs. Test tree one zer ∷ f
 turned_nowhere (Jump to ∷ rest) = ap (λ fs. Jump to ∷ fs) (turned_nowhere rest)
 turned_nowhere (End ∷ rest) = ap (λ fs. End ∷ fs) (turned_nowhere rest)
 
-told_all : (from : ℕ) (works : List JobModel) → told_from (λ k. false) from works ≡ works
+told_all : (from : ℕ) (jobs : List JobModel) → told_from (λ k. false) from jobs ≡ jobs
 told_all from [] = refl
-told_all from (work ∷ later) = ap (λ ws. work ∷ ws) (told_all (from + 1) later)
+told_all from (job ∷ later) = ap (λ ws. job ∷ ws) (told_all (from + 1) later)
 
-pub told_nowhere : (works : List JobModel) → jobs_of_told (λ k. false) works ≡ works
-told_nowhere works = told_all 0 works
+pub told_nowhere : (jobs : List JobModel) → jobs_of_told (λ k. false) jobs ≡ jobs
+told_nowhere jobs = told_all 0 jobs
 
 -- ---- tests
 
@@ -141,27 +141,27 @@ back_reads temps cells [] h = tt
 back_reads temps cells (t ∷ trees) h = (h.0.0, back_reads temps cells trees h.1)
 
 -- a job that was told of is one of the jobs
-told_is : (turned : Turns) (works : List JobModel) (tree : ℕ) (job : JobModel) → slice_get (jobs_of_told turned works) tree ≡ Some job → (work : JobModel) × (slice_get works tree ≡ Some work) × (job_of_told (turned tree) work ≡ job)
-told_is turned works tree job e = by (slice_get works tree) refl
+told_is : (turned : Turns) (jobs : List JobModel) (tree : ℕ) (job : JobModel) → slice_get (jobs_of_told turned jobs) tree ≡ Some job → (given : JobModel) × (slice_get jobs tree ≡ Some given) × (job_of_told (turned tree) given ≡ job)
+told_is turned jobs tree job e = by (slice_get jobs tree) refl
   where
-    by : (o : Option JobModel) → slice_get works tree ≡ o → (work : JobModel) × (slice_get works tree ≡ Some work) × (job_of_told (turned tree) work ≡ job)
-    by None h = absurd (let none : None ≡ Some job = sym (ap (option_map (job_of_told (turned tree))) h) ∙ sym (told_there turned works tree) ∙ e in cc)
-    by (Some work) h =
-        let same : Some (job_of_told (turned tree) work) ≡ Some job = sym (ap (option_map (job_of_told (turned tree))) h) ∙ sym (told_there turned works tree) ∙ e in
-        (work, h, cc)
+    by : (o : Option JobModel) → slice_get jobs tree ≡ o → (given : JobModel) × (slice_get jobs tree ≡ Some given) × (job_of_told (turned tree) given ≡ job)
+    by None h = absurd (let none : None ≡ Some job = sym (ap (option_map (job_of_told (turned tree))) h) ∙ sym (told_there turned jobs tree) ∙ e in cc)
+    by (Some given) h =
+        let same : Some (job_of_told (turned tree) given) ≡ Some job = sym (ap (option_map (job_of_told (turned tree))) h) ∙ sym (told_there turned jobs tree) ∙ e in
+        (given, h, cc)
 
-module _ (netlist : Netlist) (image : Image) (temps tree : ℕ) (work : JobModel) (from one zer : ℕ) where
+module _ (netlist : Netlist) (image : Image) (temps tree : ℕ) (job : JobModel) (from one zer : ℕ) where
   -- a test that is turned, by its job that is turned back
-  turned_test : DoesTest netlist image temps tree work from zer one → DoesTest netlist image temps tree (job_of_told true work) from one zer
+  turned_test : DoesTest netlist image temps tree job from zer one → DoesTest netlist image temps tree (job_of_told true job) from one zer
   turned_test d = record {
     which = d.which;
     used = turned_back d.used;
-    among = slice_get-map turned_back work.trees d.which ∙ ap (option_map turned_back) d.among;
+    among = slice_get-map turned_back job.trees d.which ∙ ap (option_map turned_back) d.among;
     clocks = d.clocks;
     one_later = d.zero_later;
     zero_later = d.one_later;
     asks = λ s calm lies.
-        (let own : Lies temps s.cells work = record { reads = back_reads temps s.cells work.trees lies.reads; destination = lies.destination; below = lies.below } in
+        (let own : Lies temps s.cells job = record { reads = back_reads temps s.cells job.trees lies.reads; destination = lies.destination; below = lies.below } in
         let x = d.asks s calm own in
         record {
           label = x.label;
@@ -172,34 +172,34 @@ module _ (netlist : Netlist) (image : Image) (temps tree : ℕ) (work : JobModel
         });
   }
 
-module _ (netlist : Netlist) (image : Image) (temps : ℕ) (turned : Turns) (flow : List Flow) (works : List JobModel) (starts : ℕ → ℕ) (end : ℕ) (tests : TurnsTests turned flow)
-    (p : IsPlaced netlist image temps (turned_flow turned flow) works starts end) where
-  placed_test : (at tree one zer : ℕ) → slice_get flow at ≡ Some (Test tree one zer) → (job : JobModel) → slice_get (jobs_of_told turned works) tree ≡ Some job
+module _ (netlist : Netlist) (image : Image) (temps : ℕ) (turned : Turns) (flow : List Flow) (jobs : List JobModel) (starts : ℕ → ℕ) (end : ℕ) (tests : TurnsTests turned flow)
+    (p : IsPlaced netlist image temps (turned_flow turned flow) jobs starts end) where
+  placed_test : (at tree one zer : ℕ) → slice_get flow at ≡ Some (Test tree one zer) → (job : JobModel) → slice_get (jobs_of_told turned jobs) tree ≡ Some job
       → DoesTest netlist image temps tree job (starts at) (starts one) (starts zer)
   placed_test at tree one zer e job f =
-      let g = told_is turned works tree job f in
+      let g = told_is turned jobs tree job f in
       subst (λ j. DoesTest netlist image temps tree j (starts at) (starts one) (starts zer)) g.2 (by (turned tree) refl g.0 g.1)
     where
       there : slice_get (turned_flow turned flow) at ≡ Some (turned_place turned (Test tree one zer))
       there = slice_get-map (turned_place turned) flow at ∙ ap (option_map (turned_place turned)) e
 
-      by : (b : Bool) → turned tree ≡ b → (work : JobModel) → slice_get works tree ≡ Some work → DoesTest netlist image temps tree (job_of_told (turned tree) work) (starts at) (starts one) (starts zer)
-      by true h work w =
-          subst (λ b. DoesTest netlist image temps tree (job_of_told b work) (starts at) (starts one) (starts zer)) (sym h)
-          (turned_test netlist image temps tree work (starts at) (starts one) (starts zer)
-          (p.tests at tree zer one (there ∙ ap (λ b. Some (cond b (Test tree zer one) (Test tree one zer))) h) work w))
-      by false h work w =
-          subst (λ b. DoesTest netlist image temps tree (job_of_told b work) (starts at) (starts one) (starts zer)) (sym h)
-          (p.tests at tree one zer (there ∙ ap (λ b. Some (cond b (Test tree zer one) (Test tree one zer))) h) work w)
+      by : (b : Bool) → turned tree ≡ b → (model : JobModel) → slice_get jobs tree ≡ Some model → DoesTest netlist image temps tree (job_of_told (turned tree) model) (starts at) (starts one) (starts zer)
+      by true h model w =
+          subst (λ b. DoesTest netlist image temps tree (job_of_told b model) (starts at) (starts one) (starts zer)) (sym h)
+          (turned_test netlist image temps tree model (starts at) (starts one) (starts zer)
+          (p.tests at tree zer one (there ∙ ap (λ b. Some (cond b (Test tree zer one) (Test tree one zer))) h) model w))
+      by false h model w =
+          subst (λ b. DoesTest netlist image temps tree (job_of_told b model) (starts at) (starts one) (starts zer)) (sym h)
+          (p.tests at tree one zer (there ∙ ap (λ b. Some (cond b (Test tree zer one) (Test tree one zer))) h) model w)
 
   placed_jump : (at to : ℕ) → slice_get flow at ≡ Some (Jump to) → slice_get (turned_flow turned flow) at ≡ Some (Jump to)
   placed_jump at to e = slice_get-map (turned_place turned) flow at ∙ ap (option_map (turned_place turned)) e
 
-  pub turned_placed : IsPlaced netlist image temps flow (jobs_of_told turned works) starts end
+  pub turned_placed : IsPlaced netlist image temps flow (jobs_of_told turned jobs) starts end
   turned_placed = record {
     first = p.first;
     rises = p.rises;
-    blocks = λ at n b. subst (λ js. DoesJobs netlist image temps js (starts at) (starts (at + n))) (kept_jobs turned flow works tests at n) (p.blocks at n (same_block turned flow at n b));
+    blocks = λ at n b. subst (λ js. DoesJobs netlist image temps js (starts at) (starts (at + n))) (kept_jobs turned flow jobs tests at n) (p.blocks at n (same_block turned flow at n b));
     tests = placed_test;
     jumps = λ at to e. p.jumps at to (placed_jump at to e);
     behind_jump = λ at to e. p.behind_jump at to (placed_jump at to e);

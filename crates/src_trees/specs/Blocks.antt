@@ -37,14 +37,14 @@ pub record IsAssignBlock (flow : List Flow) (at n : ℕ) : Type 0 where
 -- the job of a tree's number
 abbrev pub job_list : Option JobModel → List JobModel
 job_list None = []
-job_list (Some work) = work ∷ []
+job_list (Some job) = job ∷ []
 
 -- the job at a place
 abbrev pub job_at : List JobModel → Option Flow → List JobModel
-job_at works (Some (Assign tree)) = job_list (slice_get works tree)
-job_at works _ = []
+job_at jobs (Some (Assign tree)) = job_list (slice_get jobs tree)
+job_at jobs _ = []
 
 -- the jobs at so many places from one on
 abbrev pub jobs_at : List Flow → List JobModel → ℕ → ℕ → List JobModel
-jobs_at flow works at zero = []
-jobs_at flow works at (suc n) = jobs_at flow works at n ++ job_at works (slice_get flow (at + n))
+jobs_at flow jobs at zero = []
+jobs_at flow jobs at (suc n) = jobs_at flow jobs at n ++ job_at jobs (slice_get flow (at + n))

@@ -30,12 +30,12 @@ put_at destination v cells = put_in (destination_cell cells destination) v cells
 
 -- the cells after a job
 abbrev pub done : JobModel → List ℕ → List ℕ
-done work cells = put_at work.destination (job_value cells work.trees) cells
+done job cells = put_at job.destination (job_value cells job.trees) cells
 
 -- and after jobs one after the other
 abbrev pub all_done : List JobModel → List ℕ → List ℕ
 all_done [] cells = cells
-all_done (work ∷ later) cells = all_done later (done work cells)
+all_done (job ∷ later) cells = all_done later (done job cells)
 
 -- ---- when a job's reads and its destination lie in the memory, and none of them below an address
 
@@ -53,15 +53,15 @@ DestinationLies at cells temporary = Unit {0}
 DestinationLies at cells filed = Unit {0}
 DestinationLies at cells tested = Unit {0}
 
-pub record Lies (at : ℕ) (cells : List ℕ) (work : JobModel) : Type 0 where
-  pub reads : AllRead at cells work.trees
-  pub destination : DestinationLies at cells work.destination
+pub record Lies (at : ℕ) (cells : List ℕ) (job : JobModel) : Type 0 where
+  pub reads : AllRead at cells job.trees
+  pub destination : DestinationLies at cells job.destination
   pub below : at ≤ length cells
 
 -- those of jobs one after the other
 abbrev pub AllLie : ℕ → List ℕ → List JobModel → Type 0
 AllLie at cells [] = Unit {0}
-AllLie at cells (work ∷ later) = Lies at cells work × AllLie at (done work cells) later
+AllLie at cells (job ∷ later) = Lies at cells job × AllLie at (done job cells) later
 
 -- all these trees have one value
 abbrev pub AllAre : ℕ → List ℕ → List ExprModel → Type 0

@@ -136,17 +136,17 @@ job_of_step m counter = record {
 
 abbrev mutual
   -- the jobs of a statement, in the order of the text
-  pub works : MemoryMap → StmtModel → List JobModel
-  works m (assign place e) = job_of_assign m place e ∷ []
-  works m (choice test taken other) = job_of_test m test ∷ (jobs_in m taken ++ jobs_else m other)
-  works m (while test body) = job_of_test m test ∷ jobs_in m body
-  works m (count counter at from to body) =
+  pub stmt_jobs : MemoryMap → StmtModel → List JobModel
+  stmt_jobs m (assign place e) = job_of_assign m place e ∷ []
+  stmt_jobs m (choice test taken other) = job_of_test m test ∷ (jobs_in m taken ++ jobs_else m other)
+  stmt_jobs m (while test body) = job_of_test m test ∷ jobs_in m body
+  stmt_jobs m (count counter at from to body) =
       job_of_start m counter from
       ∷ (job_of_counting m counter at to ∷ (jobs_in m body ++ job_of_step m counter ∷ []))
 
   pub jobs_in : MemoryMap → StmtsModel → List JobModel
   jobs_in m no_acts = []
-  jobs_in m (act a rest) = works m a ++ jobs_in m rest
+  jobs_in m (act a rest) = stmt_jobs m a ++ jobs_in m rest
 
   pub jobs_else : MemoryMap → ElseModel → List JobModel
   jobs_else m without = []

@@ -19,20 +19,20 @@ use Rattle.src_trees.specs.Doing.{done, job_value, Lies, AllAre}
 -- in cells whose store is of this kind, the job changes the store so by a value that fits a word,
 -- and reads and writes no cell below the variables'
 pub record Does (m : MemoryMap) (temps : ℕ) (Can : List ℕ → Type 0) (change : List ℕ → List ℕ)
-    (work : JobModel) : Type 0 where
-  pub lies : (cells : List ℕ) → HoldsCells temps m cells → Can (seen_store m cells) → Lies temps cells work
+    (job : JobModel) : Type 0 where
+  pub lies : (cells : List ℕ) → HoldsCells temps m cells → Can (seen_store m cells) → Lies temps cells job
   pub store : (cells : List ℕ) → HoldsCells temps m cells → Can (seen_store m cells) →
-      seen_store m (done work cells) ≡ change (seen_store m cells)
+      seen_store m (done job cells) ≡ change (seen_store m cells)
   pub fits : (cells : List ℕ) → HoldsCells temps m cells → Can (seen_store m cells) →
-      job_value cells work.trees < 2 ^ m.word
+      job_value cells job.trees < 2 ^ m.word
 
 -- and in such cells each of its trees tells the test, and reads no cell below the variables'
-pub record Tells (m : MemoryMap) (temps : ℕ) (vars : List Declared) (test : SrcTestModel) (work : JobModel) : Type 0 where
+pub record Tells (m : MemoryMap) (temps : ℕ) (vars : List Declared) (test : SrcTestModel) (job : JobModel) : Type 0 where
   pub lies : (cells : List ℕ) → HoldsCells temps m cells →
-      CanTest m.word vars (seen_store m cells) test → Lies temps cells work
+      CanTest m.word vars (seen_store m cells) test → Lies temps cells job
   pub value : (cells : List ℕ) → HoldsCells temps m cells →
       CanTest m.word vars (seen_store m cells) test →
-      AllAre (bit_of (answer test.cmp (holds m.word vars test (seen_store m cells)))) cells work.trees
+      AllAre (bit_of (answer test.cmp (holds m.word vars test (seen_store m cells)))) cells job.trees
 
 -- the job of an assignment, of an expression of a word's width
 abbrev pub IsAssigned : ℕ → List Declared → SpotModel → SrcExprModel → List ℕ → Type 0
@@ -67,9 +67,9 @@ count_test counter at to = record {
 
 -- the job of a number is of a kind
 pub record HasJob (jobs : List JobModel) (number : ℕ) (Is : JobModel → Type 0) : Type 0 where
-  pub work : JobModel
-  pub at : slice_get jobs number ≡ Some work
-  pub is : Is work
+  pub job : JobModel
+  pub at : slice_get jobs number ≡ Some job
+  pub is : Is job
 
 module _ (m : MemoryMap) (temps : ℕ) (vars : List Declared) (jobs : List JobModel) where
   abbrev mutual

@@ -14,7 +14,7 @@ trees_temps bits destination (t ∷ trees) = max (tree_temps bits destination t)
 
 abbrev pub most_temps : ℕ → List JobModel → ℕ
 most_temps bits [] = 0
-most_temps bits (work ∷ later) = max (trees_temps bits work.destination work.trees) (most_temps bits later)
+most_temps bits (job ∷ later) = max (trees_temps bits job.destination job.trees) (most_temps bits later)
 
 -- ---- nodes
 
@@ -48,7 +48,7 @@ trees_nodes destination (t ∷ trees) = max (tree_nodes destination t) (trees_no
 
 abbrev pub most_nodes : List JobModel → ℕ
 most_nodes [] = 0
-most_nodes (work ∷ later) = max (trees_nodes work.destination work.trees) (most_nodes later)
+most_nodes (job ∷ later) = max (trees_nodes job.destination job.trees) (most_nodes later)
 
 -- ---- sizes
 
@@ -78,10 +78,10 @@ TreesAre bits temps most destination (t ∷ trees) =
 
 -- a job of trees alone, of which each needs at most so many temporary cells and has at most so many
 -- nodes
-pub record IsSmall (bits temps most : ℕ) (work : JobModel) : Type 0 where
-  pub destination : IsTreeGoal work.destination
-  pub trees : TreesAre bits temps most work.destination work.trees
+pub record IsSmall (bits temps most : ℕ) (job : JobModel) : Type 0 where
+  pub destination : IsTreeGoal job.destination
+  pub trees : TreesAre bits temps most job.destination job.trees
 
 abbrev pub AllSmall : ℕ → ℕ → ℕ → List JobModel → Type 0
 AllSmall bits temps most [] = Unit {0}
-AllSmall bits temps most (work ∷ later) = IsSmall bits temps most work × AllSmall bits temps most later
+AllSmall bits temps most (job ∷ later) = IsSmall bits temps most job × AllSmall bits temps most later

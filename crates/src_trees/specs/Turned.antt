@@ -32,15 +32,15 @@ turned_back t = bin Xor t (const 1 1)
 
 -- a job as the program asks for it
 abbrev pub job_of_told : Bool → JobModel → JobModel
-job_of_told turned work = record {
-  destination = work.destination;
-  trees = if turned then map turned_back work.trees else work.trees;
+job_of_told turned job = record {
+  destination = job.destination;
+  trees = if turned then map turned_back job.trees else job.trees;
 }
 
 -- and all jobs, where the first one has this number
 abbrev pub told_from : Turns → ℕ → List JobModel → List JobModel
 told_from turned k [] = []
-told_from turned k (work ∷ later) = job_of_told (turned k) work ∷ told_from turned (k + 1) later
+told_from turned k (job ∷ later) = job_of_told (turned k) job ∷ told_from turned (k + 1) later
 
 abbrev pub jobs_of_told : Turns → List JobModel → List JobModel
-jobs_of_told turned works = told_from turned 0 works
+jobs_of_told turned jobs = told_from turned 0 jobs

@@ -40,14 +40,14 @@ counted_flow : program_flow counted ≡ Test 0 3 1 ∷ Assign 1 ∷ Jump 0 ∷ E
 counted_flow = refl
 
 -- with three temporary cells, in words of 16 bits at addresses of 8
-counted_works : program_jobs (memory_map 16 8 3 counted.vars) counted ≡
+counted_jobs : program_jobs (memory_map 16 8 3 counted.vars) counted ≡
     record {
       destination = tested;
       trees = bin Equal (read InMemory (const 8 3) 16) (const 16 0)
           ∷ bin Equal (bin Sub (read InMemory (const 8 3) 16) (const 16 0)) (const 16 0) ∷ [];
     }
     ∷ record { destination = cell 3; trees = bin Sub (read InMemory (const 8 3) 16) (const 16 1) ∷ [] } ∷ []
-counted_works = refl
+counted_jobs = refl
 
 -- var a, x[4]; for a = 0 to 2 { if x[a] < 5 { x[a] = x[3]; } else { } }
 abbrev nested : ProgramModel
@@ -67,7 +67,7 @@ nested_flow : program_flow nested
 nested_flow = refl
 
 -- an index that isn't a literal is added to the array's address, in a word's width
-nested_works : program_jobs (memory_map 16 8 3 nested.vars) nested ≡
+nested_jobs : program_jobs (memory_map 16 8 3 nested.vars) nested ≡
     record { destination = cell 3; trees = const 16 0 ∷ [] }
     ∷ record {
       destination = tested;
@@ -83,7 +83,7 @@ nested_works : program_jobs (memory_map 16 8 3 nested.vars) nested ≡
       trees = read InMemory (const 8 7) 16 ∷ [];
     }
     ∷ record { destination = cell 3; trees = bin Add (read InMemory (const 8 3) 16) (const 16 1) ∷ [] } ∷ []
-nested_works = refl
+nested_jobs = refl
 
 -- three nodes below the read, and the literal beside it
 nested_temps : most_temps 16 (program_jobs (memory_map 16 8 3 nested.vars) nested) ≡ 4

@@ -169,7 +169,10 @@ fn lower_statement(
         }
         Stmt::If { test, yes, no } => match no {
             None => lower_if(alloc, memory, jobs, test, yes, at),
-            Some(other) => lower_else(alloc, memory, jobs, test, yes, other, at),
+            Some(other) => {
+                let branches = Branches { taken: yes, other };
+                lower_else(alloc, memory, jobs, test, &branches, at)
+            }
         },
         Stmt::While { test, body } => lower_while(alloc, memory, jobs, test, body, at),
         Stmt::For {
@@ -178,7 +181,14 @@ fn lower_statement(
             from,
             to,
             body,
-        } => lower_for(alloc, memory, jobs, counter, (*from, *to), body, at),
+        } => {
+            let counting = Counting {
+                counter,
+                from: *from,
+                to: *to,
+            };
+            lower_for(alloc, memory, jobs, &counting, body, at)
+        }
     }
 }
 
@@ -204,6 +214,13 @@ fn lower_if(
     if_flow(alloc, test.cmp, tree, at, inner.as_slice())
 }
 
+// The statements of an `if` where its test holds, and where it doesn't.
+#[derive(Clone, Copy)]
+struct Branches<'a> {
+    taken: &'a [Stmt],
+    other: &'a [Stmt],
+}
+
 // An `if` with an else part.
 #[cycle(lower)]
 fn lower_else(
@@ -211,23 +228,23 @@ fn lower_else(
     memory: &DataMemory<'_>,
     jobs: &mut Items<Job>,
     test: &SrcTest,
-    taken: &[Stmt],
-    other: &[Stmt],
+    branches: &Branches<'_>,
     at: u32,
 ) -> Result<Items<Flow>, NoMemory>
-    requires ready { IsReady at jobs.old (1 + statements_in (stmts_of (map model_of_stmt taken.now))
-        + statements_in (stmts_of (map model_of_stmt other.now))) }
+    requires ready { IsReady at jobs.old (1 + statements_in (stmts_of (map model_of_stmt branches.now.taken.now))
+        + statements_in (stmts_of (map model_of_stmt branches.now.other.now))) }
     requires plain { IsPlain memory.now.word memory.now.places (choice (model_of_src_test test.now)
-        (stmts_of (map model_of_stmt taken.now)) (otherwise (stmts_of (map model_of_stmt other.now)))) }
-    ensures { IfOk result (IsLowered memory.now
-        (choice (model_of_src_test test.now) (stmts_of (map model_of_stmt taken.now)) (otherwise (stmts_of (map model_of_stmt other.now))))
-        at jobs.old jobs.new) }
+        (stmts_of (map model_of_stmt branches.now.taken.now))
+        (otherwise (stmts_of (map model_of_stmt branches.now.other.now)))) }
+    ensures { IfOk result (IsLowered memory.now (choice (model_of_src_test test.now)
+        (stmts_of (map model_of_stmt branches.now.taken.now))
+        (otherwise (stmts_of (map model_of_stmt branches.now.other.now)))) at jobs.old jobs.new) }
 {
     let job = test_job(alloc, memory, test)?;
     let tree = push_job(jobs, job)?;
-    let inner = lower_block(alloc, memory, jobs, taken, at + 1)?;
+    let inner = lower_block(alloc, memory, jobs, branches.taken, at + 1)?;
     let over = at + 1 + inner.len() as u32 + 1;
-    let after = lower_block(alloc, memory, jobs, other, over)?;
+    let after = lower_block(alloc, memory, jobs, branches.other, over)?;
     else_flow(
         alloc,
         test.cmp,
@@ -259,30 +276,37 @@ fn lower_while(
     while_flow(alloc, test.cmp, tree, at, inner.as_slice())
 }
 
-// A `for` whose counter goes from the first of the numbers to the second.
+// A counter, and the numbers from which and to which it counts.
+#[derive(Clone, Copy)]
+struct Counting<'a> {
+    counter: &'a Name,
+    from: u64,
+    to: u64,
+}
+
+// A `for`.
 #[cycle(lower)]
 fn lower_for(
     alloc: Global,
     memory: &DataMemory<'_>,
     jobs: &mut Items<Job>,
-    counter: &Name,
-    ends: (u64, u64),
+    counting: &Counting<'_>,
     body: &[Stmt],
     at: u32,
 ) -> Result<Items<Flow>, NoMemory>
     requires ready { IsReady at jobs.old (3 + statements_in (stmts_of (map model_of_stmt body.now))) }
     requires plain { IsPlain memory.now.word memory.now.places
-        (count counter.now 0 ends.0 ends.1 (stmts_of (map model_of_stmt body.now))) }
+        (count counting.now.counter.now 0 counting.now.from counting.now.to (stmts_of (map model_of_stmt body.now))) }
     ensures { IfOk result (IsLowered memory.now
-        (count counter.now 0 ends.0 ends.1 (stmts_of (map model_of_stmt body.now))) at jobs.old jobs.new) }
+        (count counting.now.counter.now 0 counting.now.from counting.now.to (stmts_of (map model_of_stmt body.now)))
+        at jobs.old jobs.new) }
 {
-    let (from, to) = ends;
-    let start = start_job(alloc, memory, counter, from)?;
+    let start = start_job(alloc, memory, counting.counter, counting.from)?;
     let tree = push_job(jobs, start)?;
-    let test = counting_job(alloc, memory, counter, to)?;
+    let test = counting_job(alloc, memory, counting.counter, counting.to)?;
     let _test = push_job(jobs, test)?;
     let inner = lower_block(alloc, memory, jobs, body, at + 2)?;
-    let last = step_job(alloc, memory, counter)?;
+    let last = step_job(alloc, memory, counting.counter)?;
     let step = push_job(jobs, last)?;
     for_flow(alloc, tree, step, at, inner.as_slice())
 }

@@ -58,7 +58,7 @@ pub fn law_of_assignments()
 /// and those that are made from them by a change that keeps that.
 pub fn law_of_jobs()
     ensures own { (m : MemoryMap) (temps : ℕ) (vars : List Declared) → HoldsVars temps vars m →
-        KeepsMeaning m temps vars (λ work. work) }
+        KeepsMeaning m temps vars (λ job. job) }
     ensures all { (m : MemoryMap) (temps : ℕ) (l : ProgramModel) → HoldsVars temps l.vars m →
         DoProgram m temps l (program_jobs m l) }
     ensures changed { (m : MemoryMap) (temps : ℕ) (l : ProgramModel) (change : JobModel → JobModel) →

@@ -3,7 +3,7 @@ use Rattle.std.proofs.Common.{◌≡◌, ℕ, ◌<◌, List, [], ◌∷◌, ◌+
 use Rattle.std.proofs.lemmas.List.{append-nil}
 use Rattle.std.proofs.lemmas.Bool.{cases_lt}
 use Rattle.sym_expr.specs.declared.pool.Node.{Node}
-use Rattle.sym_expr.specs.Pools.{node_expr, children_of, AllBelow, expr_of_id, ExprFits, HeadFits, IsPool, Grows, KeepsTerms}
+use Rattle.sym_expr.specs.Pools.{node_expr, children_of, AllBelow, expr_of_id, ExprFits, HeadFits, IsPool, Grows, KeepsExprs}
 use Rattle.rec_bits.proofs.Lists.{pushed_at}
 use Rattle.sym_expr.proofs.Trees.{expr_of_id-append, expr_of_id-push}
 use Rattle.sym_expr.proofs.Fits.{all_fit, whole_fits}
@@ -26,8 +26,8 @@ grows_by old new w = record {
 }
 
 -- a growing pool changes no old id's expression
-pub same_term : (old new : List Node) → Grows old new → (id : ℕ) → id < length old → expr_of_id new id ≡ expr_of_id old id
-same_term old new g id h = ap (λ l. expr_of_id l id) g.nodes ∙ expr_of_id-append old g.more id h
+pub same_expr : (old new : List Node) → Grows old new → (id : ℕ) → id < length old → expr_of_id new id ≡ expr_of_id old id
+same_expr old new g id h = ap (λ l. expr_of_id l id) g.nodes ∙ expr_of_id-append old g.more id h
 
 module _ (nodes : List Node) (pool : IsPool nodes) (node : Node) (below : AllBelow (length nodes) (children_of node)) (fits : HeadFits (node_expr node (expr_of_id nodes))) where
   pub push_pool : ((i : ℕ) → slice_get nodes i ≡ Some node → ⊥) → IsPool (nodes ++ node ∷ [])
@@ -61,5 +61,5 @@ module _ (nodes : List Node) (pool : IsPool nodes) (node : Node) (below : AllBel
 pub grows_push : (nodes : List Node) (node : Node) → Grows nodes (nodes ++ node ∷ [])
 grows_push nodes node = grows_by nodes (nodes ++ node ∷ []) (node ∷ [], refl)
 
-pub keeps : (old new : List Node) → Grows old new → KeepsTerms old new
-keeps old new g = λ id h. same_term old new g id h
+pub keeps : (old new : List Node) → Grows old new → KeepsExprs old new
+keeps old new g = λ id h. same_expr old new g id h

@@ -7,9 +7,9 @@ use Rattle.sym_expr.specs.declared.pool.Measure.{Measure}
 use Rattle.rec_bits.specs.Counts.{capped}
 use Rattle.sym_expr.specs.Pools.{IsPool, expr_of_id}
 
-pub record IsMeasure (term : ExprModel) (m : Measure) : Type 0 where
-  pub width : m.width ≡ expr_width term
-  pub size : m.size ≡ capped (size_of term)
+pub record IsMeasure (expr : ExprModel) (m : Measure) : Type 0 where
+  pub width : m.width ≡ expr_width expr
+  pub size : m.size ≡ capped (size_of expr)
 
 -- the nodes are a pool's, and beside each stands its expression's measure
 pub record IsMeasuredPool (entries : List (Node × Measure)) : Type 0 where

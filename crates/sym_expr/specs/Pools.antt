@@ -114,5 +114,5 @@ abbrev pub IsOneEach : List Node → Type 0
 IsOneEach nodes = (i j : ℕ) → i < length nodes → j < length nodes → (expr_of_id nodes i ≡ expr_of_id nodes j) ↔ (i ≡ j)
 
 -- the new pool changes no old id's expression
-abbrev pub KeepsTerms : List Node → List Node → Type 0
-KeepsTerms old new = (id : ℕ) → id < length old → expr_of_id new id ≡ expr_of_id old id
+abbrev pub KeepsExprs : List Node → List Node → Type 0
+KeepsExprs old new = (id : ℕ) → id < length old → expr_of_id new id ≡ expr_of_id old id

@@ -1,10 +1,10 @@
 //! Expressions over registers, the memory, the register file, constants and the instruction word,
 //! in one pool with one id for each.
 //!
-//! Promise: `intern` gives the id of an expression and adds no other (`term`, `alone`), and changes
+//! Promise: `intern` gives the id of an expression and adds no other (`expr`, `alone`), and changes
 //! no id that the pool held, on want of memory too (`grows`: `Grows`). Two ids are equal exactly
 //! where their expressions are (`one_each`: `IsOneEach`), and an id is an expression for ever
-//! (`keeps`: `KeepsTerms`). `width`, `size`, `eval` and `expr` tell of an id what `net_model`
+//! (`keeps`: `KeepsExprs`). `width`, `size`, `eval` and `expr` tell of an id what `net_model`
 //! defines of its expression.
 //!
 //! Invariant: the parts of each node come before it, its operator gets operands of the widths that

@@ -4,7 +4,7 @@ ghost use Rattle.std.specs.Prelude.{◌≡◌, ℕ, ◌+◌, ◌<◌, ◌≤◌,
 ghost use Rattle.rec_bits.specs.Counts.{capped};
 ghost use Rattle.net_model.specs.Meaning.{mean};
 ghost use Rattle.net_model.specs.Exprs.{size_of, model_of_expr, expr_width};
-ghost use Rattle.sym_expr.specs.Pools.{AllBelow, Grows, HeadFits, IsOneEach, KeepsTerms, Suits, ExprFits, node_expr, children_of, expr_of_id};
+ghost use Rattle.sym_expr.specs.Pools.{AllBelow, Grows, HeadFits, IsOneEach, KeepsExprs, Suits, ExprFits, node_expr, children_of, expr_of_id};
 ghost use Rattle.sym_expr.specs.Measures.{IsMeasure};
 ghost use Rattle.sym_expr.specs.declared.pool.Node.{Node as TheNode};
 
@@ -89,7 +89,7 @@ impl Pool {
         ensures within { IfOk result (λ id. id < length self.new) }
         ensures next { IfOk result (λ id. id ≤ length self.old) }
         ensures alone { IfOk result (λ id. length self.new ≤ max (length self.old) (id + 1)) }
-        ensures term { IfOk result (λ id. expr_of_id self.new id ≡ node_expr node (expr_of_id self.old)) }
+        ensures expr { IfOk result (λ id. expr_of_id self.new id ≡ node_expr node (expr_of_id self.old)) }
     {
         if let Some(place) = self.nodes.get_index_of(&node) {
             return Ok(place as u64);
@@ -104,7 +104,7 @@ impl Pool {
         ensures len { result ≡ length self.now }
         ensures one_each { IsOneEach self.now }
         ensures fits { (id : ℕ) → id < length self.now → ExprFits (expr_of_id self.now id) }
-        ensures keeps { (older : List TheNode) → Grows older self.now → KeepsTerms older self.now }
+        ensures keeps { (older : List TheNode) → Grows older self.now → KeepsExprs older self.now }
     {
         self.nodes.len() as u64
     }
@@ -112,7 +112,7 @@ impl Pool {
     /// The node of an id.
     pub fn node(&self, id: ExprId) -> Node
         requires { id < length self.now }
-        ensures term { expr_of_id self.now id ≡ node_expr result (expr_of_id self.now) }
+        ensures expr { expr_of_id self.now id ≡ node_expr result (expr_of_id self.now) }
         ensures below { AllBelow id (children_of result) }
         ensures fits { ExprFits (node_expr result (expr_of_id self.now)) }
     {

@@ -30,41 +30,41 @@ capped_more : (x y : ℕ) → capped (capped x + y) ≡ capped (x + y)
 capped_more x y = grind (arith)
 
 module _ (stock : StockModel) where
-  cost_more : (works : List JobModel) (tried : List (Option JobCoverModel)) (job : JobModel) (choice : Option JobCoverModel) → AreTried stock works tried → cost_sum (works ++ job ∷ []) (tried ++ choice ∷ []) ≡ cost_sum works tried + cost_sum (job ∷ []) (choice ∷ [])
+  cost_more : (jobs : List JobModel) (tried : List (Option JobCoverModel)) (job : JobModel) (choice : Option JobCoverModel) → AreTried stock jobs tried → cost_sum (jobs ++ job ∷ []) (tried ++ choice ∷ []) ≡ cost_sum jobs tried + cost_sum (job ∷ []) (choice ∷ [])
   cost_more [] [] job choice t = omega arith
   cost_more [] (c ∷ tried) job choice t = absurd t
-  cost_more (w ∷ works) [] job choice t = absurd t
-  cost_more (w ∷ works) (None ∷ tried) job choice t = cost_more works tried job choice t.1
-  cost_more (w ∷ works) (Some c ∷ tried) job choice t = let h = cost_more works tried job choice t.1 in omega (arith, h)
+  cost_more (w ∷ jobs) [] job choice t = absurd t
+  cost_more (w ∷ jobs) (None ∷ tried) job choice t = cost_more jobs tried job choice t.1
+  cost_more (w ∷ jobs) (Some c ∷ tried) job choice t = let h = cost_more jobs tried job choice t.1 in omega (arith, h)
 
-  tried_more : (works : List JobModel) (tried : List (Option JobCoverModel)) (job : JobModel) (choice : Option JobCoverModel) → AreTried stock works tried → IsTried stock job choice → AreTried stock (works ++ job ∷ []) (tried ++ choice ∷ [])
+  tried_more : (jobs : List JobModel) (tried : List (Option JobCoverModel)) (job : JobModel) (choice : Option JobCoverModel) → AreTried stock jobs tried → IsTried stock job choice → AreTried stock (jobs ++ job ∷ []) (tried ++ choice ∷ [])
   tried_more [] [] job choice t is = (is, tt)
   tried_more [] (c ∷ tried) job choice t is = absurd t
-  tried_more (w ∷ works) [] job choice t is = absurd t
-  tried_more (w ∷ works) (c ∷ tried) job choice t is = (t.0, tried_more works tried job choice t.1 is)
+  tried_more (w ∷ jobs) [] job choice t is = absurd t
+  tried_more (w ∷ jobs) (c ∷ tried) job choice t is = (t.0, tried_more jobs tried job choice t.1 is)
 
   -- each job is tested or skipped
-  counted : (works : List JobModel) (tried : List (Option JobCoverModel)) → AreTried stock works tried → tested_count tried + skipped_count tried ≡ length works
+  counted : (jobs : List JobModel) (tried : List (Option JobCoverModel)) → AreTried stock jobs tried → tested_count tried + skipped_count tried ≡ length jobs
   counted [] [] t = refl
   counted [] (c ∷ tried) t = absurd t
-  counted (w ∷ works) [] t = absurd t
-  counted (w ∷ works) (None ∷ tried) t = let h = counted works tried t.1 in omega (arith, h)
-  counted (w ∷ works) (Some c ∷ tried) t = let h = counted works tried t.1 in omega (arith, h)
+  counted (w ∷ jobs) [] t = absurd t
+  counted (w ∷ jobs) (None ∷ tried) t = let h = counted jobs tried t.1 in omega (arith, h)
+  counted (w ∷ jobs) (Some c ∷ tried) t = let h = counted jobs tried t.1 in omega (arith, h)
 
 -- ---- words
 
 module _ (netlist : Netlist) (patterns : List Pattern) (stock : StockModel) where
-  words_more : (works : List JobModel) (tried : List (Option JobCoverModel)) (words : List ℕ) (job : JobModel) (choice : Option JobCoverModel) (added : List ℕ) → AreTried stock works tried → AreWordsOf netlist patterns stock works tried words
-      → AreWordsOf netlist patterns stock (job ∷ []) (choice ∷ []) added → AreWordsOf netlist patterns stock (works ++ job ∷ []) (tried ++ choice ∷ []) (words ++ added)
+  words_more : (jobs : List JobModel) (tried : List (Option JobCoverModel)) (words : List ℕ) (job : JobModel) (choice : Option JobCoverModel) (added : List ℕ) → AreTried stock jobs tried → AreWordsOf netlist patterns stock jobs tried words
+      → AreWordsOf netlist patterns stock (job ∷ []) (choice ∷ []) added → AreWordsOf netlist patterns stock (jobs ++ job ∷ []) (tried ++ choice ∷ []) (words ++ added)
   words_more [] [] words job choice added t h one = subst (λ (front : List ℕ). AreWordsOf netlist patterns stock (job ∷ []) (choice ∷ []) (front ++ added)) (sym h) one
   words_more [] (c ∷ tried) words job choice added t h one = absurd t
-  words_more (w ∷ works) [] words job choice added t h one = absurd t
-  words_more (w ∷ works) (None ∷ tried) words job choice added t h one = words_more works tried words job choice added t.1 h one
-  words_more (w ∷ works) (Some c ∷ tried) words job choice added t h one = (
+  words_more (w ∷ jobs) [] words job choice added t h one = absurd t
+  words_more (w ∷ jobs) (None ∷ tried) words job choice added t h one = words_more jobs tried words job choice added t.1 h one
+  words_more (w ∷ jobs) (Some c ∷ tried) words job choice added t h one = (
     h.0,
     h.1 ++ added,
     h.2,
-    words_more works tried h.1 job choice added t.1 h.3 one,
+    words_more jobs tried h.1 job choice added t.1 h.3 one,
     ap (λ (all : List ℕ). all ++ added) h.4 ∙ append_assoc h.0 h.1 added,
   )
 
@@ -83,23 +83,23 @@ module _ (netlist : Netlist) (patterns : List Pattern) (stock : StockModel) wher
     fit = subst (AllByRecursion (WordFits netlist)) (sym words) tt;
   }
 
-  pub code_more : (works : List JobModel) (job : JobModel) (old new : TestCode) → IsCodeOf netlist patterns stock works old → HasAdded netlist patterns stock job old new → IsCodeOf netlist patterns stock (works ++ job ∷ []) new
-  code_more works job old new h a = record {
+  pub code_more : (jobs : List JobModel) (job : JobModel) (old new : TestCode) → IsCodeOf netlist patterns stock jobs old → HasAdded netlist patterns stock job old new → IsCodeOf netlist patterns stock (jobs ++ job ∷ []) new
+  code_more jobs job old new h a = record {
     tried = h.tried ++ a.choice ∷ [];
-    trials = tried_more stock works h.tried job a.choice h.trials a.trial;
+    trials = tried_more stock jobs h.tried job a.choice h.trials a.trial;
     tested = let m = tested_more h.tried a.choice in let x = h.tested in let y = a.tested in omega (arith, m, x, y);
     skipped = let m = skipped_more h.tried a.choice in let x = h.skipped in let y = a.skipped in omega (arith, m, x, y);
     cost =
         a.cost
         ∙ ap (λ c. capped (c + cost_sum (job ∷ []) (a.choice ∷ []))) h.cost
-        ∙ capped_more (cost_sum works h.tried) (cost_sum (job ∷ []) (a.choice ∷ []))
-        ∙ ap capped (sym (cost_more stock works h.tried job a.choice h.trials));
+        ∙ capped_more (cost_sum jobs h.tried) (cost_sum (job ∷ []) (a.choice ∷ []))
+        ∙ ap capped (sym (cost_more stock jobs h.tried job a.choice h.trials));
     words =
-        subst (AreWordsOf netlist patterns stock (works ++ job ∷ []) (h.tried ++ a.choice ∷ [])) (sym a.are)
-        (words_more works h.tried old.words.items job a.choice a.added h.trials h.words a.words);
+        subst (AreWordsOf netlist patterns stock (jobs ++ job ∷ []) (h.tried ++ a.choice ∷ [])) (sym a.are)
+        (words_more jobs h.tried old.words.items job a.choice a.added h.trials h.words a.words);
     fit = subst (AllByRecursion (WordFits netlist)) (sym a.are) (all_append (WordFits netlist) old.words.items a.added h.fit a.fit);
   }
 
   -- so many jobs are tested or skipped
-  pub code_count : (works : List JobModel) (code : TestCode) → IsCodeOf netlist patterns stock works code → code.tested + code.skipped ≡ length works
-  code_count works code h = let n = counted stock works h.tried h.trials in let x = h.tested in let y = h.skipped in omega (arith, n, x, y)
+  pub code_count : (jobs : List JobModel) (code : TestCode) → IsCodeOf netlist patterns stock jobs code → code.tested + code.skipped ≡ length jobs
+  code_count jobs code h = let n = counted stock jobs h.tried h.trials in let x = h.tested in let y = h.skipped in omega (arith, n, x, y)

@@ -35,19 +35,19 @@ use Rattle.test_code.specs.Inner.Jobs.{IsCellJob}
 small : (bits temps : ℕ) (job : JobModel) (j : IsCellJob bits temps job) → IsSmall bits temps (size_of j.tree) job
 small bits temps job j = subst (IsSmall bits temps (size_of j.tree)) (sym j.is) (record { destination = tt; trees = (j.plain, j.few, omega arith, tt) })
 
-module _ (netlist : Netlist) (order : List ℕ) (keeps : KeepsRules netlist order) (patterns : List Pattern) (are : ArePatterns netlist patterns) (rules : List FormModel) (reach : ℕ) (forms : AreForms netlist patterns rules reach) where
+module _ (netlist : Netlist) (order : List ℕ) (keeps : KeepsRules netlist order) (patterns : List Pattern) (are : ArePatterns netlist patterns) (all : List FormModel) (reach : ℕ) (forms : AreForms netlist patterns all reach) where
   some : 0 < word_width netlist
   some = has_bits netlist order keeps
 
   known : AreKnown netlist patterns
   known = known_of netlist order keeps patterns are
 
-  reads : AllReadWords (memory_width netlist.storages) rules
-  reads = all_read netlist order keeps some patterns known reach rules forms.list
+  reads : AllReadWords (memory_width netlist.storages) all
+  reads = all_read netlist order keeps some patterns known reach all forms.list
 
   module _ (temps file : ℕ) (job : JobModel) (choice : JobCoverModel) (j : IsCellJob (memory_width netlist.storages) temps job) where
     abbrev stock : StockModel
-    stock = record { rules = rules; temps = temps; file = file }
+    stock = record { forms = all; temps = temps; file = file }
 
     pub job_covered : IsChosen stock job.destination job.trees choice → IsCovered stock job choice
     job_covered c = covered_of (memory_width netlist.storages) stock reads (size_of j.tree) job choice (small (memory_width netlist.storages) temps job j) c
@@ -59,7 +59,7 @@ module _ (netlist : Netlist) (order : List ℕ) (keeps : KeepsRules netlist orde
     pub job_have : file ≡ size_in InFile netlist.storages → IsChosen stock job.destination job.trees choice → AllHaveWords (operation_in netlist patterns) (fits_over netlist (operation_in netlist patterns)) (singles (job_steps stock job choice)) (regs_of 0)
     job_have sized c =
         subst (λ (steps : List Step). AllHaveWords (operation_in netlist patterns) (fits_over netlist (operation_in netlist patterns)) (singles steps) (regs_of 0)) (append-nil (job_steps stock job choice))
-        (block_words netlist order keeps some patterns known reach rules forms.list stock sized (λ k rule at. (k, at)) None tt (job ∷ []) (choice ∷ []) (regs_of 0) (job_covered c, one, tt)
+        (block_words netlist order keeps some patterns known reach all forms.list stock sized (λ k form at. (k, at)) None tt (job ∷ []) (choice ∷ []) (regs_of 0) (job_covered c, one, tt)
         (λ r live. cc (live, bit_at-zero r)))
 
 -- words of groups fit

@@ -49,9 +49,9 @@ module _ (netlist : Netlist) where
   same_need : (at : ℕ) (t : ExprModel) → wide_below (memory_width netlist.storages) (tree_from (widths_of netlist) at t) ≡ wide_below (memory_width netlist.storages) (tree_from (widths_of netlist) 0 t)
   same_need at t = inner_is (widths_of netlist) (memory_width netlist.storages) at t ∙ sym (inner_is (widths_of netlist) (memory_width netlist.storages) 0 t)
 
-  works_plain : (temps at out : ℕ) (values : List ExprModel) → temps_of (widths_of netlist) values ≤ temps → AllByRecursion (IsCellJob (memory_width netlist.storages) temps) (jobs_from (widths_of netlist) at out values)
-  works_plain temps at out [] le = tt
-  works_plain temps at out (value ∷ values) le = (
+  jobs_plain : (temps at out : ℕ) (values : List ExprModel) → temps_of (widths_of netlist) values ≤ temps → AllByRecursion (IsCellJob (memory_width netlist.storages) temps) (jobs_from (widths_of netlist) at out values)
+  jobs_plain temps at out [] le = tt
+  jobs_plain temps at out (value ∷ values) le = (
     record {
       address = out;
       tree = tree_from (widths_of netlist) at value;
@@ -59,9 +59,9 @@ module _ (netlist : Netlist) where
       plain = is_plain at value;
       few = let e = same_need at value in omega (arith, e, le);
     },
-    works_plain temps (at + operands value) (out + 1) values (omega (arith, le)),
+    jobs_plain temps (at + operands value) (out + 1) values (omega (arith, le)),
   )
 
 -- the jobs of a netlist's self-test
-pub test_plain : (netlist : Netlist) (rules : List FormModel) (patterns : List Pattern) → AllByRecursion (IsCellJob (memory_width netlist.storages) (test_temps netlist rules patterns)) (test_jobs netlist rules patterns)
-test_plain netlist rules patterns = works_plain netlist (test_temps netlist rules patterns) _ _ (test_values netlist rules patterns) (omega arith)
+pub test_plain : (netlist : Netlist) (forms : List FormModel) (patterns : List Pattern) → AllByRecursion (IsCellJob (memory_width netlist.storages) (test_temps netlist forms patterns)) (test_jobs netlist forms patterns)
+test_plain netlist forms patterns = jobs_plain netlist (test_temps netlist forms patterns) _ _ (test_values netlist forms patterns) (omega arith)

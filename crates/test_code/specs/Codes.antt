@@ -13,11 +13,11 @@ use Rattle.test_code.specs.Tried.{AreTried, AreWordsOf, cost_sum, skipped_count,
 -- the words of all jobs that have a cover, with how many have one, how many have none, and what
 -- the covers cost together
 pub record IsCodeOf (netlist : Netlist) (patterns : List Pattern) (stock : StockModel)
-    (works : List JobModel) (code : TestCode) : Type 0 where
+    (jobs : List JobModel) (code : TestCode) : Type 0 where
   pub tried : List (Option JobCoverModel)
-  pub trials : AreTried stock works tried
+  pub trials : AreTried stock jobs tried
   pub tested : code.tested ≡ tested_count tried
   pub skipped : code.skipped ≡ skipped_count tried
-  pub cost : code.cost ≡ capped (cost_sum works tried)
-  pub words : AreWordsOf netlist patterns stock works tried code.words.items
+  pub cost : code.cost ≡ capped (cost_sum jobs tried)
+  pub words : AreWordsOf netlist patterns stock jobs tried code.words.items
   pub fit : AllByRecursion (WordFits netlist) code.words.items

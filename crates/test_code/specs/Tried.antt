@@ -41,7 +41,7 @@ skipped_count (Some choice ∷ tried) = skipped_count tried
 -- the sum of the costs of the covers
 abbrev pub cost_sum : List JobModel → List (Option JobCoverModel) → ℕ
 cost_sum (job ∷ jobs) (None ∷ tried) = cost_sum jobs tried
-cost_sum (job ∷ jobs) (Some choice ∷ tried) = job_cost job.destination choice.plan + cost_sum jobs tried
+cost_sum (job ∷ jobs) (Some choice ∷ tried) = job_cost job.destination choice.cover + cost_sum jobs tried
 cost_sum _ _ = 0
 
 -- ---- words
@@ -68,9 +68,9 @@ AreWordsOf netlist patterns stock _ _ words = ⊥
 
 -- the forms, with as many temporary cells as the trees of the self-test may need
 abbrev pub test_stock : Netlist → List FormModel → List Pattern → StockModel
-test_stock netlist rules patterns = record {
-  rules = rules;
-  temps = test_temps netlist rules patterns;
+test_stock netlist forms patterns = record {
+  forms = forms;
+  temps = test_temps netlist forms patterns;
   file = size_in InFile netlist.storages;
 }
 
@@ -78,10 +78,10 @@ test_stock netlist rules patterns = record {
 pub record IsMadeFor (netlist : Netlist) (tried : List (Option JobCoverModel)) (words : List ℕ) : Type 0 where
   pub patterns : List Pattern
   pub are : ArePatterns netlist patterns
-  pub rules : List FormModel
+  pub all : List FormModel
   pub reach : ℕ
-  pub forms : AreForms netlist patterns rules reach
-  pub trials : AreTried (test_stock netlist rules patterns) (test_jobs netlist rules patterns) tried
+  pub forms : AreForms netlist patterns all reach
+  pub trials : AreTried (test_stock netlist all patterns) (test_jobs netlist all patterns) tried
   pub code :
-      AreWordsOf netlist patterns (test_stock netlist rules patterns)
-      (test_jobs netlist rules patterns) tried words
+      AreWordsOf netlist patterns (test_stock netlist all patterns)
+      (test_jobs netlist all patterns) tried words

@@ -37,27 +37,27 @@ uncapped told count e lt = omega (arith, e, lt)
 
 -- ---- cells
 
-module _ (netlist : Netlist) (patterns : List Pattern) (rules : List FormModel) (has : HasForms netlist patterns rules) where
-  pub data_full : (need have : ℕ) → need ≡ capped (test_need netlist rules patterns) → need < 2 ^ 64 - 1 → have ≡ memory_size netlist.storages → memory_size netlist.storages < capped (test_need netlist rules patterns)
+module _ (netlist : Netlist) (patterns : List Pattern) (forms : List FormModel) (has : HasForms netlist patterns forms) where
+  pub data_full : (need have : ℕ) → need ≡ capped (test_need netlist forms patterns) → need < 2 ^ 64 - 1 → have ≡ memory_size netlist.storages → memory_size netlist.storages < capped (test_need netlist forms patterns)
       → IsTestDataFull netlist need have
   data_full need have e lt size more = record {
     patterns = patterns;
-    rules = rules;
+    forms = forms;
     has = has;
-    needs = uncapped need (test_need netlist rules patterns) e lt;
+    needs = uncapped need (test_need netlist forms patterns) e lt;
     size = size;
     more = omega (arith, e, size, more);
   }
 
-  pub cells : test_need netlist rules patterns ≤ memory_size netlist.storages → HasTestCells netlist
-  cells room = record { patterns = patterns; rules = rules; has = has; room = room }
+  pub cells : test_need netlist forms patterns ≤ memory_size netlist.storages → HasTestCells netlist
+  cells room = record { patterns = patterns; forms = forms; has = has; room = room }
 
   -- ---- code
 
-  pub code_made : (code : TestCode) → IsCodeOf netlist patterns (test_stock netlist rules patterns) (test_jobs netlist rules patterns) code → test_need netlist rules patterns ≤ memory_size netlist.storages → (IsStepless netlist → ⊥) → IsTestCode netlist code
+  pub code_made : (code : TestCode) → IsCodeOf netlist patterns (test_stock netlist forms patterns) (test_jobs netlist forms patterns) code → test_need netlist forms patterns ≤ memory_size netlist.storages → (IsStepless netlist → ⊥) → IsTestCode netlist code
   code_made code c room steps = record {
     tried = c.tried;
-    made = record { patterns = patterns; are = has.are; rules = rules; reach = has.reach; forms = has.forms; trials = c.trials; code = c.words };
+    made = record { patterns = patterns; are = has.are; all = forms; reach = has.reach; forms = has.forms; trials = c.trials; code = c.words };
     tested = c.tested;
     skipped = c.skipped;
     cost = c.cost;
@@ -89,7 +89,7 @@ more_counted netlist a b le =
 module _ (netlist : Netlist) (code : TestCode) (c : IsTestCode netlist code) where
   pub testable : IsTestable netlist
   testable = record {
-    cells = record { patterns = c.made.patterns; rules = c.made.rules; has = has_forms netlist c.tried code.words.items c.made; room = c.cells };
+    cells = record { patterns = c.made.patterns; forms = c.made.all; has = has_forms netlist c.tried code.words.items c.made; room = c.cells };
     steps = c.steps;
   }
 

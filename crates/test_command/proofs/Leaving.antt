@@ -50,7 +50,7 @@ pub record LeavesAll (netlist : Netlist) (code : List ℕ) (temps : ℕ) (jobs :
 alike_on : (at : ℕ) (xs ys zs : List ℕ) → Alike at xs ys → Alike at ys zs → Alike at xs zs
 alike_on at xs ys zs a b = record { same = a.same ∙ b.same; long = a.long ∙ b.long }
 
-module _ (netlist : Netlist) (code : List ℕ) (patterns : List Pattern) (stock : StockModel) (sized : stock.file ≡ size_in InFile netlist.storages) (formed : AreFormed (file_place netlist.storages) patterns (length netlist.storages) stock.file stock.rules) where
+module _ (netlist : Netlist) (code : List ℕ) (patterns : List Pattern) (stock : StockModel) (sized : stock.file ≡ size_in InFile netlist.storages) (formed : AreFormed (file_place netlist.storages) patterns (length netlist.storages) stock.file stock.forms) where
   -- the words of one job
   one_left : (job : JobModel) (choice : JobCoverModel) (words : List ℕ) (s : State) → AreJobWords netlist patterns stock job choice words → IsCovered stock job choice → HasOne job.destination job.trees
       → AllLie stock.temps s.cells (job ∷ []) → IsState netlist s → StandAt code (counter_in netlist s) words → counter_in netlist s + length words ≤ 2 ^ counter_width netlist
@@ -76,7 +76,7 @@ module _ (netlist : Netlist) (code : List ℕ) (patterns : List Pattern) (stock 
   all_left (job ∷ jobs) [] words s c made lies state stands room = absurd c
   all_left (job ∷ jobs) (None ∷ tried) words s c made lies state stands room = all_left jobs tried words s c made lies state stands room
   all_left (job ∷ jobs) (Some choice ∷ tried) words s c (first, rest, own, later, is) lies state stands room =
-      let works : List JobModel = tested_jobs jobs tried in
+      let models : List JobModel = tested_jobs jobs tried in
       let at : ℕ = counter_in netlist s in
       let long : length words ≡ length first + length rest = ap length is ∙ length-append first rest in
       let parts = stand_parts code first rest at (subst (StandAt code at) is stands) in
@@ -84,12 +84,12 @@ module _ (netlist : Netlist) (code : List ℕ) (patterns : List Pattern) (stock 
       let r : RunsTo netlist code s (length first) no_regs (steps_effect (operation_in netlist patterns) (job_steps stock job choice) s) = one.0 in
       let alike : Alike stock.temps (done job s.cells) r.last.cells = one.1 in
       let on = stand_on code rest (at + length first) (counter_in netlist r.last) (2 ^ counter_width netlist) r.counter (r.state.fits.regs (counter_of netlist.codes)) (omega (arith, room, long)) parts.1 in
-      let k : LeavesAll netlist code stock.temps works r.last (length rest) =
-      all_left jobs tried rest r.last c.2 later (all_lie_behind stock.temps (done job s.cells) r.last.cells works alike lies.1) r.state on.0 on.1 in
-      let b : Alike stock.temps (all_done works (done job s.cells)) (all_done works r.last.cells) = all_done_behind stock.temps (done job s.cells) r.last.cells works alike lies.1 in
+      let k : LeavesAll netlist code stock.temps models r.last (length rest) =
+      all_left jobs tried rest r.last c.2 later (all_lie_behind stock.temps (done job s.cells) r.last.cells models alike lies.1) r.state on.0 on.1 in
+      let b : Alike stock.temps (all_done models (done job s.cells)) (all_done models r.last.cells) = all_done_behind stock.temps (done job s.cells) r.last.cells models alike lies.1 in
       record {
         last = k.last;
         is = λ cycle. run_on netlist code (length first) (length rest) (length words) cycle s r.last k.last long (any_cycle netlist code (length first) 0 cycle s r.last r.is) k.is;
         state = k.state;
-        alike = alike_on stock.temps (all_done works (done job s.cells)) (all_done works r.last.cells) k.last.cells b k.alike;
+        alike = alike_on stock.temps (all_done models (done job s.cells)) (all_done models r.last.cells) k.last.cells b k.alike;
       }

@@ -51,26 +51,26 @@ module _ (netlist : Netlist) (order : List ℕ) (keeps : KeepsRules netlist orde
   known : AreKnown netlist made.patterns
   known = known_of netlist order keeps made.patterns made.are
 
-  formed : AreFormed (file_place netlist.storages) made.patterns (length netlist.storages) (size_in InFile netlist.storages) made.rules
-  formed = are_formed netlist order keeps some made.patterns known made.reach made.rules made.forms.list
+  formed : AreFormed (file_place netlist.storages) made.patterns (length netlist.storages) (size_in InFile netlist.storages) made.all
+  formed = are_formed netlist order keeps some made.patterns known made.reach made.all made.forms.list
 
   abbrev values : List ExprModel
-  values = test_values netlist made.rules made.patterns
+  values = test_values netlist made.all made.patterns
 
   abbrev temps : ℕ
-  temps = test_temps netlist made.rules made.patterns
+  temps = test_temps netlist made.all made.patterns
 
   abbrev outputs : ℕ
   outputs = temps + all_operands values
 
-  abbrev works : List JobModel
-  works = test_jobs netlist made.rules made.patterns
+  abbrev cell_jobs : List JobModel
+  cell_jobs = test_jobs netlist made.all made.patterns
 
   abbrev start : State
   start = test_start netlist
 
   abbrev stock : StockModel
-  stock = test_stock netlist made.rules made.patterns
+  stock = test_stock netlist made.all made.patterns
 
   -- the chosen covers have cells for their cuts
   covers : (jobs : List JobModel) (others : List (Option JobCoverModel)) → AllByRecursion (IsCellJob (memory_width netlist.storages) temps) jobs → AreTried stock jobs others → AreTriedCovers stock jobs others
@@ -79,21 +79,21 @@ module _ (netlist : Netlist) (order : List ℕ) (keeps : KeepsRules netlist orde
   covers (job ∷ jobs) [] j c = absurd c
   covers (job ∷ jobs) (None ∷ others) j c = covers jobs others j.1 c.1
   covers (job ∷ jobs) (Some choice ∷ others) j c = (
-    job_covered netlist order keeps made.patterns made.are made.rules made.reach made.forms temps (size_in InFile netlist.storages) job choice j.0 c.0,
+    job_covered netlist order keeps made.patterns made.are made.all made.reach made.forms temps (size_in InFile netlist.storages) job choice j.0 c.0,
     subst (λ (x : JobModel). HasOne x.destination x.trees) (sym j.0.is) (j.0.tree, refl),
     covers jobs others j.1 c.1,
   )
 
-  module _ (cells : test_need netlist made.rules made.patterns ≤ memory_size netlist.storages) (room : length words ≤ code_size netlist.codes) where
+  module _ (cells : test_need netlist made.all made.patterns ≤ memory_size netlist.storages) (room : length words ≤ code_size netlist.codes) where
     -- what the run of the words leaves
-    left : LeavesAll netlist words temps (tested_jobs works tried) start (length words)
+    left : LeavesAll netlist words temps (tested_jobs cell_jobs tried) start (length words)
     left =
         let state = start_fits netlist in
         let at : counter_in netlist start ≡ 0 = zero_at (length netlist.storages) (counter_of netlist.codes) in
         let size = keeps.roles.sizes.0.1 in
         let long = state.cells InMemory in
-        all_left netlist words made.patterns stock refl formed works tried words start
-        (covers works tried (test_plain netlist made.rules made.patterns) made.trials) made.code
+        all_left netlist words made.patterns stock refl formed cell_jobs tried words start
+        (covers cell_jobs tried (test_plain netlist made.all made.patterns) made.trials) made.code
         (lie netlist temps values tried temps outputs start.cells (omega arith) (omega arith) (omega (arith, cells, long))) state
         (subst (λ n. StandAt words n words) (sym at) (stand_whole words)) (omega (arith, at, room, size))
 
@@ -104,9 +104,9 @@ module _ (netlist : Netlist) (order : List ℕ) (keeps : KeepsRules netlist orde
           record {
             made = made;
             runs = record { ends = left.last; runs = left.is 0; cells = refl };
-            values = hold netlist (memory_width netlist.storages) temps outputs start left.last.cells values tried temps outputs start.cells (test_plain netlist made.rules made.patterns)
+            values = hold netlist (memory_width netlist.storages) temps outputs start left.last.cells values tried temps outputs start.cells (test_plain netlist made.all made.patterns)
                 (tried_long netlist stock values tried temps outputs made.trials)
                 (omega arith) (omega arith) (omega arith) (omega (arith, cells, long)) (λ a h. refl)
-                (λ c h. sym (cell_behind temps c (all_done (tested_jobs works tried) start.cells) left.last.cells left.alike.same h));
+                (λ c h. sym (cell_behind temps c (all_done (tested_jobs cell_jobs tried) start.cells) left.last.cells left.alike.same h));
           },
         )

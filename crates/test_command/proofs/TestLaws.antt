@@ -44,7 +44,7 @@ module _ (netlist : Netlist) where
       let g = e.1 in
       (λ j. test_need netlist (g j) (f j))
 
-  pub has_forms : (tried : List (Option JobCoverModel)) (words : List ℕ) (made : IsMadeFor netlist tried words) → HasForms netlist made.patterns made.rules
+  pub has_forms : (tried : List (Option JobCoverModel)) (words : List ℕ) (made : IsMadeFor netlist tried words) → HasForms netlist made.patterns made.all
   has_forms tried words made = record { are = made.are; reach = made.reach; forms = made.forms }
 
 -- the covers of all jobs that have one cost the same
@@ -63,21 +63,21 @@ sums_one stock (job ∷ jobs) (Some c ∷ a) (Some d ∷ b) h k =
     omega (arith, e, f)
 
 -- what is tried of the jobs of one of two self-tests is tried of those of the other
-trials_alike : (netlist : Netlist) (a b : List (Option JobCoverModel)) (ws vs : List ℕ) (p : IsMadeFor netlist a ws) (q : IsMadeFor netlist b vs) → AreTried (test_stock netlist q.rules q.patterns) (test_jobs netlist q.rules q.patterns) a
+trials_alike : (netlist : Netlist) (a b : List (Option JobCoverModel)) (ws vs : List ℕ) (p : IsMadeFor netlist a ws) (q : IsMadeFor netlist b vs) → AreTried (test_stock netlist q.all q.patterns) (test_jobs netlist q.all q.patterns) a
 trials_alike netlist a b ws vs p q =
-    let e = lists_one netlist p.patterns q.patterns p.rules q.rules (has_forms netlist a ws p) (has_forms netlist b vs q) in
+    let e = lists_one netlist p.patterns q.patterns p.all q.all (has_forms netlist a ws p) (has_forms netlist b vs q) in
     let f = e.0 in
     let g = e.1 in
-    subst (λ (ps : List Pattern). AreTried (test_stock netlist q.rules ps) (test_jobs netlist q.rules ps) a) f
+    subst (λ (ps : List Pattern). AreTried (test_stock netlist q.all ps) (test_jobs netlist q.all ps) a) f
     (subst (λ (rs : List FormModel). AreTried (test_stock netlist rs p.patterns) (test_jobs netlist rs p.patterns) a) g p.trials)
 
 test_cost_one : (netlist : Netlist) (a b : List (Option JobCoverModel)) (ws vs : List ℕ) (p : IsMadeFor netlist a ws) (q : IsMadeFor netlist b vs) → test_cost netlist a ws p ≡ test_cost netlist b vs q
 test_cost_one netlist a b ws vs p q =
-    let e = lists_one netlist p.patterns q.patterns p.rules q.rules (has_forms netlist a ws p) (has_forms netlist b vs q) in
+    let e = lists_one netlist p.patterns q.patterns p.all q.all (has_forms netlist a ws p) (has_forms netlist b vs q) in
     let f = e.0 in
     let g = e.1 in
     (λ j. cost_sum (test_jobs netlist (g j) (f j)) a)
-    ∙ sums_one (test_stock netlist q.rules q.patterns) (test_jobs netlist q.rules q.patterns) a b (trials_alike netlist a b ws vs p q) q.trials
+    ∙ sums_one (test_stock netlist q.all q.patterns) (test_jobs netlist q.all q.patterns) a b (trials_alike netlist a b ws vs p q) q.trials
 
 -- ---- texts
 
@@ -104,7 +104,7 @@ pub one_text : (netlist : Netlist) (text other : List ℕ) (a : IsTestText netli
 one_text netlist text other a b e =
     let trials = trials_alike netlist a.tried b.tried a.words b.words a.right.made b.right.made in
     let made = b.right.made in
-    let counts = counts_one (test_stock netlist made.rules made.patterns) (test_jobs netlist made.rules made.patterns) a.tried b.tried trials made.trials in
+    let counts = counts_one (test_stock netlist made.all made.patterns) (test_jobs netlist made.all made.patterns) a.tried b.tried trials made.trials in
     let tested = counts.0 in
     let skipped = counts.1 in
     let good = goods_one netlist (test_start netlist) a.words b.words a.good b.good e a.right.runs b.right.runs in
@@ -132,12 +132,12 @@ module _ (net : List ℕ) where
 
   pub one_full : (p q : ℕ × ℕ) → NetHolds net (λ netlist. IsTestDataFull netlist p.0 p.1) → NetHolds net (λ netlist. IsTestDataFull netlist q.0 q.1) → p ≡ q
   one_full (a, b) (c, d) = together (λ netlist. IsTestDataFull netlist a b) (λ netlist. IsTestDataFull netlist c d) ((a, b) ≡ (c, d)) (λ netlist x y.
-      let e = need_one netlist x.patterns y.patterns x.rules y.rules x.has y.has in
+      let e = need_one netlist x.patterns y.patterns x.forms y.forms x.has y.has in
       let f = x.needs in let g = y.needs in let h = x.size in let k = y.size in cc)
 
   pub no_full : (need have : ℕ) → NetHolds net HasTestCells → NetHolds net (λ netlist. IsTestDataFull netlist need have) → ⊥
   no_full need have = together HasTestCells (λ netlist. IsTestDataFull netlist need have) ⊥ (λ netlist x y.
-      let e = need_one netlist x.patterns y.patterns x.rules y.rules x.has y.has in
+      let e = need_one netlist x.patterns y.patterns x.forms y.forms x.has y.has in
       let a = x.room in let b = y.needs in let c = y.size in let d = y.more in omega arith)
 
   pub no_stepless : NetHolds net IsTestable → NetHolds net IsStepless → ⊥

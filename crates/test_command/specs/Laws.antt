@@ -14,7 +14,7 @@ abbrev pub MadeIsRight : Type 0
 MadeIsRight =
     (netlist : Netlist) (order : List ℕ) → KeepsRules netlist order →
     (tried : List (Option JobCoverModel)) (words : List ℕ) (made : IsMadeFor netlist tried words) →
-    test_need netlist made.rules made.patterns ≤ memory_size netlist.storages →
+    test_need netlist made.all made.patterns ≤ memory_size netlist.storages →
     length words ≤ code_size netlist.codes →
     (good : List ℕ) × IsRightTest netlist tried words good
 

@@ -17,28 +17,28 @@ use Rattle.test_command.specs.Tested.{IsRightTest}
 use Rattle.test_code.specs.Tried.{IsMadeFor, cost_sum, skipped_count, tested_count}
 
 -- these are the netlist's patterns and its forms; it has one list of each
-pub record HasForms (netlist : Netlist) (patterns : List Pattern) (rules : List FormModel) : Type 0 where
+pub record HasForms (netlist : Netlist) (patterns : List Pattern) (all : List FormModel) : Type 0 where
   pub are : ArePatterns netlist patterns
   pub reach : ℕ
-  pub forms : AreForms netlist patterns rules reach
+  pub forms : AreForms netlist patterns all reach
 
 -- ---- cells
 
 -- the self-test needs more cells than the memory has, and these are the numbers
 pub record IsTestDataFull (netlist : Netlist) (need have : ℕ) : Type 0 where
   pub patterns : List Pattern
-  pub rules : List FormModel
-  pub has : HasForms netlist patterns rules
-  pub needs : need ≡ test_need netlist rules patterns
+  pub forms : List FormModel
+  pub has : HasForms netlist patterns forms
+  pub needs : need ≡ test_need netlist forms patterns
   pub size : have ≡ memory_size netlist.storages
   pub more : have < need
 
 -- the memory has the cells that it needs
 pub record HasTestCells (netlist : Netlist) : Type 0 where
   pub patterns : List Pattern
-  pub rules : List FormModel
-  pub has : HasForms netlist patterns rules
-  pub room : test_need netlist rules patterns ≤ memory_size netlist.storages
+  pub forms : List FormModel
+  pub has : HasForms netlist patterns forms
+  pub room : test_need netlist forms patterns ≤ memory_size netlist.storages
 
 -- ---- steps: `IsStepless` of `code_gen`
 
@@ -51,7 +51,7 @@ pub record IsTestable (netlist : Netlist) : Type 0 where
 
 -- the sum of the costs of the candidates that are tested
 abbrev pub test_cost : (netlist : Netlist) (tried : List (Option JobCoverModel)) (words : List ℕ) → IsMadeFor netlist tried words → ℕ
-test_cost netlist tried words made = cost_sum (test_jobs netlist made.rules made.patterns) tried
+test_cost netlist tried words made = cost_sum (test_jobs netlist made.all made.patterns) tried
 
 -- words that are made for the netlist are more than the code has, and so is the sum of the costs;
 -- these are the numbers

@@ -32,4 +32,4 @@ HoldValues s cells _ _ = ⊥
 pub record IsRightTest (netlist : Netlist) (tried : List (Option JobCoverModel)) (words good : List ℕ) : Type 0 where
   pub made : IsMadeFor netlist tried words
   pub runs : IsGoodRun netlist words (test_start netlist) good
-  pub values : HoldValues (test_start netlist) good (test_jobs netlist made.rules made.patterns) tried
+  pub values : HoldValues (test_start netlist) good (test_jobs netlist made.all made.patterns) tried

@@ -10,9 +10,9 @@ ghost use Rattle.net_model.specs.CheckedRules.{KeepsRules, code_size};
 ghost use Rattle.net_model.specs.Nets.{size_in};
 ghost use Rattle.net_model.specs.Patterns.{ArePatterns};
 ghost use Rattle.isa_extract.specs.Extraction.{IsExtractedFrom};
-ghost use Rattle.transfer_set.specs.Ready.{IsReady};
+ghost use Rattle.transfer_set.specs.Machines.{IsReadyFor};
 ghost use Rattle.transfer_set.specs.Rows.{row_patterns};
-ghost use Rattle.code_gen.specs.Machines.{machine_netlist, machine_patterns};
+ghost use Rattle.code_gen.specs.Machines.{known_netlist, known_patterns};
 ghost use Rattle.self_test.specs.Told.{IsTold};
 ghost use Rattle.test_command.specs.Inner.Codes.{AreTestJobs, IsTestCode};
 ghost use Rattle.test_command.specs.Refusals.{HasForms, IsTestText, test_count, test_limit};
@@ -22,7 +22,7 @@ use crate::fault::TestFault;
 use binding::BindFault;
 use bit_bdd::Book;
 use code_gen::only_control;
-use compaction::{Machine, tables_of};
+use compaction::{KnownMachine, tables_of};
 use form_model::Forms;
 use form_set::forms;
 use isa_extract::{Isa, read_extracted_taken};
@@ -32,6 +32,7 @@ use self_test::{TestJobs, candidates};
 use std::alloc::Global;
 use test_code::{TestCode, code_of};
 use test_run::report;
+use transfer_set::Machine;
 
 // The newest edition of the netlist texts that are tested.
 const EDITION: u8 = 1;
@@ -50,21 +51,15 @@ fn exact(count: u64) -> Result<u64, NoMemory>
 }
 
 // The jobs of the self-test, by the netlist's forms.
-fn jobs(alloc: Global, machine: &Machine<'_>, forms: &Forms) -> Result<TestJobs, TestFault>
-    requires told { IsTold (machine_netlist machine.now) machine.now.pool.now machine.now.patterns.now }
-    requires forms { HasForms (machine_netlist machine.now) (machine_patterns machine.now)
+fn jobs(alloc: Global, known: &KnownMachine<'_>, forms: &Forms) -> Result<TestJobs, TestFault>
+    requires told { IsTold (known_netlist known.now) known.now.machine.pool.now known.now.machine.patterns.now }
+    requires forms { HasForms (known_netlist known.now) (known_patterns known.now)
         (models_of_forms forms.now.list.items) }
-    ensures jobs { IfOk result (AreTestJobs (machine_netlist machine.now)
-        (models_of_forms forms.now.list.items) (machine_patterns machine.now)) }
-    ensures refused { IfErr result (LacksTest (machine_netlist machine.now)) }
+    ensures jobs { IfOk result (AreTestJobs (known_netlist known.now)
+        (models_of_forms forms.now.list.items) (known_patterns known.now)) }
+    ensures refused { IfErr result (LacksTest (known_netlist known.now)) }
 {
-    match candidates(
-        alloc,
-        machine.checked,
-        machine.patterns,
-        forms,
-        machine.pool,
-    ) {
+    match candidates(alloc, &known.machine, forms) {
         Ok(tests) => Ok(tests),
         Err(BindFault::DataFull { need, have }) => {
             let need = exact(need)?;
@@ -77,25 +72,25 @@ fn jobs(alloc: Global, machine: &Machine<'_>, forms: &Forms) -> Result<TestJobs,
 // The code of the self-test, by the netlist's forms, of which one is no jump and no branch.
 fn code(
     alloc: Global,
-    machine: &Machine<'_>,
+    known: &KnownMachine<'_>,
     book: &mut Book,
     forms: &Forms,
 ) -> Result<TestCode, TestFault>
-    requires ready { IsReady (machine_netlist machine.now) book.old machine.now.pool.now machine.now.patterns.now }
-    requires tables { KnowsReads machine.now }
-    requires patterns { ArePatterns (machine_netlist machine.now) (machine_patterns machine.now) }
-    requires forms { AreForms (machine_netlist machine.now) (machine_patterns machine.now)
+    requires ready { IsReadyFor known.now.machine book.old }
+    requires tables { KnowsReads known.now }
+    requires patterns { ArePatterns (known_netlist known.now) (known_patterns known.now) }
+    requires forms { AreForms (known_netlist known.now) (known_patterns known.now)
         (models_of_forms forms.now.list.items) forms.now.reach }
-    requires file { forms.now.file ≡ size_in InFile (machine_netlist machine.now).storages }
-    requires plain { (machine_netlist machine.now).special ≡ None }
-    ensures code { IfOk result (IsTestCode (machine_netlist machine.now)) }
-    ensures refused { IfErr result (LacksTest (machine_netlist machine.now)) }
+    requires file { forms.now.file ≡ size_in InFile (known_netlist known.now).storages }
+    requires plain { (known_netlist known.now).special ≡ None }
+    ensures code { IfOk result (IsTestCode (known_netlist known.now)) }
+    ensures refused { IfErr result (LacksTest (known_netlist known.now)) }
 {
-    let tests = jobs(alloc, machine, forms)?;
+    let tests = jobs(alloc, known, forms)?;
     if only_control(&forms.list) {
         return Err(TestFault::NoStep);
     }
-    let code = code_of(alloc, machine, book, forms, &tests)?;
+    let code = code_of(alloc, known, book, forms, &tests)?;
     Ok(code)
 }
 
@@ -177,17 +172,19 @@ fn text_of(alloc: Global, checked: &Checked, extracted: &mut Isa) -> Result<Item
         patterns,
         ..
     } = extracted;
-    let (pool, patterns) = (&*pool, &*patterns);
-    let forms = forms(alloc, checked, patterns, book, pool)?;
-    let tables = tables_of(alloc, pool)?;
     let machine = Machine {
         checked,
-        pool,
-        patterns,
+        pool: &*pool,
+        patterns: &*patterns,
+    };
+    let forms = forms(alloc, &machine, book)?;
+    let tables = tables_of(alloc, machine.pool)?;
+    let known = KnownMachine {
+        machine,
         registers: tables.registers.as_slice(),
         memory: tables.memory.as_slice(),
     };
-    let code = code(alloc, &machine, book, &forms)?;
+    let code = code(alloc, &known, book, &forms)?;
     text(alloc, checked, &code)
 }
 

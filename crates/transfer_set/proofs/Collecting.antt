@@ -90,28 +90,28 @@ held_later old new e (r ∷ routes) h word =
     let q = held_later old new e routes h.1 word in
     (λ j. (if p j then r.expr ∷ [] else []) ++ q j)
 
-pub terms_later : (old new : Diagrams) → Extends old new → (pool : List Node) (routes : List Route) → AllSets old routes → (word : ℕ) → models_under new pool routes word ≡ models_under old pool routes word
-terms_later old new e pool routes h word = ap (map (expr_of_id pool)) (held_later old new e routes h word)
+pub models_later : (old new : Diagrams) → Extends old new → (pool : List Node) (routes : List Route) → AllSets old routes → (word : ℕ) → models_under new pool routes word ≡ models_under old pool routes word
+models_later old new e pool routes h word = ap (map (expr_of_id pool)) (held_later old new e routes h word)
 
-terms_step : (book : Diagrams) (pool : List Node) (route : Route) (rest : List ℕ) (word : ℕ) (b : Bool) → map (expr_of_id pool) ((if b then route.expr ∷ [] else []) ++ rest) ≡ list_if b (expr_of_id pool route.expr ∷ []) ++ map (expr_of_id pool) rest
-terms_step book pool route rest word true = refl
-terms_step book pool route rest word false = refl
+models_step : (book : Diagrams) (pool : List Node) (route : Route) (rest : List ℕ) (word : ℕ) (b : Bool) → map (expr_of_id pool) ((if b then route.expr ∷ [] else []) ++ rest) ≡ list_if b (expr_of_id pool route.expr ∷ []) ++ map (expr_of_id pool) rest
+models_step book pool route rest word true = refl
+models_step book pool route rest word false = refl
 
-terms_suc : (book : Diagrams) (pool : List Node) (routes : List Route) (i : ℕ) (route : Route) → slice_get routes i ≡ Some route → (word : ℕ)
+models_suc : (book : Diagrams) (pool : List Node) (routes : List Route) (i : ℕ) (route : Route) → slice_get routes i ≡ Some route → (word : ℕ)
     → models_under book pool (take (suc i) routes) word ≡ models_under book pool (take i routes) word ++ list_if (has_word book route.set word) (expr_of_id pool route.expr ∷ [])
-terms_suc book pool [] i route at word = absurd (cc)
-terms_suc book pool (r ∷ routes) zero route at word =
-    terms_step book pool r [] word (has_word book r.set word) ∙ append-nil (list_if (has_word book r.set word) (expr_of_id pool r.expr ∷ []))
+models_suc book pool [] i route at word = absurd (cc)
+models_suc book pool (r ∷ routes) zero route at word =
+    models_step book pool r [] word (has_word book r.set word) ∙ append-nil (list_if (has_word book r.set word) (expr_of_id pool r.expr ∷ []))
     ∙ (let e : r ≡ route = cc in λ j. list_if (has_word book (e j).set word) (expr_of_id pool (e j).expr ∷ []))
-terms_suc book pool (r ∷ routes) (suc i) route at word =
-    terms_step book pool r (exprs_under book (take (suc i) routes) word) word (has_word book r.set word)
-    ∙ ap (λ l. list_if (has_word book r.set word) (expr_of_id pool r.expr ∷ []) ++ l) (terms_suc book pool routes i route at word)
+models_suc book pool (r ∷ routes) (suc i) route at word =
+    models_step book pool r (exprs_under book (take (suc i) routes) word) word (has_word book r.set word)
+    ∙ ap (λ l. list_if (has_word book r.set word) (expr_of_id pool r.expr ∷ []) ++ l) (models_suc book pool routes i route at word)
     ∙ sym (append_assoc (list_if (has_word book r.set word) (expr_of_id pool r.expr ∷ [])) (models_under book pool (take i routes) word) (list_if (has_word book route.set word) (expr_of_id pool route.expr ∷ [])))
-    ∙ ap (λ l. l ++ list_if (has_word book route.set word) (expr_of_id pool route.expr ∷ [])) (sym (terms_step book pool r (exprs_under book (take i routes) word) word (has_word book r.set word)))
+    ∙ ap (λ l. l ++ list_if (has_word book route.set word) (expr_of_id pool route.expr ∷ [])) (sym (models_step book pool r (exprs_under book (take i routes) word) word (has_word book r.set word)))
 
-pub terms_more : (book : Diagrams) (pool : List Node) (routes : List Route) (i : ℕ) (route : Route) → slice_get routes i ≡ Some route → (word : ℕ)
+pub models_more : (book : Diagrams) (pool : List Node) (routes : List Route) (i : ℕ) (route : Route) → slice_get routes i ≡ Some route → (word : ℕ)
     → models_under book pool (take (i + 1) routes) word ≡ models_under book pool (take i routes) word ++ list_if (has_word book route.set word) (expr_of_id pool route.expr ∷ [])
-terms_more book pool routes i route at word = rw (add-one i) (terms_suc book pool routes i route at word)
+models_more book pool routes i route at word = rw (add-one i) (models_suc book pool routes i route at word)
 
 -- ---- a turn of a loop over routes
 

@@ -23,8 +23,8 @@ use Rattle.sym_expr.specs.Pools.{expr_of_id, IsOneEach}
 use Rattle.transfer_set.specs.declared.route.Route.{Route}
 use Rattle.transfer_set.specs.Routes.{RouteIs, models_under, routes_at}
 use Rattle.transfer_set.specs.Inner.Entries.{ArePairs, AreWrites, each, list_if, memory_transfers, register_transfers}
-use Rattle.transfer_set.specs.Inner.Sources.{IsArray, memory, file, IsOnSet, IsSource, IsStorageKnown, IsWhenKnown, changes, when_set}
-use Rattle.transfer_set.proofs.Collecting.{sets_later, terms_later}
+use Rattle.transfer_set.specs.Inner.Sources.{IsArray, memory, file, IsOnSet, AreSources, IsStorageKnown, IsWhenKnown, changes, when_set}
+use Rattle.transfer_set.proofs.Collecting.{sets_later, models_later}
 use Rattle.transfer_set.proofs.Exact.{exact}
 
 pub all_at : {X : Type 0} (P : X → Type 0) (xs : List X) (i : ℕ) (x : X) → slice_get xs i ≡ Some x → AllByRecursion P xs → P x
@@ -46,7 +46,7 @@ known_later netlist old new e bits (Some (Register name width input when)) h = (
 known_later netlist old new e bits (Some (Memory cells)) h = (h.0, on_later netlist old new e (when_set bits cells.when) cells.when h.1)
 known_later netlist old new e bits (Some (File cells)) h = (h.0, on_later netlist old new e (when_set bits cells.when) cells.when h.1)
 
-pub source_later : (netlist : Netlist) (old new : Diagrams) → Extends old new → (pool : List Node) (controls : ControlBits) (nets : List (List Route)) → IsSource netlist old pool controls nets → IsSource netlist new pool controls nets
+pub source_later : (netlist : Netlist) (old new : Diagrams) → Extends old new → (pool : List Node) (controls : ControlBits) (nets : List (List Route)) → AreSources netlist old pool controls nets → AreSources netlist new pool controls nets
 source_later netlist old new e pool controls nets s = record {
   routes = record {
     long = s.routes.long;
@@ -55,7 +55,7 @@ source_later netlist old new e pool controls nets s = record {
       exprs = (s.routes.tables n).exprs;
     };
     gives = λ n lt word fits.
-        terms_later old new e pool (routes_at nets n) (s.routes.tables n).right.sets word
+        models_later old new e pool (routes_at nets n) (s.routes.tables n).right.sets word
         ∙ s.routes.gives n lt word (subst (λ b. word < 2 ^ b) e.bits fits)
         ∙ ap (λ b. if b then sym_of netlist word n ∷ [] else []) (sym (same_words old new e controls.legal s.within word));
   };
@@ -83,7 +83,7 @@ array_moves t u id cells _ file = refl
 
 -- ---- one storage
 
-module _ (netlist : Netlist) (book : Diagrams) (pool : List Node) (controls : ControlBits) (nets : List (List Route)) (source : IsSource netlist book pool controls nets) (one : IsOneEach pool) where
+module _ (netlist : Netlist) (book : Diagrams) (pool : List Node) (controls : ControlBits) (nets : List (List Route)) (source : AreSources netlist book pool controls nets) (one : IsOneEach pool) where
   route_is : (n : ℕ) → n < length netlist.nets → (place : ℕ) (route : Route) → slice_get (routes_at nets n) place ≡ Some route → RouteIs book pool controls.legal (λ word. sym_of netlist word n) route
   route_is n lt place route at = exact book pool controls.legal (λ word. sym_of netlist word n) (routes_at nets n) one (source.routes.tables n) (source.routes.gives n lt) place route at
 

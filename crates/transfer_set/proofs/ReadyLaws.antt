@@ -14,7 +14,7 @@ use Rattle.net_model.specs.Texts.{text_of_transfer}
 use Rattle.net_model.specs.Transfers.{IsClean, Keeps, StepsOn}
 use Rattle.sym_expr.specs.declared.pool.Node.{Node}
 use Rattle.sym_expr.specs.Pools.{Grows, expr_of_id}
-use Rattle.sym_expr.proofs.CallerLemmas.{grows_refl, same_term}
+use Rattle.sym_expr.proofs.CallerLemmas.{grows_refl, same_expr}
 use Rattle.transfer_set.specs.Entries.{IsAddrKnown, ids_transfer}
 use Rattle.transfer_set.specs.Ready.{IsReady}
 use Rattle.transfer_set.specs.Rows.{row_transfer, row_pattern, row_patterns}
@@ -49,10 +49,10 @@ module _ (netlist : Netlist) (old new : Diagrams) (grows : Extends old new) wher
 
     -- ids of the old pool say the same transfer
     same_move : (addr : Option ℕ) (value : ℕ) → IsAddrKnown (length pool) addr → value < length pool → ids_transfer more addr value ≡ ids_transfer pool addr value
-    same_move None value a v = ap write (same_term pool more grown value v)
+    same_move None value a v = ap write (same_expr pool more grown value v)
     same_move (Some addr) value a v =
-        let p : expr_of_id more addr ≡ expr_of_id pool addr = same_term pool more grown addr a in
-        let q : expr_of_id more value ≡ expr_of_id pool value = same_term pool more grown value v in
+        let p : expr_of_id more addr ≡ expr_of_id pool addr = same_expr pool more grown addr a in
+        let q : expr_of_id more value ≡ expr_of_id pool value = same_expr pool more grown value v in
         (λ j. write_at (p j) (q j))
 
     row_later : (row : Row) → IsRow netlist old pool row → IsRow netlist new more row

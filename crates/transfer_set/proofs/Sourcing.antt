@@ -20,7 +20,7 @@ use Rattle.net_model.specs.Nets.{word_width}
 use Rattle.sym_expr.specs.declared.pool.Node.{Node}
 use Rattle.transfer_set.specs.declared.route.Route.{Route}
 use Rattle.transfer_set.specs.Routes.{AreRoutes}
-use Rattle.transfer_set.specs.Inner.Sources.{IsOnSet, IsSource, IsStorageKnown, IsWhenKnown, only_set}
+use Rattle.transfer_set.specs.Inner.Sources.{IsOnSet, AreSources, IsStorageKnown, IsWhenKnown, only_set}
 use Rattle.net_model.proofs.KeptRules.{sound_of}
 use Rattle.net_model.proofs.Offsets.{gathered_at}
 use Rattle.transfer_set.proofs.Feeding.{all_at}
@@ -54,7 +54,7 @@ module _ (netlist : Netlist) (order : List ℕ) (kept : KeepsRules netlist order
       (gathered_at (λ n. is_static netlist n ≡ true) storage_enables netlist.storages id _ at (sound_of netlist order kept).storages)
       (all_at (StorageKeeps netlist) netlist.storages id _ at kept.formed.storages).2.2
 
-  pub source_of : book.bits ≡ word_width netlist → (pool : List Node) (nets : List (List Route)) → AreRoutes netlist book pool controls.legal nets → IsSource netlist book pool controls nets
+  pub source_of : book.bits ≡ word_width netlist → (pool : List Node) (nets : List (List Route)) → AreRoutes netlist book pool controls.legal nets → AreSources netlist book pool controls nets
   source_of bits pool nets routes = record {
     routes = routes;
     within = control.within;

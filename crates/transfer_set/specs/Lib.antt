@@ -5,6 +5,7 @@ pub mod Rows
 pub mod PatternsText
 pub mod Tables
 pub mod Ready
+pub mod Machines
 pub mod Sets
 pub mod TextMarks
 pub mod Inner

@@ -67,7 +67,7 @@ pub record IsRouteTable (book : Diagrams) (pool : List Node) (routes : List Rout
 
 -- one expression at the words of a set, and none at others
 abbrev pub only : Diagrams → ℕ → ℕ → ExprModel → List ExprModel
-only book legal word term = if has_word book legal word then term ∷ [] else []
+only book legal word expr = if has_word book legal word then expr ∷ [] else []
 
 -- the routes give each word of a set its expression, by just one of them, and no other word any
 abbrev pub GivesExpr : Diagrams → List Node → ℕ → (ℕ → ExprModel) → List Route → Type 0

@@ -9,8 +9,8 @@ ghost use Rattle.net_model.specs.Transfers.{same_reg};
 ghost use Rattle.sym_expr.specs.declared.pool.Node.{Node as TheNode};
 ghost use Rattle.sym_expr.specs.Pools.{expr_of_id};
 ghost use Rattle.transfer_set.specs.Routes.{AllExprs, AllSets, models_under};
-ghost use Rattle.transfer_set.specs.Entries.{IsAddrKnown, IsWordsOf, ids_transfer};
-ghost use Rattle.transfer_set.specs.Inner.Entries.{HaveWords, AreKnown, AreWhole, ArePairs, AreValues, AreWrites, each, list_if, memory_transfers, transfers_under, register_transfers};
+ghost use Rattle.transfer_set.specs.Entries.{IsAddrKnown, IsWordsOf};
+ghost use Rattle.transfer_set.specs.Inner.Entries.{HaveWords, AreKnown, AreWhole, ArePairs, AreValues, AreWrites, each, entry_transfer, list_if, memory_transfers, transfers_under, register_transfers};
 
 use crate::route::Route;
 use bit_bdd::{Book, SetId};
@@ -28,45 +28,44 @@ pub(crate) struct Entry {
     pub(crate) set: SetId,
 }
 
-// Adds a transfer for the words of two sets, unless there is none.
+// A storage, and the words under which it takes what feeds it.
+#[derive(Clone, Copy)]
+pub(crate) struct Sink {
+    pub(crate) storage: u32,
+    pub(crate) on: SetId,
+}
+
+// Adds a transfer for those of its words that a set holds too, unless there is none.
 fn add_entry(
     alloc: Global,
     book: &mut Book,
     out: &mut Items<Entry>,
-    storage: u32,
-    addr: Option<ExprId>,
-    value: ExprId,
-    a: SetId,
-    b: SetId,
+    on: SetId,
+    entry: Entry,
 ) -> Result<(), NoMemory>
-    requires a { a < length book.old.nodes }
-    requires b { b < length book.old.nodes }
+    requires on { on < length book.old.nodes }
+    requires set { entry.set < length book.old.nodes }
     requires words { HaveWords book.old out.old }
     ensures grows { Extends book.old book.new }
     ensures words { OnOk result (HaveWords book.new out.new) }
     ensures moves { OnOk result ((pool : List TheNode) (id word : ℕ) →
         transfers_under book.new pool out.new id word
         ≡ transfers_under book.old pool out.old id word
-        ++ list_if ((storage == id) && (has_word book.old a word && has_word book.old b word))
-        (ids_transfer pool addr value ∷ [])) }
+        ++ list_if ((entry.storage == id) && (has_word book.old on word && has_word book.old entry.set word))
+        (entry_transfer pool entry ∷ [])) }
     ensures whole { OnOk result ((netlist : Netlist) (pool : List TheNode) →
         AreWhole netlist pool book.old out.old →
-        IsWordsOf netlist book.old.bits storage (ids_transfer pool addr value)
-        (λ word. has_word book.old a word && has_word book.old b word) →
+        IsWordsOf netlist book.old.bits entry.storage (entry_transfer pool entry)
+        (λ word. has_word book.old on word && has_word book.old entry.set word) →
         AreWhole netlist pool book.new out.new) }
-    ensures known { OnOk result ((size : ℕ) → AreKnown size out.old → IsAddrKnown size addr →
-        value < size → AreKnown size out.new) }
+    ensures known { OnOk result ((size : ℕ) → AreKnown size out.old → IsAddrKnown size entry.addr →
+        entry.value < size → AreKnown size out.new) }
 {
-    let set = book.and(alloc, a, b)?;
+    let set = book.and(alloc, on, entry.set)?;
     match book.least(set) {
         None => Ok(()),
         Some(_) => {
-            out.push(Entry {
-                storage,
-                addr,
-                value,
-                set,
-            })?;
+            out.push(Entry { set, ..entry })?;
             Ok(())
         }
     }
@@ -90,11 +89,10 @@ fn add_write(
     book: &mut Book,
     pool: &Pool,
     out: &mut Items<Entry>,
-    storage: u32,
-    on: SetId,
+    sink: Sink,
     route: Route,
 ) -> Result<(), NoMemory>
-    requires on { on < length book.old.nodes }
+    requires on { sink.on < length book.old.nodes }
     requires set { route.set < length book.old.nodes }
     requires expr { route.expr < length pool.now }
     requires words { HaveWords book.old out.old }
@@ -104,19 +102,25 @@ fn add_write(
         transfers_under book.new pool.now out.new id word
         ≡ transfers_under book.old pool.now out.old id word
         ++ list_if
-        ((storage == id) && (has_word book.old on word && has_word book.old route.set word))
-        (register_transfers storage (expr_of_id pool.now route.expr))) }
+        ((sink.storage == id) && (has_word book.old sink.on word && has_word book.old route.set word))
+        (register_transfers sink.storage (expr_of_id pool.now route.expr))) }
     ensures whole { OnOk result ((netlist : Netlist) → AreWhole netlist pool.now book.old out.old →
-        (same_reg (expr_of_id pool.now route.expr) storage ≡ false →
-        IsWordsOf netlist book.old.bits storage (write (expr_of_id pool.now route.expr))
-        (λ word. has_word book.old on word && has_word book.old route.set word)) →
+        (same_reg (expr_of_id pool.now route.expr) sink.storage ≡ false →
+        IsWordsOf netlist book.old.bits sink.storage (write (expr_of_id pool.now route.expr))
+        (λ word. has_word book.old sink.on word && has_word book.old route.set word)) →
         AreWhole netlist pool.now book.new out.new) }
     ensures known { OnOk result (AreKnown (length pool.now) out.old → AreKnown (length pool.now) out.new) }
 {
-    if is_own(pool, route.expr, storage) {
+    if is_own(pool, route.expr, sink.storage) {
         return Ok(());
     }
-    add_entry(alloc, book, out, storage, None, route.expr, on, route.set)
+    let entry = Entry {
+        storage: sink.storage,
+        addr: None,
+        value: route.expr,
+        set: route.set,
+    };
+    add_entry(alloc, book, out, sink.on, entry)
 }
 
 // Adds the transfers of a register that takes, under the words of a set, what some routes give.
@@ -125,11 +129,10 @@ pub(crate) fn add_register(
     book: &mut Book,
     pool: &Pool,
     out: &mut Items<Entry>,
-    storage: u32,
-    on: SetId,
+    sink: Sink,
     routes: &[Route],
 ) -> Result<(), NoMemory>
-    requires on { on < length book.old.nodes }
+    requires on { sink.on < length book.old.nodes }
     requires sets { AllSets book.old routes.now }
     requires exprs { AllExprs (length pool.now) routes.now }
     requires words { HaveWords book.old out.old }
@@ -138,16 +141,16 @@ pub(crate) fn add_register(
     ensures moves { OnOk result ((id word : ℕ) →
         transfers_under book.new pool.now out.new id word
         ≡ transfers_under book.old pool.now out.old id word
-        ++ list_if ((storage == id) && has_word book.old on word)
-        (each (register_transfers storage) (models_under book.old pool.now routes.now word))) }
+        ++ list_if ((sink.storage == id) && has_word book.old sink.on word)
+        (each (register_transfers sink.storage) (models_under book.old pool.now routes.now word))) }
     ensures whole { OnOk result ((netlist : Netlist) →
         AreWhole netlist pool.now book.old out.old →
-        AreWrites netlist pool.now book.old storage on routes.now →
+        AreWrites netlist pool.now book.old sink.storage sink.on routes.now →
         AreWhole netlist pool.now book.new out.new) }
     ensures known { OnOk result (AreKnown (length pool.now) out.old → AreKnown (length pool.now) out.new) }
 {
     for route in routes {
-        add_write(alloc, book, pool, out, storage, on, *route)?;
+        add_write(alloc, book, pool, out, sink, *route)?;
     }
     Ok(())
 }
@@ -158,12 +161,11 @@ fn add_values(
     alloc: Global,
     book: &mut Book,
     out: &mut Items<Entry>,
-    storage: u32,
+    sink: Sink,
     addr: ExprId,
-    on: SetId,
     values: &[Route],
 ) -> Result<(), NoMemory>
-    requires on { on < length book.old.nodes }
+    requires on { sink.on < length book.old.nodes }
     requires values { AllSets book.old values.now }
     requires words { HaveWords book.old out.old }
     ensures grows { Extends book.old book.new }
@@ -171,26 +173,23 @@ fn add_values(
     ensures moves { OnOk result ((pool : List TheNode) (id word : ℕ) →
         transfers_under book.new pool out.new id word
         ≡ transfers_under book.old pool out.old id word
-        ++ list_if ((storage == id) && has_word book.old on word)
+        ++ list_if ((sink.storage == id) && has_word book.old sink.on word)
         (each (memory_transfers (expr_of_id pool addr)) (models_under book.old pool values.now word))) }
     ensures whole { OnOk result ((netlist : Netlist) (pool : List TheNode) →
         AreWhole netlist pool book.old out.old →
-        AreValues netlist pool book.old storage addr on values.now →
+        AreValues netlist pool book.old sink.storage addr sink.on values.now →
         AreWhole netlist pool book.new out.new) }
     ensures known { OnOk result ((size : ℕ) → AreKnown size out.old → addr < size →
         AllExprs size values.now → AreKnown size out.new) }
 {
     for route in values {
-        add_entry(
-            alloc,
-            book,
-            out,
-            storage,
-            Some(addr),
-            route.expr,
-            on,
-            route.set,
-        )?;
+        let entry = Entry {
+            storage: sink.storage,
+            addr: Some(addr),
+            value: route.expr,
+            set: route.set,
+        };
+        add_entry(alloc, book, out, sink.on, entry)?;
     }
     Ok(())
 }
@@ -201,12 +200,11 @@ pub(crate) fn add_memory(
     alloc: Global,
     book: &mut Book,
     out: &mut Items<Entry>,
-    storage: u32,
-    on: SetId,
+    sink: Sink,
     addrs: &[Route],
     values: &[Route],
 ) -> Result<(), NoMemory>
-    requires on { on < length book.old.nodes }
+    requires on { sink.on < length book.old.nodes }
     requires addrs { AllSets book.old addrs.now }
     requires values { AllSets book.old values.now }
     requires words { HaveWords book.old out.old }
@@ -215,19 +213,19 @@ pub(crate) fn add_memory(
     ensures moves { OnOk result ((pool : List TheNode) (id word : ℕ) →
         transfers_under book.new pool out.new id word
         ≡ transfers_under book.old pool out.old id word
-        ++ list_if ((storage == id) && has_word book.old on word)
+        ++ list_if ((sink.storage == id) && has_word book.old sink.on word)
         (each (λ a. each (memory_transfers a) (models_under book.old pool values.now word))
         (models_under book.old pool addrs.now word))) }
     ensures whole { OnOk result ((netlist : Netlist) (pool : List TheNode) →
         AreWhole netlist pool book.old out.old →
-        ArePairs netlist pool book.old storage on addrs.now values.now →
+        ArePairs netlist pool book.old sink.storage sink.on addrs.now values.now →
         AreWhole netlist pool book.new out.new) }
     ensures known { OnOk result ((size : ℕ) → AreKnown size out.old → AllExprs size addrs.now →
         AllExprs size values.now → AreKnown size out.new) }
 {
     for route in addrs {
-        let both = book.and(alloc, on, route.set)?;
-        add_values(alloc, book, out, storage, route.expr, both, values)?;
+        let on = book.and(alloc, sink.on, route.set)?;
+        add_values(alloc, book, out, Sink { on, ..sink }, route.expr, values)?;
     }
     Ok(())
 }

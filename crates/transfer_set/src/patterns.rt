@@ -4,18 +4,15 @@ ghost use Rattle.std.specs.Prelude.{◌≡◌, ◌==◌, length, option_copied, 
 ghost use Rattle.bit_bdd.specs.Diagrams.{Extends};
 ghost use Rattle.ctl_bdd.specs.Controls.{IsControl};
 ghost use Rattle.net_model.specs.Nets.{file_place, word_width};
-ghost use Rattle.transfer_set.specs.PatternsText.{IsPatternsText};
 ghost use Rattle.transfer_set.specs.Ready.{IsReady};
 ghost use Rattle.transfer_set.specs.Routes.{AreRoutes};
-ghost use Rattle.transfer_set.specs.Rows.{row_patterns};
 
 mod pattern_text;
 
 use crate::keeping::keep_sets;
-use crate::print::text;
 use crate::route::Routes;
 use crate::row::{Row, sorted_rows};
-use crate::sources::collect_entries;
+use crate::sources::{Source, collect_entries};
 use crate::stepping::{Counter, step_set};
 use bit_bdd::{Book, SetId};
 use ctl_bdd::ControlBits;
@@ -73,7 +70,13 @@ pub fn collect_patterns(
     // the size tells what the first two ids mean
     let _ = book.size();
     let storages = checked.netlist().storages.len() as u32;
-    let entries = collect_entries(alloc, checked, controls, routes, book, pool)?;
+    let source = Source {
+        checked,
+        pool,
+        controls,
+        routes,
+    };
+    let entries = collect_entries(alloc, &source, book)?;
     let keeps = keep_sets(alloc, book, controls.legal, entries.as_slice(), storages)?;
     let step = step_set(alloc, book, pool, entries.as_slice(), Counter::of(checked))?;
     let rows = sorted_rows(alloc, checked, pool, entries.as_slice())?;
@@ -111,6 +114,13 @@ impl Patterns {
         ensures { result ≡ (length self.now.rows == 0) }
     {
         self.rows.is_empty()
+    }
+
+    // What is told of each pattern, by their numbers.
+    pub(crate) fn rows(&self) -> &[Row]
+        ensures { result.now ≡ self.now.rows }
+    {
+        self.rows.as_slice()
     }
 
     fn row(&self, pattern: u32) -> Option<&Row>
@@ -177,22 +187,5 @@ impl Patterns {
         ensures { result ≡ self.now.memory }
     {
         self.memory
-    }
-
-    /// The text of the patterns: how many there are, and for each a line with its number, its
-    /// transfer, and the least word that gives it. They are those of this netlist over this book
-    /// and this pool; the pool isn't read, as the texts were made for the order.
-    pub fn print(
-        &self,
-        alloc: Global,
-        book: &Book,
-        _pool: &Pool,
-        checked: &Checked,
-    ) -> Result<Vec<u8>, NoMemory>
-        requires { IsReady checked.now.netlist book.now _pool.now self.now }
-        ensures { IfOk result (λ text.
-            IsPatternsText checked.now.netlist (row_patterns _pool.now self.now.rows) text.items) }
-    {
-        text(alloc, checked, book, &self.rows)
     }
 }

@@ -63,16 +63,16 @@ pub fn word_of_two(op: Op2) -> &'static str
     }
 }
 
-// Bytes as they stand.
-pub(crate) fn add_bytes(text: &mut Vec<u8>, bytes: &[u8]) -> Result<(), NoMemory>
+/// Adds bytes as they stand. The only error is want of memory, here and in the following.
+pub fn add_bytes(text: &mut Vec<u8>, bytes: &[u8]) -> Result<(), NoMemory>
     ensures { OnOk result (text.new.items ≡ text.old.items ++ bytes.now) }
 {
     text.extend_from_slice(bytes)?;
     Ok(())
 }
 
-// A number in decimal digits.
-pub(crate) fn add_number(text: &mut Vec<u8>, number: u64) -> Result<(), NoMemory>
+/// Adds a number in decimal digits.
+pub fn add_number(text: &mut Vec<u8>, number: u64) -> Result<(), NoMemory>
     ensures { OnOk result (text.new.items ≡ text.old.items ++ decimal number) }
 {
     let mut buffer = Buffer::new();
@@ -80,8 +80,8 @@ pub(crate) fn add_number(text: &mut Vec<u8>, number: u64) -> Result<(), NoMemory
     Ok(())
 }
 
-// A constant with its width.
-fn add_constant(text: &mut Vec<u8>, value: u64, width: u8) -> Result<(), NoMemory>
+/// Adds a constant with its width: `VALUE#WIDTH`.
+pub fn add_constant(text: &mut Vec<u8>, value: u64, width: u8) -> Result<(), NoMemory>
     ensures { OnOk result (text.new.items ≡ text.old.items ++ concat (decimal value ∷ codes "#" ∷ decimal width ∷ [])) }
 {
     add_number(text, value)?;
@@ -97,16 +97,16 @@ fn add_more(text: &mut Vec<u8>, number: u8) -> Result<(), NoMemory>
     add_number(text, u64::from(number))
 }
 
-// A number as the last operand, and the end.
-fn add_last(text: &mut Vec<u8>, number: u8) -> Result<(), NoMemory>
+/// Adds a number as the last operand, and the end: `,NUMBER)`.
+pub fn add_last(text: &mut Vec<u8>, number: u8) -> Result<(), NoMemory>
     ensures { OnOk result (text.new.items ≡ text.old.items ++ concat (codes "," ∷ decimal number ∷ codes ")" ∷ [])) }
 {
     add_more(text, number)?;
     add_bytes(text, b")")
 }
 
-// The bounds of a slice as the last operands, and the end.
-fn add_bounds(text: &mut Vec<u8>, hi: u8, lo: u8) -> Result<(), NoMemory>
+/// Adds the bounds of a slice as the last operands, and the end: `,HI,LO)`.
+pub fn add_bounds(text: &mut Vec<u8>, hi: u8, lo: u8) -> Result<(), NoMemory>
     ensures { OnOk result (text.new.items ≡ text.old.items
         ++ concat (codes "," ∷ decimal hi ∷ codes "," ∷ decimal lo ∷ codes ")" ∷ [])) }
 {

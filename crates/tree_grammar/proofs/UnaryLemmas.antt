@@ -9,7 +9,7 @@ abbrev tree_in : Option PairModel → ExprModel
 tree_in None = const 0 0
 tree_in (Some pair) = pair.tree
 
-tree_where : (b : Bool) (e t : ExprModel) (pair : PairModel) → cond b (Some (record { term = e; tree = t })) None ≡ Some pair → t ≡ pair.tree
+tree_where : (b : Bool) (e t : ExprModel) (pair : PairModel) → cond b (Some (record { expr = e; tree = t })) None ≡ Some pair → t ≡ pair.tree
 tree_where true e t pair h = ap tree_in h
 tree_where false e t pair h = absurd (cc)
 

@@ -18,7 +18,7 @@ abbrev pub model_of_home : Home → HomeModel
 model_of_home (HomeRegister id) = in_register id
 model_of_home (HomeFile shape) = in_file (model_of_expr shape.now)
 
--- the site that a part is
+-- the model of the leaf
 abbrev pub model_of_leaf : Leaf → LeafModel
 model_of_leaf (Operand home tree whole at) = operand (model_of_home home) (model_of_tree tree.now) whole
 model_of_leaf (Cut shape tree at) = cut (model_of_expr shape.now) (model_of_tree tree.now)
@@ -28,7 +28,7 @@ models_of_leaves parts = map model_of_leaf parts
 
 -- the match
 abbrev pub model_of_match : Match → MatchModel
-model_of_match m = record { setting = m.setting; sites = models_of_leaves m.parts.items }
+model_of_match m = record { setting = m.setting; leaves = models_of_leaves m.parts.items }
 
 -- the part's tree is the one of its number
 abbrev pub IsPartAt : List ExprModel → Leaf → Type 0
@@ -40,12 +40,12 @@ abbrev pub AreAt : List ExprModel → List Leaf → Type 0
 AreAt nodes [] = Unit {0}
 AreAt nodes (p ∷ ps) = IsPartAt nodes p × AreAt nodes ps
 
--- the sites have become more by those of what is found, or nothing is found
+-- the leaves have become more by those of what is found, or nothing is found
 abbrev pub Taken : List LeafModel → List LeafModel → Option MatchModel → Option ℕ → Type 0
 Taken old new found None = found ≡ None
 Taken old new found (Some setting) =
     (added : List LeafModel) × (new ≡ old ++ added)
-    × (found ≡ Some (record { setting = setting; sites = added }))
+    × (found ≡ Some (record { setting = setting; leaves = added }))
 
 -- where a tree goes
 abbrev pub model_of_destination : Destination → DestinationModel

@@ -8,7 +8,7 @@ ghost use Rattle.form_model.specs.Forms.{model_of_form};
 ghost use Rattle.form_model.specs.Matches.{address_match, both, matched, taken};
 ghost use Rattle.tree_grammar.specs.Leaves.{AddressStands, AreAt, Stands, Taken, model_of_destination, model_of_match, is_whole, models_of_leaves, value_at};
 
-use crate::parts::{Destination, Leaf, Match};
+use crate::parts::{Destination, Leaf, Match, Subgoal, Subtree};
 use crate::shapes::{is_field_shape, setting_of, shows_all};
 use crate::terms::{past, take};
 use form_model::{Form, Goal, Tree};
@@ -57,7 +57,7 @@ fn take_address<'a>(
             }
             setting_of(addr, u64::from(address))
         }
-        Destination::Store(address) => take(parts, temps, addr, address, false, at),
+        Destination::Store(address) => take(parts, temps, addr, Subtree::inner(address, at)),
         Destination::Temp => {
             if !is_field_shape(addr) {
                 return Ok(None);
@@ -79,27 +79,28 @@ fn take_memory<'a>(
     parts: &mut Vec<Leaf<'a>>,
     temps: u32,
     form: &'a Form,
-    destination: Destination<'a>,
-    tree: &'a Tree,
-    at: u64,
+    goal: Subgoal<'a>,
 ) -> Result<Option<u64>, NoMemory>
     ensures found { IfOk result (λ o. Taken (models_of_leaves parts.old.items) (models_of_leaves parts.new.items)
-        (both (address_match temps (model_of_form form.now).addr (model_of_destination destination.entry))
-        (matched temps (model_of_form form.now).value (model_of_tree tree.now) (is_whole (model_of_destination destination.entry))))
-        o) }
+        (both (address_match temps (model_of_form form.now).addr (model_of_destination goal.entry.destination))
+        (matched temps (model_of_form form.now).value (model_of_tree goal.entry.tree.now)
+        (is_whole (model_of_destination goal.entry.destination)))) o) }
     ensures at { OnOk result ((nodes : List ExprModel) →
-        Stands nodes at (model_of_destination destination.entry) (model_of_tree tree.now) →
+        Stands nodes goal.entry.at (model_of_destination goal.entry.destination) (model_of_tree goal.entry.tree.now) →
         AreAt nodes parts.old.items → AreAt nodes parts.new.items) }
 {
     let Some(addr) = &form.addr else {
         return Ok(None);
     };
-    let whole = is_root(destination);
-    let after = value_number(destination, at)?;
-    let Some(x) = take_address(parts, temps, addr, destination, at)? else {
+    let value = Subtree {
+        tree: goal.tree,
+        whole: is_root(goal.destination),
+        at: value_number(goal.destination, goal.at)?,
+    };
+    let Some(x) = take_address(parts, temps, addr, goal.destination, goal.at)? else {
         return Ok(None);
     };
-    let Some(y) = take(parts, temps, &form.value, tree, whole, after)? else {
+    let Some(y) = take(parts, temps, &form.value, value)? else {
         return Ok(None);
     };
     Ok(Some(x | y))
@@ -111,17 +112,21 @@ fn take_form<'a>(
     parts: &mut Vec<Leaf<'a>>,
     temps: u32,
     form: &'a Form,
-    destination: Destination<'a>,
-    tree: &'a Tree,
-    whole: bool,
-    at: u64,
+    goal: Subgoal<'a>,
 ) -> Result<Option<u64>, NoMemory>
     ensures found { IfOk result (λ o. Taken (models_of_leaves parts.old.items) (models_of_leaves parts.new.items)
-        (taken temps (model_of_form form.now) (model_of_destination destination.entry) (model_of_tree tree.now) whole) o) }
+        (taken temps (model_of_form form.now) (model_of_destination goal.entry.destination)
+        (model_of_tree goal.entry.tree.now) goal.entry.whole) o) }
     ensures at { OnOk result ((nodes : List ExprModel) →
-        Stands nodes at (model_of_destination destination.entry) (model_of_tree tree.now) →
+        Stands nodes goal.entry.at (model_of_destination goal.entry.destination) (model_of_tree goal.entry.tree.now) →
         AreAt nodes parts.old.items → AreAt nodes parts.new.items) }
 {
+    let Subgoal {
+        destination,
+        tree,
+        whole,
+        at,
+    } = goal;
     match &form.goal {
         Goal::Reg(r) => {
             let Destination::Register(id) = destination else {
@@ -130,48 +135,49 @@ fn take_form<'a>(
             if *r != id {
                 return Ok(None);
             }
-            take(parts, temps, &form.value, tree, whole, at)
+            take(parts, temps, &form.value, Subtree { tree, whole, at })
         }
         Goal::File => {
             let Destination::File = destination else {
                 return Ok(None);
             };
-            take(parts, temps, &form.value, tree, whole, at)
+            take(parts, temps, &form.value, Subtree { tree, whole, at })
         }
-        Goal::Memory => take_memory(parts, temps, form, destination, tree, at),
+        Goal::Memory => take_memory(parts, temps, form, goal),
         Goal::Branch { .. } => {
             let Destination::Test = destination else {
                 return Ok(None);
             };
-            take(parts, temps, &form.value, tree, true, at)
+            let tested = Subtree {
+                tree,
+                whole: true,
+                at,
+            };
+            take(parts, temps, &form.value, tested)
         }
         Goal::Jump { .. } => Ok(None),
     }
 }
 
 /// What a form takes of a tree that goes to a destination, where so many temporary cells are used;
-/// none exactly where it doesn't match. A form and a tree have one match at most. `whole` is asked
-/// for a register or the file alone: it says that the tree is the root of its job or the number
-/// that is a read's address. The trees are numbered from `at`, those of a store's address first,
-/// and each part carries the number of its tree. Want of memory stands also for a field above bit
-/// 63 of the word, and for a tree of more nodes than can be counted.
+/// none exactly where it doesn't match. A form and a tree have one match at most. Each part carries
+/// the number of its tree. Want of memory stands also for a field above bit 63 of the word, and for
+/// a tree of more nodes than can be counted.
 pub fn match_at<'a>(
     alloc: Global,
     form: &'a Form,
-    destination: Destination<'a>,
-    tree: &'a Tree,
-    whole: bool,
+    goal: Subgoal<'a>,
     temps: u32,
-    at: u64,
 ) -> Result<Option<Match<'a>>, NoMemory>
     ensures found { IfOk result (λ o. option_map model_of_match o
-        ≡ taken temps (model_of_form form.now) (model_of_destination destination.entry) (model_of_tree tree.now) whole) }
+        ≡ taken temps (model_of_form form.now) (model_of_destination goal.entry.destination)
+        (model_of_tree goal.entry.tree.now) goal.entry.whole) }
     ensures at { IfOk result (λ o. IfSome o (λ m. (nodes : List ExprModel) →
-        Stands nodes at (model_of_destination destination.entry) (model_of_tree tree.now) →
+        Stands nodes goal.entry.at (model_of_destination goal.entry.destination) (model_of_tree goal.entry.tree.now) →
         AreAt nodes m.parts.items)) }
 {
     let mut parts = Vec::new(alloc);
-    match take_form(&mut parts, temps, form, destination, tree, whole, at)? {
+    match take_form(&mut parts, temps, form, goal)? {
         Some(setting) => Ok(Some(Match { setting, parts })),
         None => Ok(None),
     }

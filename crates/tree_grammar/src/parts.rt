@@ -1,6 +1,6 @@
 //! Matches, and where trees go.
 
-ghost use Rattle.std.specs.Prelude.{◌≡◌};
+ghost use Rattle.std.specs.Prelude.{◌≡◌, false};
 ghost use Rattle.form_model.specs.Forms.{aim_destination};
 ghost use Rattle.tree_grammar.specs.Leaves.{model_of_destination};
 
@@ -32,6 +32,42 @@ pub enum Leaf<'a> {
         tree: &'a Tree,
         at: u64,
     },
+}
+
+/// A tree with its number among the subtrees.
+#[derive(Clone, Copy)]
+pub struct Subtree<'a> {
+    pub tree: &'a Tree,
+    /// Whether it is the root of its job or the number that is a read's address. This is asked for a
+    /// register or the file alone.
+    pub whole: bool,
+    pub at: u64,
+}
+
+impl<'a> Subtree<'a> {
+    // An operand of a tree, which isn't whole.
+    pub(crate) fn inner(tree: &'a Tree, at: u64) -> Subtree<'a>
+        ensures tree { result.tree.now ≡ tree.now }
+        ensures whole { result.whole ≡ false }
+        ensures at { result.at ≡ at }
+    {
+        Subtree {
+            tree,
+            whole: false,
+            at,
+        }
+    }
+}
+
+/// What a form is asked to take: a tree that goes to a destination.
+#[derive(Clone, Copy)]
+pub struct Subgoal<'a> {
+    pub destination: Destination<'a>,
+    pub tree: &'a Tree,
+    /// Whether the tree is whole, as in `Subtree`.
+    pub whole: bool,
+    /// The number at which its trees begin, those of a store's address first.
+    pub at: u64,
 }
 
 /// What a form takes of a tree.

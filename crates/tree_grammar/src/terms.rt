@@ -9,7 +9,7 @@ ghost use Rattle.tree_grammar.specs.Numbers.{HoldsSubtrees};
 ghost use Rattle.tree_grammar.specs.Inner.Unary.{model_of_pair, unary_operands};
 ghost use Rattle.tree_grammar.specs.Leaves.{AreAt, IsPartAt, Taken, model_of_home, model_of_leaf, models_of_leaves};
 
-use crate::parts::{Home, Leaf};
+use crate::parts::{Home, Leaf, Subtree};
 use crate::shapes::{is_field_shape, setting_of, shows_all};
 use crate::sizes::{is_as_wide, plus, tree_size, tree_width};
 use form_model::Tree;
@@ -82,15 +82,15 @@ fn take_cell<'a>(
     temps: u32,
     shape: &'a Expr,
     width: u8,
-    tree: &'a Tree,
-    whole: bool,
-    at: u64,
+    subtree: Subtree<'a>,
 ) -> Result<Option<u64>, NoMemory>
     ensures found { IfOk result (λ o. Taken (models_of_leaves parts.old.items) (models_of_leaves parts.new.items)
-        (cell_match temps (model_of_expr shape.now) width (model_of_tree tree.now) whole) o) }
-    ensures at { OnOk result ((nodes : List ExprModel) → HoldsSubtrees nodes at (model_of_tree tree.now) →
+        (cell_match temps (model_of_expr shape.now) width (model_of_tree subtree.entry.tree.now) subtree.entry.whole) o) }
+    ensures at { OnOk result ((nodes : List ExprModel) →
+        HoldsSubtrees nodes subtree.entry.at (model_of_tree subtree.entry.tree.now) →
         AreAt nodes parts.old.items → AreAt nodes parts.new.items) }
 {
+    let Subtree { tree, whole, at } = subtree;
     if u64::from(width) != tree_width(tree) {
         return Ok(None);
     }
@@ -121,7 +121,7 @@ struct Pair<'a> {
 
 fn pair_if<'a>(same: bool, expr: &'a Expr, tree: &'a Tree) -> Option<Pair<'a>>
     ensures { option_map model_of_pair result
-        ≡ (if same then Some (record { term = model_of_expr expr.now; tree = model_of_tree tree.now }) else None) }
+        ≡ (if same then Some (record { expr = model_of_expr expr.now; tree = model_of_tree tree.now }) else None) }
 {
     if same {
         Some(Pair { expr, tree })
@@ -163,15 +163,16 @@ fn take_operand<'a>(
     parts: &mut Vec<Leaf<'a>>,
     home: Home<'a>,
     width: u8,
-    tree: &'a Tree,
-    whole: bool,
-    at: u64,
+    subtree: Subtree<'a>,
 ) -> Result<Option<u64>, NoMemory>
     ensures found { IfOk result (λ o. Taken (models_of_leaves parts.old.items) (models_of_leaves parts.new.items)
-        (open_if (width == expr_width (model_of_tree tree.now)) (operand (model_of_home home.entry) (model_of_tree tree.now) whole)) o) }
-    ensures at { OnOk result ((nodes : List ExprModel) → HoldsSubtrees nodes at (model_of_tree tree.now) →
+        (open_if (width == expr_width (model_of_tree subtree.entry.tree.now))
+        (operand (model_of_home home.entry) (model_of_tree subtree.entry.tree.now) subtree.entry.whole)) o) }
+    ensures at { OnOk result ((nodes : List ExprModel) →
+        HoldsSubtrees nodes subtree.entry.at (model_of_tree subtree.entry.tree.now) →
         AreAt nodes parts.old.items → AreAt nodes parts.new.items) }
 {
+    let Subtree { tree, whole, at } = subtree;
     if u64::from(width) != tree_width(tree) {
         return Ok(None);
     }
@@ -192,29 +193,32 @@ pub(crate) fn take<'a>(
     parts: &mut Vec<Leaf<'a>>,
     temps: u32,
     e: &'a Expr,
-    tree: &'a Tree,
-    whole: bool,
-    at: u64,
+    subtree: Subtree<'a>,
 ) -> Result<Option<u64>, NoMemory>
     ensures found { IfOk result (λ o. Taken (models_of_leaves parts.old.items) (models_of_leaves parts.new.items)
-        (matched temps (model_of_expr e.now) (model_of_tree tree.now) whole) o) }
-    ensures at { OnOk result ((nodes : List ExprModel) → HoldsSubtrees nodes at (model_of_tree tree.now) →
+        (matched temps (model_of_expr e.now) (model_of_tree subtree.entry.tree.now) subtree.entry.whole) o) }
+    ensures at { OnOk result ((nodes : List ExprModel) →
+        HoldsSubtrees nodes subtree.entry.at (model_of_tree subtree.entry.tree.now) →
         AreAt nodes parts.old.items → AreAt nodes parts.new.items) }
 {
+    let Subtree { tree, at, .. } = subtree;
     if is_field_shape(e) {
         return take_number(e, tree);
     }
     if let Some(pair) = operands(e, tree) {
-        return take(parts, temps, pair.expr, pair.tree, false, plus(at, 1)?);
+        return take(
+            parts,
+            temps,
+            pair.expr,
+            Subtree::inner(pair.tree, plus(at, 1)?),
+        );
     }
     match e {
-        Expr::Reg(id, width) => {
-            take_operand(parts, Home::Register(*id), *width, tree, whole, at)
-        }
-        Expr::Cell(a, width) => take_operand(parts, Home::File(a), *width, tree, whole, at),
+        Expr::Reg(id, width) => take_operand(parts, Home::Register(*id), *width, subtree),
+        Expr::Cell(a, width) => take_operand(parts, Home::File(a), *width, subtree),
         Expr::Read(a, width) => {
             if is_field_shape(a) {
-                return take_cell(parts, temps, a, *width, tree, whole, at);
+                return take_cell(parts, temps, a, *width, subtree);
             }
             let Tree::Read(b, w) = tree else {
                 return Ok(None);
@@ -222,7 +226,12 @@ pub(crate) fn take<'a>(
             if *w != *width {
                 return Ok(None);
             }
-            take(parts, temps, a, b, is_number_tree(b), plus(at, 1)?)
+            let address = Subtree {
+                tree: b,
+                whole: is_number_tree(b),
+                at: plus(at, 1)?,
+            };
+            take(parts, temps, a, address)
         }
         Expr::Bin(op, a, b) => {
             let Tree::Bin(o, l, r) = tree else {
@@ -233,10 +242,10 @@ pub(crate) fn take<'a>(
             }
             let next = plus(at, 1)?;
             let after = past(next, l)?;
-            let Some(x) = take(parts, temps, a, l, false, next)? else {
+            let Some(x) = take(parts, temps, a, Subtree::inner(l, next))? else {
                 return Ok(None);
             };
-            let Some(y) = take(parts, temps, b, r, false, after)? else {
+            let Some(y) = take(parts, temps, b, Subtree::inner(r, after))? else {
                 return Ok(None);
             };
             Ok(Some(x | y))

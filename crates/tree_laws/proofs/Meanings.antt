@@ -82,33 +82,33 @@ module _ (cell : ℕ) (old new : List Class) (cells regs values : List ℕ) (g :
 -- ---- nodes as expressions
 
 module _ (cell : ℕ) (classes : List Class) (entries : Entries) (cells regs : List ℕ) (m : Means cell classes entries cells regs) where
-  term_fits : (n : Node) → NodeFits cell classes n → ExprFits (expr_over classes n)
-  term_fits (Const w v) h = h.2
-  term_fits (Read a w) h = (m.widths a h.1.0, h.2)
-  term_fits (Un o a) h = m.widths a h.1.0
-  term_fits (Bin o a b) h = (m.widths a h.1.0, m.widths b h.1.1.0, h.2)
-  term_fits (Slice a hi lo) h = (m.widths a h.1.0, h.2)
-  term_fits (Zext a w) h = (m.widths a h.1.0, h.2)
-  term_fits (Sext a w) h = (m.widths a h.1.0, h.2)
-  term_fits (Word w) h = absurd h.0
-  term_fits (Reg r w) h = absurd h.0
-  term_fits (Cell a w) h = absurd h.0
-  term_fits (Cat a b) h = absurd h.0
-  term_fits (Select d a b) h = absurd h.0
+  expr_fits : (n : Node) → NodeFits cell classes n → ExprFits (expr_over classes n)
+  expr_fits (Const w v) h = h.2
+  expr_fits (Read a w) h = (m.widths a h.1.0, h.2)
+  expr_fits (Un o a) h = m.widths a h.1.0
+  expr_fits (Bin o a b) h = (m.widths a h.1.0, m.widths b h.1.1.0, h.2)
+  expr_fits (Slice a hi lo) h = (m.widths a h.1.0, h.2)
+  expr_fits (Zext a w) h = (m.widths a h.1.0, h.2)
+  expr_fits (Sext a w) h = (m.widths a h.1.0, h.2)
+  expr_fits (Word w) h = absurd h.0
+  expr_fits (Reg r w) h = absurd h.0
+  expr_fits (Cell a w) h = absurd h.0
+  expr_fits (Cat a b) h = absurd h.0
+  expr_fits (Select d a b) h = absurd h.0
 
-  term_suits : (n : Node) → NodeFits cell classes n → Suits (expr_over classes n) (state_of cells regs) 0
-  term_suits (Const w v) h = tt
-  term_suits (Read a w) h = (m.values a h.1.0, subst (λ n. slice_index cells (slice_index regs a) < 2 ^ n) (sym h.0) (m.cells_fit (slice_index regs a)))
-  term_suits (Un o a) h = m.values a h.1.0
-  term_suits (Bin o a b) h = (m.values a h.1.0, m.values b h.1.1.0)
-  term_suits (Slice a hi lo) h = m.values a h.1.0
-  term_suits (Zext a w) h = m.values a h.1.0
-  term_suits (Sext a w) h = m.values a h.1.0
-  term_suits (Word w) h = absurd h.0
-  term_suits (Reg r w) h = absurd h.0
-  term_suits (Cell a w) h = absurd h.0
-  term_suits (Cat a b) h = absurd h.0
-  term_suits (Select d a b) h = absurd h.0
+  expr_suits : (n : Node) → NodeFits cell classes n → Suits (expr_over classes n) (state_of cells regs) 0
+  expr_suits (Const w v) h = tt
+  expr_suits (Read a w) h = (m.values a h.1.0, subst (λ n. slice_index cells (slice_index regs a) < 2 ^ n) (sym h.0) (m.cells_fit (slice_index regs a)))
+  expr_suits (Un o a) h = m.values a h.1.0
+  expr_suits (Bin o a b) h = (m.values a h.1.0, m.values b h.1.1.0)
+  expr_suits (Slice a hi lo) h = m.values a h.1.0
+  expr_suits (Zext a w) h = m.values a h.1.0
+  expr_suits (Sext a w) h = m.values a h.1.0
+  expr_suits (Word w) h = absurd h.0
+  expr_suits (Reg r w) h = absurd h.0
+  expr_suits (Cell a w) h = absurd h.0
+  expr_suits (Cat a b) h = absurd h.0
+  expr_suits (Select d a b) h = absurd h.0
 
   -- a node and the node over the classes that stand for its own
   canon_value : (n : Node) → NodeFits cell classes n → mean (expr_over classes (canon_of classes n)) (state_of cells regs) 0 ≡ mean (expr_over classes n) (state_of cells regs) 0
@@ -165,8 +165,8 @@ found_stands table n c h e cells regs m =
     record {
       below = k.below;
       width = sym (canon_width table.cell table.classes.items table.nodes.entries cells regs m n h) ∙ k.width;
-      fits = term_fits table.cell table.classes.items table.nodes.entries cells regs m n h;
-      suits = term_suits table.cell table.classes.items table.nodes.entries cells regs m n h;
+      fits = expr_fits table.cell table.classes.items table.nodes.entries cells regs m n h;
+      suits = expr_suits table.cell table.classes.items table.nodes.entries cells regs m n h;
       value = sym (canon_value table.cell table.classes.items table.nodes.entries cells regs m n h) ∙ k.value;
     }
 
@@ -177,8 +177,8 @@ node_stands table n c is cells regs m =
     record {
       below = k.below;
       width = k.width;
-      fits = term_fits table.cell table.classes.items table.nodes.entries cells regs m n k.fits;
-      suits = term_suits table.cell table.classes.items table.nodes.entries cells regs m n k.fits;
+      fits = expr_fits table.cell table.classes.items table.nodes.entries cells regs m n k.fits;
+      suits = expr_suits table.cell table.classes.items table.nodes.entries cells regs m n k.fits;
       value = k.value;
     }
 
@@ -300,14 +300,14 @@ module _ (table : Classes) (n : Node) (fit : NodeFits table.cell table.classes.i
       widths = λ c h. elim (last_or c h) as (λ _. IsWidth (width_at (table.classes.items ++ k ∷ []) c)) [
         | inl l ↦ subst IsWidth (sym (old_width c l)) (m.widths c l)
         | inr e ↦ subst (λ d. IsWidth (width_at (table.classes.items ++ k ∷ []) d)) (sym e)
-            (subst IsWidth (sym (new_width ∙ ew)) (width_fits (expr_over table.classes.items n) (term_fits table.cell table.classes.items table.nodes.entries cells regs m n fit)))
+            (subst IsWidth (sym (new_width ∙ ew)) (width_fits (expr_over table.classes.items n) (expr_fits table.cell table.classes.items table.nodes.entries cells regs m n fit)))
       ];
       values = λ c h. elim (last_or c h) as (λ _. slice_index (regs ++ new_value ∷ []) c < 2 ^ width_at (table.classes.items ++ k ∷ []) c) [
         | inl l ↦ subst (λ x. x < 2 ^ width_at (table.classes.items ++ k ∷ []) c) (sym (grown_agrees.values c l)) (subst (λ w. slice_index regs c < 2 ^ w) (sym (old_width c l)) (m.values c l))
         | inr e ↦ subst (λ d. slice_index (regs ++ new_value ∷ []) d < 2 ^ width_at (table.classes.items ++ k ∷ []) d) (sym e)
             (subst (λ x. x < 2 ^ width_at (table.classes.items ++ k ∷ []) (length table.classes.items)) (sym value_end)
             (value_below (expr_over table.classes.items n) (state_of cells regs) 0 new_value (width_at (table.classes.items ++ k ∷ []) (length table.classes.items)) refl (new_width ∙ ew)
-            (term_fits table.cell table.classes.items table.nodes.entries cells regs m n fit) (term_suits table.cell table.classes.items table.nodes.entries cells regs m n fit)))
+            (expr_fits table.cell table.classes.items table.nodes.entries cells regs m n fit) (expr_suits table.cell table.classes.items table.nodes.entries cells regs m n fit)))
       ];
       nodes = all;
       heads = λ c h. elim (last_or c h) as (λ _. HeadMeans (table.classes.items ++ k ∷ []) (regs ++ new_value ∷ []) c (head_of (table.classes.items ++ k ∷ []) c)) [

@@ -33,7 +33,7 @@ all_more P xs i d h a p = subst (AllByRecursion P) (sym (take_more xs i d h)) (a
 -- the expressions of one more part
 pub parts_more : (tree : ℕ → ExprModel) (number : ℕ → ℕ) (parts : List Part) (i : ℕ) (d : Part) → i < length parts
     → part_exprs tree number (take (i + 1) parts) ≡ part_exprs tree number (take i parts) ++ part_expr tree number (part_exprs tree number (take i parts)) (get_or parts i d) ∷ []
-parts_more tree number parts i d h = fold_more (λ terms part. terms ++ part_expr tree number terms part ∷ []) [] parts i d h
+parts_more tree number parts i d h = fold_more (λ exprs part. exprs ++ part_expr tree number exprs part ∷ []) [] parts i d h
 
 module _ (t : Classes) where
   pub class_stands : (c : ℕ) → c < length t.classes.items → Stands t (class_expr t.classes.items c) c
@@ -123,22 +123,22 @@ module _ (t : Classes) where
   pub sext_part : (x : ExprModel) (c w v : ℕ) → Stands t x c → v ≡ w → IsNodeOf t (sext x w) (Sext c v)
   sext_part x c w v f e = subst (λ n. IsNodeOf t (sext x n) (Sext c v)) e (sext_node x c v f)
 
-  pub part_stands : (terms : List ExprModel) (ids : List ℕ) (k c : ℕ) → AllStand t terms ids → k < length ids → c ≡ slice_index ids k → Stands t (expression_at terms k) c
-  part_stands terms ids k c a l e = subst (Stands t (expression_at terms k)) (sym e) (a.each k l)
+  pub part_stands : (exprs : List ExprModel) (ids : List ℕ) (k c : ℕ) → AllStand t exprs ids → k < length ids → c ≡ slice_index ids k → Stands t (expression_at exprs k) c
+  part_stands exprs ids k c a l e = subst (Stands t (expression_at exprs k)) (sym e) (a.each k l)
 
   pub none_stand : AllStand t [] []
   none_stand = record { count = refl; each = λ k l. absurd (omega (arith, l)) }
 
-  pub one_more : (terms : List ExprModel) (ids : List ℕ) (x : ExprModel) (c : ℕ) → AllStand t terms ids → Stands t x c → AllStand t (terms ++ x ∷ []) (ids ++ c ∷ [])
-  one_more terms ids x c a s = record {
-    count = length-append ids (c ∷ []) ∙ ap (λ n. n + 1) a.count ∙ sym (length-append terms (x ∷ []));
-    each = λ k l. elim (cases_lt k (length ids)) as (λ _. Stands t (expression_at (terms ++ x ∷ []) k) (slice_index (ids ++ c ∷ []) k)) [
-      | inl less ↦ (let in_terms : k < length terms = omega (arith, less, a.count) in
-          subst (λ y. Stands t y (slice_index (ids ++ c ∷ []) k)) (sym (ap expr_or (get_left terms (x ∷ []) k in_terms)))
-          (subst (Stands t (expression_at terms k)) (sym (get_or-append ids (c ∷ []) 0 k less)) (a.each k less)))
+  pub one_more : (exprs : List ExprModel) (ids : List ℕ) (x : ExprModel) (c : ℕ) → AllStand t exprs ids → Stands t x c → AllStand t (exprs ++ x ∷ []) (ids ++ c ∷ [])
+  one_more exprs ids x c a s = record {
+    count = length-append ids (c ∷ []) ∙ ap (λ n. n + 1) a.count ∙ sym (length-append exprs (x ∷ []));
+    each = λ k l. elim (cases_lt k (length ids)) as (λ _. Stands t (expression_at (exprs ++ x ∷ []) k) (slice_index (ids ++ c ∷ []) k)) [
+      | inl less ↦ (let in_terms : k < length exprs = omega (arith, less, a.count) in
+          subst (λ y. Stands t y (slice_index (ids ++ c ∷ []) k)) (sym (ap expr_or (get_left exprs (x ∷ []) k in_terms)))
+          (subst (Stands t (expression_at exprs k)) (sym (get_or-append ids (c ∷ []) 0 k less)) (a.each k less)))
       | inr past ↦ (let end : k ≡ length ids = omega (arith, past, l, length-append ids (c ∷ [])) in
-          subst (λ i. Stands t (expression_at (terms ++ x ∷ []) i) (slice_index (ids ++ c ∷ []) i)) (sym end)
-          (subst (λ y. Stands t y (slice_index (ids ++ c ∷ []) (length ids))) (sym (ap (λ i. expr_or (slice_get (terms ++ x ∷ []) i)) a.count ∙ ap expr_or (get_seam terms x [])))
+          subst (λ i. Stands t (expression_at (exprs ++ x ∷ []) i) (slice_index (ids ++ c ∷ []) i)) (sym end)
+          (subst (λ y. Stands t y (slice_index (ids ++ c ∷ []) (length ids))) (sym (ap (λ i. expr_or (slice_get (exprs ++ x ∷ []) i)) a.count ∙ ap expr_or (get_seam exprs x [])))
           (subst (Stands t x) (sym (get_or-append_seam ids c [] 0)) s)))
     ];
   }
@@ -148,9 +148,9 @@ module _ (t : Classes) where
       → AllStand t (part_exprs tree number (take i parts)) ids → Stands t (part_expr tree number (part_exprs tree number (take i parts)) (get_or parts i d)) c
       → new ≡ ids ++ c ∷ [] → AllStand t (part_exprs tree number (take (i + 1) parts)) new
   part_more tree number parts i d ids new c h a s e =
-      let terms : List ExprModel = part_exprs tree number (take i parts) in
+      let exprs : List ExprModel = part_exprs tree number (take i parts) in
       subst (λ ts. AllStand t ts new) (sym (parts_more tree number parts i d h))
-      (subst (AllStand t (terms ++ part_expr tree number terms (get_or parts i d) ∷ [])) (sym e) (one_more terms ids (part_expr tree number terms (get_or parts i d)) c a s))
+      (subst (AllStand t (exprs ++ part_expr tree number exprs (get_or parts i d) ∷ [])) (sym e) (one_more exprs ids (part_expr tree number exprs (get_or parts i d)) c a s))
 
   -- an expression is of both of two classes that are one
   pub one_stands : (x : ExprModel) (a b : ℕ) → AreOne t a b → Stands t x a → Stands t x b

@@ -118,23 +118,23 @@ IsOfClass table node c =
 -- ---- what is in a class
 
 -- the expression is one of the class: it is well typed, has the class's width, and its value
-pub record StandsIn (table : Classes) (term : ExprModel) (c : ℕ) (cells regs : List ℕ) : Type 0 where
+pub record StandsIn (table : Classes) (expr : ExprModel) (c : ℕ) (cells regs : List ℕ) : Type 0 where
   pub below : c < class_count table
-  pub width : expr_width term ≡ width_in table c
-  pub fits : ExprFits term
-  pub suits : Suits term (state_of cells regs) 0
-  pub value : mean term (state_of cells regs) 0 ≡ slice_index regs c
+  pub width : expr_width expr ≡ width_in table c
+  pub fits : ExprFits expr
+  pub suits : Suits expr (state_of cells regs) 0
+  pub value : mean expr (state_of cells regs) 0 ≡ slice_index regs c
 
 -- it is so whatever the classes mean
 abbrev pub Stands : Classes → ExprModel → ℕ → Type 0
-Stands table term c = (cells regs : List ℕ) → TableMeans table cells regs → StandsIn table term c cells regs
+Stands table expr c = (cells regs : List ℕ) → TableMeans table cells regs → StandsIn table expr c cells regs
 
 abbrev pub NodeStands : Classes → Node → ℕ → Type 0
 NodeStands table node c = Stands table (expr_in table node) c
 
 -- the node is the expression's: where the node is of a class, the expression is
 abbrev pub IsNodeOf : Classes → ExprModel → Node → Type 0
-IsNodeOf table term node = (c : ℕ) → NodeStands table node c → Stands table term c
+IsNodeOf table expr node = (c : ℕ) → NodeStands table node c → Stands table expr c
 
 -- the class has the negation of a test
 abbrev pub IsOpposite : Classes → ExprModel → ℕ → Type 0
@@ -146,9 +146,9 @@ abbrev pub tree_at : Classes → List ℕ → ℕ → ExprModel
 tree_at table ids x = class_expr table.classes.items (slice_index ids x)
 
 -- each expression is one of its class
-pub record AllStand (table : Classes) (terms : List ExprModel) (ids : List ℕ) : Type 0 where
-  pub count : length ids ≡ length terms
-  pub each : (k : ℕ) → k < length ids → Stands table (expression_at terms k) (slice_index ids k)
+pub record AllStand (table : Classes) (exprs : List ExprModel) (ids : List ℕ) : Type 0 where
+  pub count : length ids ≡ length exprs
+  pub each : (k : ℕ) → k < length ids → Stands table (expression_at exprs k) (slice_index ids k)
 
 -- ---- values of a rule's variables
 

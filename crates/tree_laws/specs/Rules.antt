@@ -34,21 +34,21 @@ expr_or (Some t) = t
 
 -- the expression at a place of a list, and a number of no bits where there is none
 abbrev pub expression_at : List ExprModel → ℕ → ExprModel
-expression_at terms k = expr_or (slice_get terms k)
+expression_at exprs k = expr_or (slice_get exprs k)
 
 -- the expression of a part, by those of the parts before it
 abbrev pub part_expr : (ℕ → ExprModel) → (ℕ → ℕ) → List ExprModel → Part → ExprModel
-part_expr tree number terms (Tree x) = tree x
-part_expr tree number terms (Const w v) = const (num_of number w) (num_of number v)
-part_expr tree number terms (Un o a) = un o (expression_at terms a)
-part_expr tree number terms (Bin o a b) = bin o (expression_at terms a) (expression_at terms b)
-part_expr tree number terms (Slice a hi lo) = slice (expression_at terms a) (num_of number hi) (num_of number lo)
-part_expr tree number terms (Zext a w) = zext (expression_at terms a) (num_of number w)
-part_expr tree number terms (Sext a w) = sext (expression_at terms a) (num_of number w)
+part_expr tree number exprs (Tree x) = tree x
+part_expr tree number exprs (Const w v) = const (num_of number w) (num_of number v)
+part_expr tree number exprs (Un o a) = un o (expression_at exprs a)
+part_expr tree number exprs (Bin o a b) = bin o (expression_at exprs a) (expression_at exprs b)
+part_expr tree number exprs (Slice a hi lo) = slice (expression_at exprs a) (num_of number hi) (num_of number lo)
+part_expr tree number exprs (Zext a w) = zext (expression_at exprs a) (num_of number w)
+part_expr tree number exprs (Sext a w) = sext (expression_at exprs a) (num_of number w)
 
 -- the expressions of all parts, in order
 abbrev pub part_exprs : (ℕ → ExprModel) → (ℕ → ℕ) → List Part → List ExprModel
-part_exprs tree number parts = fold (λ terms part. terms ++ part_expr tree number terms part ∷ []) [] parts
+part_exprs tree number parts = fold (λ exprs part. exprs ++ part_expr tree number exprs part ∷ []) [] parts
 
 -- ---- conditions
 

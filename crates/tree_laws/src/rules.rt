@@ -245,8 +245,8 @@ impl Classes {
     // The node of a part over the classes of the parts before it, where it has one and there are
     // these.
     fn part_node(&self, part: Part, classes: &[u64], choice: &Choice) -> Option<Node>
-        ensures { (terms : List ExprModel) → AllStand self.now terms classes.now → IfSome result (IsNodeOf self.now
-            (part_expr (tree_at self.now choice.now.classes.items) (slice_index choice.now.numbers.items) terms part)) }
+        ensures { (exprs : List ExprModel) → AllStand self.now exprs classes.now → IfSome result (IsNodeOf self.now
+            (part_expr (tree_at self.now choice.now.classes.items) (slice_index choice.now.numbers.items) exprs part)) }
     {
         match part {
             Part::Tree(_) => None,
@@ -286,8 +286,8 @@ impl Classes {
 
     // The class of a part, where it is listed.
     fn find_part(&self, part: Part, classes: &[u64], choice: &Choice) -> Option<u64>
-        ensures { (terms : List ExprModel) → AllStand self.now terms classes.now → IfSome result (Stands self.now
-            (part_expr (tree_at self.now choice.now.classes.items) (slice_index choice.now.numbers.items) terms part)) }
+        ensures { (exprs : List ExprModel) → AllStand self.now exprs classes.now → IfSome result (Stands self.now
+            (part_expr (tree_at self.now choice.now.classes.items) (slice_index choice.now.numbers.items) exprs part)) }
     {
         if let Part::Tree(x) = part {
             return self.tree_class(x, choice);

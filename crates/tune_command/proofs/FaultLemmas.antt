@@ -7,7 +7,7 @@ use Rattle.code_gen.specs.Refusals.{HasJumps, HasSteps, IsJumpless, IsReached, I
 use Rattle.code_gen.specs.Spelled.{HasSpelling, IsSpelledTask, IsTunedFault}
 use Rattle.code_gen.specs.declared.fault.CodeFault.{CodeFault}
 use Rattle.code_gen.specs.declared.fault.CodeFault.TheVariants.{NoStep as Stepless, NoJump as Jumpless, NoCover as Uncovered, NoReach as Beyond, ImageFull as Overlong, Memory as CodeMemory}
-use Rattle.compile_command.specs.Code.{FailsWith, HasRoom, IsPlaceFault}
+use Rattle.compile_command.specs.Code.{FailsWith, HasRoom}
 use Rattle.compile_command.specs.Compiled.{IsReadFault}
 use Rattle.compile_command.specs.Inner.Faults.{code_fault}
 use Rattle.compile_command.specs.Read.{IsRead}
@@ -24,20 +24,6 @@ fault_of_image task room (Uncovered number) h = (room, h)
 fault_of_image task room (Beyond bound reach) h = (room, h)
 fault_of_image task room (Overlong len size bound) h = (room, h)
 fault_of_image task room CodeMemory h = tt
-
--- why it has no places
-pub fault_of_places : (task : Task) (fault : CompileFault) → IsPlaceFault task fault → IsTunedTaskFault task fault
-fault_of_places task (NetText at) h = absurd h
-fault_of_places task (Net fault) h = absurd h
-fault_of_places task (SrcText at) h = absurd h
-fault_of_places task (Src fault) h = absurd h
-fault_of_places task (DataFull need have) h = h
-fault_of_places task NoStep h = absurd h
-fault_of_places task NoJump h = absurd h
-fault_of_places task (NoCover number) h = absurd h
-fault_of_places task (NoReach bound reach) h = absurd h
-fault_of_places task (ImageFull len size bound) h = absurd h
-fault_of_places task Memory h = tt
 
 -- what is not taken isn't tuned
 pub fault_of_read : (net src : List ℕ) (fault : CompileFault) → IsReadFault net src fault → IsTuneFault net src fault

@@ -14,7 +14,7 @@ use Rattle.respell.specs.Kept.{AreSpelled, KeepsOrGains}
 use Rattle.right_code.specs.Bounded.{HasBound}
 use Rattle.right_code.specs.Covered.{AllPlanned, ArePlans, HasBareTree, mode_stock, plan_costs}
 use Rattle.right_code.specs.Tasks.{Task, task_temps, task_jobs}
-use Rattle.right_code.specs.Works.{node_limit}
+use Rattle.right_code.specs.FlowJobs.{node_limit}
 use Rattle.right_code.proofs.Inside.{get_there}
 use Rattle.right_code.proofs.OneBound.{bound_one, costs_one, plans_alike}
 use Rattle.code_gen.specs.Refusals.{IsBeyondReach, IsImageTooLong}
@@ -26,16 +26,16 @@ use Rattle.compile_command.specs.Code.{IsWithin}
 
 module _ (stock : ℕ → StockModel) (Usable : ℕ → Type 0) (width temps nodes : ℕ) where
   abbrev Plans : JobModel → PlanModel → Type 0
-  Plans work planned = IsPlanned stock Usable work.destination work.trees planned
+  Plans job planned = IsPlanned stock Usable job.destination job.trees planned
 
   abbrev price : JobModel → PlanModel → ℕ
-  price work planned = mode_cost planned.mode work.destination planned.choice.plan
+  price job planned = mode_cost planned.mode job.destination planned.choice.cover
 
   head_of : (a b : ℕ) (xs ys : List ℕ) → (a ∷ xs) ≡ (b ∷ ys) → a ≡ b
   head_of a b xs ys e = cc
 
-  one_price : (work : JobModel) (p q : PlanModel) → Plans work p → Plans work q → price work p ≡ price work q
-  one_price work p q h k = head_of (price work p) (price work q) [] [] (costs_one stock Usable (work ∷ []) (p ∷ []) (q ∷ []) (h, tt) (k, tt))
+  one_price : (job : JobModel) (p q : PlanModel) → Plans job p → Plans job q → price job p ≡ price job q
+  one_price job p q h k = head_of (price job p) (price job q) [] [] (costs_one stock Usable (job ∷ []) (p ∷ []) (q ∷ []) (h, tt) (k, tt))
 
   -- a job that stays costs the same, and one that stands for it less
   no_more : (t : Bool) (old new : JobModel) → KeepsOrGains stock Usable width temps nodes t old new → (p q : PlanModel) → Plans old p → Plans new q → price new q ≤ price old p
@@ -74,14 +74,14 @@ module _ (stock : ℕ → StockModel) (Usable : ℕ → Type 0) (width temps nod
       sums turned 0 old new (λ j a b ea eb. subst (λ n. KeepsOrGains stock Usable width temps nodes (turned n) a b) (omega arith) (are.each j a b ea eb)) plans others h o are.count
 
   -- the plan of the job of a number
-  plan_at : (works : List JobModel) (plans : List PlanModel) → AllPlanned stock Usable works plans → (number : ℕ) (work : JobModel) → slice_get works number ≡ Some work → (p : PlanModel) × Plans work p
-  plan_at [] plans h number work e = absurd (cc e)
-  plan_at (a ∷ works) [] h number work e = absurd h
-  plan_at (a ∷ works) (p ∷ plans) h zero work e = (p, subst (λ (w : JobModel). Plans w p) (same_job a work e) h.0)
+  plan_at : (jobs : List JobModel) (plans : List PlanModel) → AllPlanned stock Usable jobs plans → (number : ℕ) (job : JobModel) → slice_get jobs number ≡ Some job → (p : PlanModel) × Plans job p
+  plan_at [] plans h number job e = absurd (cc e)
+  plan_at (a ∷ jobs) [] h number job e = absurd h
+  plan_at (a ∷ jobs) (p ∷ plans) h zero job e = (p, subst (λ (w : JobModel). Plans w p) (same_job a job e) h.0)
     where
       same_job : (x y : JobModel) → Some x ≡ Some y → x ≡ y
       same_job x y e = cc
-  plan_at (a ∷ works) (p ∷ plans) h (suc number) work e = plan_at works plans h.1 number work e
+  plan_at (a ∷ jobs) (p ∷ plans) h (suc number) job e = plan_at jobs plans h.1 number job e
 
   -- a job that stands for one with a plan has one
   plan_kept : (t : Bool) (old new : JobModel) → KeepsOrGains stock Usable width temps nodes t old new → (p : PlanModel) → Plans old p → (q : PlanModel) × Plans new q
@@ -93,16 +93,16 @@ module _ (stock : ℕ → StockModel) (Usable : ℕ → Type 0) (width temps nod
 module _ (task : Task) (within : IsWithin task) (spelled : Task) (is : IsSpelledTask task spelled) where
   -- the task in another spelling, by its parts
   abbrev other : Task
-  other = with_jobs task (turned_flow is.turned task.flow) is.works
+  other = with_jobs task (turned_flow is.turned task.flow) is.jobs
 
   abbrev plans : List PlanModel
   plans = within.reached.coverable.covers.are.plans
 
   -- over each family of instruction sets
-  are_in : (b : Isas task.netlist) → AreSpelled (mode_stock task b) (IsUsable task.netlist b) task.width (task_temps task) node_limit is.turned task.works is.works
+  are_in : (b : Isas task.netlist) → AreSpelled (mode_stock task b) (IsUsable task.netlist b) task.width (task_temps task) node_limit is.turned task.jobs is.jobs
   are_in b =
       plans_alike task is.isas b
-      (λ stock Usable. AreSpelled stock Usable task.width (task_temps task) node_limit is.turned task.works is.works) is.are
+      (λ stock Usable. AreSpelled stock Usable task.width (task_temps task) node_limit is.turned task.jobs is.jobs) is.are
 
   own_in : (b : Isas task.netlist) → ArePlans task b plans
   own_in b =
@@ -115,11 +115,11 @@ module _ (task : Task) (within : IsWithin task) (spelled : Task) (is : IsSpelled
     where
       by : HasBound other bound reach → (bound ≤ within.reached.bound) × (reach ≡ within.reached.reach)
       by h =
-          let own : HasBound task (program_bound task.listing (plan_costs (task_jobs task) plans)) (greatest_reach (h.isas 0).rules) =
+          let own : HasBound task (program_bound task.program (plan_costs (task_jobs task) plans)) (greatest_reach (h.isas 0).keeping) =
           record { isas = h.isas; plans = plans; planned = own_in h.isas; is = refl; far = refl } in
           let one = bound_one task within.reached.bound within.reached.reach _ _ within.reached.has own in
           let sums =
-          spelled_sums (mode_stock task h.isas) (IsUsable task.netlist h.isas) task.width (task_temps task) node_limit is.turned task.works is.works (are_in h.isas) plans h.plans (own_in h.isas) h.planned in
+          spelled_sums (mode_stock task h.isas) (IsUsable task.netlist h.isas) task.width (task_temps task) node_limit is.turned task.jobs is.jobs (are_in h.isas) plans h.plans (own_in h.isas) h.planned in
           let a = one.0 in
           let b = h.is in (omega (arith, a, b, sums), h.far ∙ sym one.1)
 
@@ -130,13 +130,13 @@ module _ (task : Task) (within : IsWithin task) (spelled : Task) (is : IsSpelled
       by : HasBareTree number other → ⊥
       by h =
           let bare = h.bare in
-          let at = slice_get_within is.works number bare.job bare.at in
+          let at = slice_get_within is.jobs number bare.job bare.at in
           let count = is.are.count in
-          let own = get_there task.works number (omega (arith, at, count)) in
+          let own = get_there task.jobs number (omega (arith, at, count)) in
           let stock = mode_stock task h.isas in
           let usable = IsUsable task.netlist h.isas in
-          let plan = plan_at stock usable task.width (task_temps task) node_limit task.works plans (own_in h.isas) number own.0 own.1 in
-          let kept = plan_kept stock usable task.width (task_temps task) node_limit (is.turned number) own.0 bare.job ((are_in h.isas).each number own.0 bare.job own.1 bare.at) plan.0 plan.1 in
+          let cover = plan_at stock usable task.width (task_temps task) node_limit task.jobs plans (own_in h.isas) number own.0 own.1 in
+          let kept = plan_kept stock usable task.width (task_temps task) node_limit (is.turned number) own.0 bare.job ((are_in h.isas).each number own.0 bare.job own.1 bare.at) cover.0 cover.1 in
           bare.none.none kept.0.mode kept.0.choice (record { can = kept.1.can; may = kept.1.may; covers = kept.1.chosen.covers })
 
   no_beyond : (bound reach : ℕ) → IsBeyondReach bound reach spelled → ⊥

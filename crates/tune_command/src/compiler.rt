@@ -1,18 +1,14 @@
 //! From the two texts to the image's.
 
-ghost use Rattle.std.specs.Prelude.{◌≡◌, ◌<◌, ◌^◌, IfOk, IfErr, None, length};
-ghost use Rattle.net_model.specs.ModeRules.{KeepsModes};
-ghost use Rattle.net_model.specs.Nets.{memory_width};
+ghost use Rattle.std.specs.Prelude.{◌<◌, ◌^◌, IfOk, IfErr, length};
 ghost use Rattle.isa_extract.specs.Extraction.{AreIsas};
-ghost use Rattle.src_model.specs.Rules.{first_fault};
-ghost use Rattle.src_model.specs.Written.{model_of_program};
-ghost use Rattle.src_front.specs.Fronts.{AreNamed};
 ghost use Rattle.right_code.specs.Tasks.{read_task};
+ghost use Rattle.compile_command.specs.Read.{AreChecked};
 ghost use Rattle.tune_command.specs.Tuned.{IsTuned, IsTunedFor, IsTunedTaskFault, IsTuneFault};
 
-use code_gen::{blocks_of, tuned_image_of};
+use code_gen::tuned_image_of;
 use code_model::Image;
-use compile_command::{CompileFault, places, read, text};
+use compile_command::{CompileFault, lowered, read, text};
 use isa_extract::Isa;
 use net_model::Modes;
 use rec_bits::Items;
@@ -26,18 +22,13 @@ fn image_for(
     isas: Items<Isa>,
     typed: &Typed,
 ) -> Result<Image, CompileFault>
-    requires rules { KeepsModes modes.now.netlist }
+    requires checked { AreChecked modes.now typed.now }
     requires isas { AreIsas modes.now.bases isas }
-    requires width { typed.now.width ≡ memory_width modes.now.netlist.storages }
-    requires program { first_fault typed.now.width (model_of_program typed.now.program) ≡ None }
-    requires few { length typed.now.program.vars < 2 ^ 32 }
-    requires named { AreNamed typed.now.program.vars }
     ensures image { IfOk result (λ image. IsTunedFor image (read_task modes.now typed.now)) }
     ensures refused { IfErr result (IsTunedTaskFault (read_task modes.now typed.now)) }
 {
-    let places = places(alloc, modes, typed)?;
-    let blocks = blocks_of(alloc, modes, typed, &places)?;
-    let image = tuned_image_of(alloc, modes, isas, typed, places.list, blocks)?;
+    let lowered = lowered(alloc, modes, typed)?;
+    let image = tuned_image_of(alloc, modes, isas, typed, lowered.places, lowered.blocks)?;
     Ok(image)
 }
 

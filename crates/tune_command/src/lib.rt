@@ -8,9 +8,10 @@
 //!
 //! Files:
 //!
-//! - `compiler`: the parts in their order, most of them those of `compile_command`.
+//! - `compiler`: the parts in their order, all but the image those of `compile_command`.
 //! - `specs/`, cited by public contracts: `Tuned`.
-//! - `proofs/`: `PlainLemmas`: the jobs of a program that was read are its own.
+//! - `proofs/`: `PlainLemmas`: the jobs of a program that was read are its own; `FaultLemmas`: why
+//!   nothing was written; `WithinLemmas`: where `compile` refuses nothing, no refusal comes here.
 #![tactic(auto)]
 
 mod compiler;

@@ -13,8 +13,8 @@
 //! - `writing`: what a step of a table of patterns writes.
 //! - `laws`: the laws above.
 //! - `specs/`: `Fits` (which words fit, over the netlist alone), `Groups` (live registers, least
-//!   words), `Runs`, `Steps` and `Laws` are cited by public contracts, here and above, and of
-//!   `Writing` what a step writes; `Worked` is computed.
+//!   words), `Runs`, `Steps`, `Machines` (the same over a machine) and `Laws` are cited by public
+//!   contracts, here and above, and of `Writing` what a step writes; `Worked` is computed.
 //! - `proofs/`: `FilePlaces`, `Clocks` and `Follows` for one clock, `Runs` and `Words` for many,
 //!   `Needed` and `Least`; `WorkedWords` has a word that fits, and words that don't.
 #![tactic(auto)]

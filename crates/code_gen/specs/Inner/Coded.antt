@@ -15,6 +15,7 @@ use Rattle.word_fit.specs.Groups.{AllHaveWords}
 use Rattle.std.specs.Prelude.{ℕ, ◌-◌, ◌<◌, ◌≡◌, List, [], ◌∷◌, ◌++◌, Some, length, slice_get, slice_index_or, slice_index}
 use Rattle.code_model.specs.declared.image.Word.{Word}
 use Rattle.block_words.specs.Laws.{operation_in}
+use Rattle.branch_fix.specs.declared.outline.Branch.{Branch}
 use Rattle.branch_fix.specs.declared.laid.Item.{Item}
 use Rattle.branch_fix.specs.declared.laid.Item.TheVariants.{Group, Jump}
 use Rattle.net_model.specs.declared.hardware.Netlist.{Netlist}
@@ -33,9 +34,9 @@ use Rattle.right_code.specs.Jobs.{job_steps, tree_used}
 use Rattle.right_code.specs.Words.{item_steps}
 use Rattle.compaction.specs.Lists.{EachHasPatternsOnce, IsPatternList}
 use Rattle.code_gen.specs.Blocks.{IsOnce, IsPackedBlock}
-use Rattle.code_gen.specs.Machines.{machine_netlist, machine_patterns}
+use Rattle.code_gen.specs.Machines.{known_netlist, known_patterns}
 use Rattle.code_gen.specs.Inner.Views.{mode_bits}
-use Rattle.compaction.specs.declared.machine.Machine.{Machine}
+use Rattle.compaction.specs.declared.machine.KnownMachine.{KnownMachine}
 use Rattle.compaction.specs.declared.packer.PackedBlock.{PackedBlock}
 
 -- ---- blocks
@@ -80,9 +81,9 @@ mode_group word = record { pattern = word.pattern; setting = 0 } ∷ []
 -- each of these steps has a word of a mode, where the mode alone is live behind them
 abbrev pub HaveWordsIn : Modes → ℕ → List Step → Type 0
 HaveWordsIn modes mode steps =
-    (machine : Machine) → slice_get modes.machines.now mode ≡ Some machine →
-    AllHaveWords (operation_in (machine_netlist machine) (machine_patterns machine))
-    (fits_over (machine_netlist machine) (operation_in (machine_netlist machine) (machine_patterns machine)))
+    (machine : KnownMachine) → slice_get modes.machines.now mode ≡ Some machine →
+    AllHaveWords (operation_in (known_netlist machine) (known_patterns machine))
+    (fits_over (known_netlist machine) (operation_in (known_netlist machine) (known_patterns machine)))
     (singles steps) (regs_of (mode_bits modes.special))
 
 -- these steps, packed by the instruction set of a mode, were put behind a block
@@ -90,8 +91,8 @@ pub record AddsPacked (modes : Modes) (mode : ℕ) (steps : List Step) (old new 
   pub own : PackedBlock
   pub adds : AddsGroups old new own.groups own.words
   pub once : IsOnce own
-  pub packed : (machine : Machine) → slice_get modes.machines.now mode ≡ Some machine →
-      IsPackedBlock (machine_netlist machine) (machine_patterns machine) steps (regs_of (mode_bits modes.special)) own
+  pub packed : (machine : KnownMachine) → slice_get modes.machines.now mode ≡ Some machine →
+      IsPackedBlock (known_netlist machine) (known_patterns machine) steps (regs_of (mode_bits modes.special)) own
 
 -- so were the jobs of so many places from one on, as a cut of a mode
 pub record AddsRun (modes : Modes) (program : PlannedProgram) (mode at count : ℕ)
@@ -124,32 +125,31 @@ pub record AddsCuts (modes : Modes) (program : PlannedProgram) (at next end : �
 
 -- ---- tests
 
--- the block of a test's operands, and its branch: the place of its form and the setting of its
--- condition's bits
+-- the block of a test's operands, and its branch
 pub record IsTestCode (task : Task) (isas : Isas task.netlist) (job : JobModel) (planned : PlanModel)
-    (block : PackedBlock) (branch : ℕ × ℕ) : Type 0 where
+    (block : PackedBlock) (branch : Branch) : Type 0 where
   pub packed : IsPackedBlock (base_at task.netlist 0) (isas 0).patterns
       (job_steps (mode_stock task isas 0) job planned.choice)
       (with_mode task.netlist.special
-      (wanted (mode_stock task isas 0) tested (tree_used job planned.choice) planned.choice.plan)) block
-  pub form : slice_get (isas 0).rules branch.0 ≡ Some (cover_form (mode_stock task isas 0) planned.choice.plan)
-  pub setting : branch.1 ≡ branch_setting (mode_stock task isas 0) (tree_used job planned.choice) planned.choice.plan
+      (wanted (mode_stock task isas 0) tested (tree_used job planned.choice) planned.choice.cover)) block
+  pub form : slice_get (isas 0).keeping branch.form ≡ Some (cover_form (mode_stock task isas 0) planned.choice.cover)
+  pub setting : branch.setting ≡ branch_setting (mode_stock task isas 0) (tree_used job planned.choice) planned.choice.cover
 
 -- those of all blocks and tests that begin before a place of the flow
 pub record IsBlockCode (task : Task) (isas : Isas task.netlist) (flow : List Flow)
-    (works : List JobModel) (plans : List PlanModel) (upto : ℕ) (blocks : List PackedBlock)
-    (branches : List (ℕ × ℕ)) : Type 0 where
+    (jobs : List JobModel) (plans : List PlanModel) (upto : ℕ) (blocks : List PackedBlock)
+    (branches : List Branch) : Type 0 where
   pub long : length blocks ≡ blocks_before flow upto
   pub many : length branches ≡ tests_before flow upto
   pub runs : (at n : ℕ) → at < upto → IsAssignBlock flow at n →
-      IsRunCode task isas (jobs_at flow works at n) (plans_at flow plans at n) (block_at blocks (blocks_before flow at))
+      IsRunCode task isas (jobs_at flow jobs at n) (plans_at flow plans at n) (block_at blocks (blocks_before flow at))
   pub tests : (at tree when_one when_zero : ℕ) → at < upto → slice_get flow at ≡ Some (Test tree when_one when_zero) →
-      (job : JobModel) (planned : PlanModel) → slice_get works tree ≡ Some job → slice_get plans tree ≡ Some planned →
+      (job : JobModel) (planned : PlanModel) → slice_get jobs tree ≡ Some job → slice_get plans tree ≡ Some planned →
       IsTestCode task isas job planned (block_at blocks (blocks_before flow at))
       (branch_or_zero (slice_get branches (tests_before flow at)))
 
 -- so they are for whatever task the program is planned for
-abbrev pub AreCodedTo : Modes → PlannedProgram → ℕ → List PackedBlock → List (ℕ × ℕ) → Type 0
+abbrev pub AreCodedTo : Modes → PlannedProgram → ℕ → List PackedBlock → List Branch → Type 0
 AreCodedTo modes program upto blocks branches =
     (task : Task) (isas : Isas task.netlist) → IsPlanning modes program task isas →
     IsBlockCode task isas program.flow.now (jobs_in program) (plans_in program) upto blocks branches

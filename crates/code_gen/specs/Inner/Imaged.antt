@@ -1,5 +1,6 @@
 -- The image of a covered program, and why there is none.
 use Rattle.std.specs.Prelude.{ℕ, ◌≡◌, ◌≤◌, Bool, List, length}
+use Rattle.net_model.specs.declared.hardware.Netlist.{Netlist}
 use Rattle.code_model.specs.declared.image.Image.{Image}
 use Rattle.code_model.specs.declared.image.Places.{Places}
 use Rattle.code_model.specs.Places.{words_of}
@@ -15,7 +16,13 @@ use Rattle.code_gen.specs.Refusals.{IsBeyondReach, IsImageTooLong, IsJumpless, I
 use Rattle.code_gen.specs.declared.fault.CodeFault.{CodeFault}
 use Rattle.code_gen.specs.declared.fault.CodeFault.TheVariants.{NoReach, ImageFull, Memory}
 use Rattle.code_gen.specs.declared.views.Modes.{Modes}
+use Rattle.code_gen.specs.declared.views.PlacedProgram.{PlacedProgram}
 use Rattle.code_gen.specs.declared.views.PlannedProgram.{PlannedProgram}
+use Rattle.code_gen.specs.Tasks.{coded_task}
+
+-- the task of a program whose variables stand at its places
+abbrev pub placed_task : Netlist → PlacedProgram → Task
+placed_task netlist program = coded_task netlist program.typed.now program.places program.blocks
 
 -- the variables of a task stand at its places, behind its temporary cells
 pub record ArePlaces (task : Task) (places : Places) : Type 0 where
@@ -32,7 +39,7 @@ pub record IsCodedIn (modes : Modes) (usable : List Bool) (places : Places) (blo
   pub checked : IsChecked task
   pub placed : ArePlaces task places
   pub flow : blocks.flow ≡ task.flow
-  pub works : models_of_jobs blocks.jobs.items ≡ task_jobs task
+  pub jobs : models_of_jobs blocks.jobs.items ≡ task_jobs task
 
 -- they are those of some task
 pub record AreCodedIn (modes : Modes) (usable : List Bool) (places : Places) (blocks : Blocks) : Type 0 where
@@ -59,7 +66,7 @@ OfTask modes program places Said =
 -- the image is made for the task, and jumps reach all its words
 pub record IsImageMade (image : Image) (task : Task) : Type 0 where
   pub made : IsMadeFor task image
-  pub reached : length (words_of image) ≤ greatest_reach (made.isas 0).rules
+  pub reached : length (words_of image) ≤ greatest_reach (made.isas 0).keeping
 
 -- jumps reach as far as the task's code may be long
 pub record IsNear (task : Task) : Type 0 where

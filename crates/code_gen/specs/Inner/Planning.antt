@@ -22,26 +22,26 @@ use Rattle.mode_set.specs.ModeWords.{IsModeWord}
 use Rattle.form_model.specs.declared.forms.Step.{Step}
 use Rattle.mode_set.specs.Plans.{model_of_plan, stock_at, UsableAt}
 use Rattle.right_code.specs.Jobs.{job_steps}
-use Rattle.transfer_set.specs.Ready.{IsReady}
+use Rattle.transfer_set.specs.Machines.{IsReadyFor}
 use Rattle.compaction.specs.Tables.{AreTables, KnowsReads}
 use Rattle.isa_extract.specs.declared.netlists.Isa.{Isa as Extracted}
 use Rattle.right_code.specs.Covered.{ArePlans, plan_costs}
 use Rattle.right_code.specs.Tasks.{IsChecked, Task, task_jobs}
 use Rattle.code_gen.specs.declared.modes.FormsByMode.{FormsByMode}
-use Rattle.compaction.specs.declared.machine.Machine.{Machine}
+use Rattle.compaction.specs.declared.machine.KnownMachine.{KnownMachine}
 use Rattle.code_gen.specs.declared.views.Modes.{Modes}
 use Rattle.code_gen.specs.declared.views.Operations.{Operations}
 use Rattle.code_gen.specs.declared.views.Passage.{Passage}
 use Rattle.code_gen.specs.declared.views.PlannedProgram.{PlannedProgram}
-use Rattle.code_gen.specs.Machines.{machine_netlist, machine_patterns}
+use Rattle.code_gen.specs.Machines.{known_netlist, known_patterns}
 
 -- the patterns of a mode are ready in a book, and what their expressions read is told
-pub record IsReadyMode (machine : Machine) (book : Diagrams) : Type 0 where
-  pub ready : IsReady (machine_netlist machine) book machine.pool.now machine.patterns.now
+pub record IsReadyMode (machine : KnownMachine) (book : Diagrams) : Type 0 where
+  pub ready : IsReadyFor machine.machine book
   pub reads : KnowsReads machine
 
 -- so they are in each mode, with a book of its own
-abbrev pub AreReadyAll : List Machine → List Diagrams → Type 0
+abbrev pub AreReadyAll : List KnownMachine → List Diagrams → Type 0
 AreReadyAll machines books = AllZip IsReadyMode machines books
 
 abbrev pub AreReady : Modes → List Diagrams → Type 0
@@ -63,25 +63,25 @@ pub record AddsOperations (isa : Extracted) (old new : List Operations) : Type 0
   pub pushed : new ≡ old ++ operations ∷ []
 
 -- a machine views what a netlist is in a mode, and the pool, the patterns and the reads of the mode
-pub record IsView (base : Ordered) (operations : Operations) (machine : Machine) : Type 0 where
-  pub checked : machine.checked.now ≡ base
-  pub pool : machine.pool.now ≡ operations.pool
-  pub patterns : machine.patterns.now ≡ operations.patterns
+pub record IsView (base : Ordered) (operations : Operations) (machine : KnownMachine) : Type 0 where
+  pub checked : machine.machine.checked.now ≡ base
+  pub pool : machine.machine.pool.now ≡ operations.pool
+  pub patterns : machine.machine.patterns.now ≡ operations.patterns
   pub registers : machine.registers.now ≡ operations.tables.registers
   pub memory : machine.memory.now ≡ operations.tables.memory
 
-abbrev pub AreViews : List Ordered → List Operations → List Machine → Type 0
+abbrev pub AreViews : List Ordered → List Operations → List KnownMachine → Type 0
 AreViews [] [] [] = Unit {0}
 AreViews (base ∷ bases) (operations ∷ rest) (machine ∷ machines) = IsView base operations machine × AreViews bases rest machines
 AreViews _ _ _ = ⊥
 
 -- these are a netlist in its modes, with the patterns of each
-pub record AreMachinesOf (machines : List Machine) (netlist : Netlist) : Type 0 where
+pub record AreMachinesOf (machines : List KnownMachine) (netlist : Netlist) : Type 0 where
   pub long : length machines ≡ modes_in netlist
-  pub nets : (v : ℕ) (machine : Machine) → slice_get machines v ≡ Some machine →
-      machine_netlist machine ≡ base_at netlist v
-  pub patterns : (v : ℕ) (machine : Machine) → slice_get machines v ≡ Some machine →
-      ArePatterns (base_at netlist v) (machine_patterns machine)
+  pub nets : (v : ℕ) (machine : KnownMachine) → slice_get machines v ≡ Some machine →
+      known_netlist machine ≡ base_at netlist v
+  pub patterns : (v : ℕ) (machine : KnownMachine) → slice_get machines v ≡ Some machine →
+      ArePatterns (base_at netlist v) (known_patterns machine)
 
 -- ---- the forms of each mode
 
@@ -102,18 +102,18 @@ abbrev pub all_form_models : Netlist → FormsByMode → ℕ → List FormModel
 all_form_models netlist list v = listed_form_models (all_forms netlist.special list) v
 
 -- all forms of a netlist in a mode, and those that keep the mode
-pub record AreFormsIn (netlist : Netlist) (v : ℕ) (machine : Machine) (all kept : Forms) : Type 0 where
-  pub forms : AreForms (base_at netlist v) (machine_patterns machine) (models_of_forms all.list.items) all.reach
-  pub keeping : AreKeeping (base_at netlist v) (machine_patterns machine) netlist.special
+pub record AreFormsIn (netlist : Netlist) (v : ℕ) (machine : KnownMachine) (all kept : Forms) : Type 0 where
+  pub forms : AreForms (base_at netlist v) (known_patterns machine) (models_of_forms all.list.items) all.reach
+  pub keeping : AreKeeping (base_at netlist v) (known_patterns machine) netlist.special
       (models_of_forms all.list.items) (models_of_forms kept.list.items)
   pub reach : kept.reach ≡ greatest_reach (models_of_forms kept.list.items)
   pub file : kept.file ≡ size_in InFile netlist.storages
 
 -- they are those of so many modes
-pub record AreFormsBelow (netlist : Netlist) (machines : List Machine) (n : ℕ) (list : FormsByMode) : Type 0 where
+pub record AreFormsBelow (netlist : Netlist) (machines : List KnownMachine) (n : ℕ) (list : FormsByMode) : Type 0 where
   pub all : length (all_forms netlist.special list) ≡ n
   pub kept : length list.kept.items ≡ n
-  pub each : (v : ℕ) (machine : Machine) (all kept : Forms) → v < n → slice_get machines v ≡ Some machine
+  pub each : (v : ℕ) (machine : KnownMachine) (all kept : Forms) → v < n → slice_get machines v ≡ Some machine
       → slice_get (all_forms netlist.special list) v ≡ Some all → slice_get list.kept.items v ≡ Some kept
       → AreFormsIn netlist v machine all kept
 
@@ -125,23 +125,23 @@ pub record IsPassage (netlist : Netlist) (isas : Isas netlist) (v : ℕ) (passag
       passage.leave.pattern passage.leave.word
 
 -- the same, as the code is told of it
-pub record IsPassageIn (netlist : Netlist) (machines : List Machine) (list : FormsByMode) (v : ℕ)
+pub record IsPassageIn (netlist : Netlist) (machines : List KnownMachine) (list : FormsByMode) (v : ℕ)
     (passage : Passage) : Type 0 where
-  pub enter : (machine : Machine) → slice_get machines 0 ≡ Some machine →
-      IsModeWord (base_at netlist 0) netlist.special (machine_patterns machine) (all_form_models netlist list 0) v
+  pub enter : (machine : KnownMachine) → slice_get machines 0 ≡ Some machine →
+      IsModeWord (base_at netlist 0) netlist.special (known_patterns machine) (all_form_models netlist list 0) v
       passage.enter.pattern passage.enter.word
-  pub leave : (machine : Machine) → slice_get machines v ≡ Some machine →
-      IsModeWord (base_at netlist v) netlist.special (machine_patterns machine) (all_form_models netlist list v) 0
+  pub leave : (machine : KnownMachine) → slice_get machines v ≡ Some machine →
+      IsModeWord (base_at netlist v) netlist.special (known_patterns machine) (all_form_models netlist list v) 0
       passage.leave.pattern passage.leave.word
 
 -- some words, where one form of mode 0 puts the mode and one of the mode puts 0 back
-abbrev pub IsPassageOrNone : Netlist → List Machine → FormsByMode → ℕ → Option Passage → Type 0
+abbrev pub IsPassageOrNone : Netlist → List KnownMachine → FormsByMode → ℕ → Option Passage → Type 0
 IsPassageOrNone netlist machines list v (Some passage) = IsPassageIn netlist machines list v passage
 IsPassageOrNone netlist machines list v None =
     CanPut netlist.special (all_form_models netlist list 0) v → CanPut netlist.special (all_form_models netlist list v) 0 → ⊥
 
 -- each mode that can be used, but for 0, has its words
-abbrev pub ArePassages : Netlist → List Machine → FormsByMode → List (Option Passage) → Type 0
+abbrev pub ArePassages : Netlist → List KnownMachine → FormsByMode → List (Option Passage) → Type 0
 ArePassages netlist machines list passages =
     (v : ℕ) → CanUse netlist (all_form_models netlist list) (suc v) →
     (passage : Passage) × (slice_get passages (suc v) ≡ Some (Some passage)) × IsPassageIn netlist machines list (suc v) passage
@@ -151,15 +151,15 @@ ArePassages netlist machines list passages =
 pub record AreTaskModes (modes : Modes) (task : Task) (isas : Isas task.netlist) : Type 0 where
   pub special : modes.special ≡ task.netlist.special
   pub machines : length modes.machines.now ≡ modes_in task.netlist
-  pub nets : (v : ℕ) (machine : Machine) → slice_get modes.machines.now v ≡ Some machine →
-      machine_netlist machine ≡ base_at task.netlist v
-  pub patterns : (v : ℕ) (machine : Machine) → slice_get modes.machines.now v ≡ Some machine →
-      machine_patterns machine ≡ (isas v).patterns
+  pub nets : (v : ℕ) (machine : KnownMachine) → slice_get modes.machines.now v ≡ Some machine →
+      known_netlist machine ≡ base_at task.netlist v
+  pub patterns : (v : ℕ) (machine : KnownMachine) → slice_get modes.machines.now v ≡ Some machine →
+      known_patterns machine ≡ (isas v).patterns
   pub lists : length modes.forms.now ≡ modes_in task.netlist
   pub forms : (v : ℕ) (forms : Forms) → slice_get modes.forms.now v ≡ Some forms →
-      models_of_forms forms.list.items ≡ (isas v).rules
+      models_of_forms forms.list.items ≡ (isas v).keeping
   pub reach : (v : ℕ) (forms : Forms) → slice_get modes.forms.now v ≡ Some forms →
-      forms.reach ≡ greatest_reach (isas v).rules
+      forms.reach ≡ greatest_reach (isas v).keeping
   pub file : (v : ℕ) (forms : Forms) → slice_get modes.forms.now v ≡ Some forms →
       forms.file ≡ size_in InFile task.netlist.storages
   pub passages : (v : ℕ) → IsUsable task.netlist isas (suc v) →
@@ -199,9 +199,9 @@ pub record IsPlanning (told : Modes) (program : PlannedProgram) (task : Task)
     (isas : Isas task.netlist) : Type 0 where
   pub checked : IsChecked task
   pub modes : AreTaskModes told task isas
-  pub temps : program.temps ≡ temp_count task.width task.listing
+  pub temps : program.temps ≡ temp_count task.width task.program
   pub flow : program.flow.now ≡ task.flow
-  pub works : jobs_in program ≡ task_jobs task
+  pub jobs : jobs_in program ≡ task_jobs task
   pub plans : ArePlans task isas (plans_in program)
   pub costs : costs_in program ≡ plan_costs (jobs_in program) (plans_in program)
 

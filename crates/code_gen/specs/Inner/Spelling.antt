@@ -5,12 +5,12 @@ use Rattle.mode_set.specs.Plans.{UsableAt, stock_at}
 use Rattle.net_model.specs.Nets.{memory_width}
 use Rattle.respell.specs.Kept.{AreSpelled}
 use Rattle.right_code.specs.Tasks.{Task}
-use Rattle.right_code.specs.Works.{node_limit}
+use Rattle.right_code.specs.FlowJobs.{node_limit}
 use Rattle.src_trees.specs.Jobs.{models_of_jobs}
 use Rattle.src_trees.specs.Turned.{Turns, turned_flow}
 use Rattle.code_model.specs.declared.image.Places.{Places}
 use Rattle.code_gen.specs.Inner.Imaged.{IsCodedIn}
-use Rattle.code_gen.specs.Machines.{machine_netlist}
+use Rattle.code_gen.specs.Machines.{known_netlist}
 use Rattle.code_gen.specs.Refusals.{IsCodeFault}
 use Rattle.code_gen.specs.Spelled.{IsPlain, IsSpelledTask}
 use Rattle.code_gen.specs.declared.fault.CodeFault.{CodeFault}
@@ -18,7 +18,7 @@ use Rattle.code_gen.specs.declared.fault.CodeFault.TheVariants.{NoStep, NoJump, 
 use Rattle.code_gen.specs.declared.spelling.Spelling.{Spelling}
 use Rattle.code_gen.specs.declared.spelling.Spelling.TheVariants.{Own, Equal}
 use Rattle.code_gen.specs.declared.views.Modes.{Modes}
-use Rattle.compaction.specs.declared.machine.Machine.{Machine}
+use Rattle.compaction.specs.declared.machine.KnownMachine.{KnownMachine}
 
 -- a test is turned where its job is marked
 abbrev pub turns_of : List Bool → Turns
@@ -63,7 +63,7 @@ IsSpelledFault spelling fault task = SpelledSo spelling (λ (spelled : Task). Is
 abbrev pub AreBlocksIn : Spelling → Modes → List Bool → (temps : ℕ) → Blocks → Blocks → Type 0
 AreBlocksIn Own modes usable temps blocks other = other ≡ blocks
 AreBlocksIn Equal modes usable temps blocks other =
-    (turned : Turns) × (machine : Machine) × (slice_get modes.machines.now 0 ≡ Some machine)
-    × AreSpelled (stock_at modes.forms.now temps) (UsableAt usable) (memory_width (machine_netlist machine).storages) temps node_limit turned
+    (turned : Turns) × (machine : KnownMachine) × (slice_get modes.machines.now 0 ≡ Some machine)
+    × AreSpelled (stock_at modes.forms.now temps) (UsableAt usable) (memory_width (known_netlist machine).storages) temps node_limit turned
     (models_of_jobs blocks.jobs.items) (models_of_jobs other.jobs.items)
     × (other.flow ≡ turned_flow turned blocks.flow)

@@ -11,7 +11,7 @@ use Rattle.code_gen.specs.Inner.Planning.{plans_in, jobs_in}
 -- the job of a test, with its plan
 pub record IsTestJob (program : PlannedProgram) (job : JobModel) (planned : PlanModel) : Type 0 where
   pub tree : ℕ
-  pub work : slice_get (jobs_in program) tree ≡ Some job
+  pub jobs : slice_get (jobs_in program) tree ≡ Some job
   pub plans : slice_get (plans_in program) tree ≡ Some planned
   pub test : job.destination ≡ tested
 

@@ -6,7 +6,7 @@ use Rattle.form_model.specs.CoverModels.{CoverModel, cost, model_of_cover}
 use Rattle.form_model.specs.Covers.{StockModel, JobCoverModel, ChoiceBefore}
 use Rattle.cover.specs.declared.covers.JobCover.{JobCover}
 use Rattle.cover.specs.declared.covers.TreeCover.{TreeCover}
-use Rattle.cover.specs.Inner.Subgoals.{free, SubgoalModel, IsSparing}
+use Rattle.least_costs.specs.Subgoals.{free, SubgoalModel, IsSparing}
 use Rattle.cover.specs.Inner.Choice.{IsFirst}
 use Rattle.cover.specs.Best.{model_of_job_cover}
 
@@ -28,7 +28,7 @@ better_of (Some b) j (Some t) =
 
 -- a choice is cheaper than another, or costs the same and isn't behind it
 abbrev pub Beats : JobCoverModel → JobCoverModel → Type 0
-Beats a b = (cost a.plan < cost b.plan) ⊎ ((cost a.plan ≡ cost b.plan) × ((a ≡ b) ⊎ ChoiceBefore a b))
+Beats a b = (cost a.cover < cost b.cover) ⊎ ((cost a.cover ≡ cost b.cover) × ((a ≡ b) ⊎ ChoiceBefore a b))
 
 pub record IsBestOne (stock : StockModel) (destination : DestinationModel) (trees : List ExprModel) (j : ℕ)
     (c : JobCover) : Type 0 where
@@ -39,7 +39,7 @@ pub record IsBestOne (stock : StockModel) (destination : DestinationModel) (tree
   pub costs : c.cost ≡ cost (model_of_cover c.cover)
   pub beats : (i : ℕ) (t : ExprModel) (q : CoverModel) → i < j → slice_get trees i ≡ Some t →
       IsSparing stock (free stock) (root_subgoal destination t) q →
-      Beats (model_of_job_cover c) (record { which = i; plan = q })
+      Beats (model_of_job_cover c) (record { which = i; cover = q })
 
 -- the chosen cover over the first j trees
 abbrev pub IsBest : StockModel → DestinationModel → List ExprModel → ℕ → Option JobCover → Type 0

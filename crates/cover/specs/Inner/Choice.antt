@@ -2,80 +2,25 @@
 use Rattle.std.specs.Prelude.{ℕ, ◌+◌, ◌-◌, ◌<◌, ◌≤◌, ◌≡◌, ◌≢◌, ◌⊎◌, List, [], ◌∷◌, Option, Some, None, slice_get, remove}
 use Rattle.net_model.specs.Exprs.{ExprModel}
 use Rattle.form_model.specs.Trees.{model_of_tree}
-use Rattle.form_model.specs.Forms.{FormModel}
-use Rattle.form_model.specs.Matches.{MatchModel}
 use Rattle.form_model.specs.declared.covers.Cover.{Cover}
 use Rattle.form_model.specs.CoverModels.{CoverModel, use_form, CoverOperandsModel, operand_then, CoverCutsModel, cost, operands_cost, cuts_cost, model_of_cover_operands, model_of_cover_cuts}
-use Rattle.form_model.specs.Covers.{StockModel, Operand, operands_of, cuts_of, cells_of_goal, IsBefore, AreBefore, CutsBefore, IsSooner, SamePlaces}
-use Rattle.tree_grammar.specs.Leaves.{model_of_destination, Stands}
-use Rattle.cover.specs.declared.limits.Limits.{Limits}
-use Rattle.cover.specs.declared.slots.Slot.{Slot}
-use Rattle.cover.specs.declared.instance.Instance.{Instance}
-use Rattle.cover.specs.declared.fits.Subgoal.{Subgoal}
-use Rattle.cover.specs.declared.fits.Fit.{Fit}
+use Rattle.form_model.specs.Covers.{StockModel, Operand, IsBefore, AreBefore, CutsBefore, IsSooner, SamePlaces}
+use Rattle.least_costs.specs.declared.limits.Limits.{Limits}
+use Rattle.least_costs.specs.declared.slots.Slot.{Slot}
+use Rattle.least_costs.specs.Fits.{Fits}
 use Rattle.cover.specs.declared.choice.PartCosts.{PartCosts}
-use Rattle.cover.specs.declared.matches.FormMatch.{FormMatch}
-use Rattle.cover.specs.declared.matches.Matches.{Matches}
-use Rattle.cover.specs.Inner.Rows.{row_subgoal}
-use Rattle.cover.specs.declared.opened.OpenOperand.{OpenOperand}
-use Rattle.cover.specs.declared.opened.OpenCut.{OpenCut}
-use Rattle.cover.specs.Inner.Subgoals.{free, KeepsTo, SubgoalModel, operand_subgoal, cut_subgoal, after, takes, IsSparing, AreSparing, AreStored}
-use Rattle.cover.specs.Inner.Least.{AtMost, IsLeast, IsLeastForm, IsLeastOrder, IsLeastCut, IsFloor, summed}
-use Rattle.cover.specs.Inner.Jobs.{nodes_of, open_operands, open_cuts}
-
-abbrev pub model_of_subgoal : Subgoal → SubgoalModel
-model_of_subgoal w = record { destination = model_of_destination w.destination; tree = model_of_tree w.tree.now; whole = w.whole }
-
-abbrev pub StandsWant : Instance → Subgoal → Type 0
-StandsWant instance w = Stands (nodes_of instance) w.at (model_of_destination w.destination) (model_of_tree w.tree.now)
-
--- the form at k begins a cover, and these are the parts of its match and their least costs
-pub record Fits (stock : StockModel) (limits : Limits) (ask : SubgoalModel) (k : ℕ) (operands : List Operand)
-    (stored : List ExprModel) (a b : ℕ) : Type 0 where
-  pub rule : FormModel
-  pub found : MatchModel
-  pub listed : slice_get stock.rules k ≡ Some rule
-  pub spared : KeepsTo limits rule.clobbers (cells_of_goal rule.goal)
-  pub takes_it : takes stock rule ask ≡ Some found
-  pub operands_are : operands ≡ operands_of found.sites
-  pub cuts_are : stored ≡ cuts_of found.sites
-  pub order : IsLeastOrder stock limits operands (Some a)
-  pub cut : IsLeastCut stock stored (Some b)
-
--- the cost of the covers that begin with the form
-abbrev pub fit_cost : Fit → ℕ
-fit_cost f = 1 + f.operands_cost + f.cuts_cost
-
-abbrev pub IsFit : StockModel → Limits → SubgoalModel → ℕ → Option Fit → Type 0
-IsFit stock limits ask k None = IsLeastForm stock limits ask k None
-IsFit stock limits ask k (Some f) =
-    Fits stock limits ask k (open_operands f.operands.items) (open_cuts f.cuts.items) f.operands_cost f.cuts_cost
-
--- the parts with their costs, where both are known
-abbrev pub FitOf : List OpenOperand → List OpenCut → Option ℕ → Option ℕ → Option Fit → Type 0
-FitOf operands stored a b None = (a ≡ None) ⊎ (b ≡ None)
-FitOf operands stored a b (Some f) =
-    (f.operands.items ≡ operands) × (f.cuts.items ≡ stored) × (a ≡ Some f.operands_cost)
-    × (b ≡ Some f.cuts_cost)
-
--- the same of the parts of a match
-abbrev pub FitsParts : StockModel → Limits → List Operand → List ExprModel → Option Fit → Type 0
-FitsParts stock limits operands stored o =
-    (is : List OpenOperand) × (ss : List OpenCut) × (a : Option ℕ) × (b : Option ℕ)
-    × (open_operands is ≡ operands) × (open_cuts ss ≡ stored)
-    × IsLeastOrder stock limits (open_operands is) a × IsLeastCut stock (open_cuts ss) b × FitOf is ss a b o
+use Rattle.least_costs.specs.declared.matches.FormMatch.{FormMatch}
+use Rattle.least_costs.specs.declared.matches.Matches.{Matches}
+use Rattle.least_costs.specs.Rows.{row_subgoal}
+use Rattle.least_costs.specs.Subgoals.{free, SubgoalModel, operand_subgoal, cut_subgoal, after, IsSparing, AreSparing, AreStored}
+use Rattle.least_costs.specs.Least.{AtMost, IsLeast, IsLeastOrder, IsLeastCut, IsFloor, summed}
+use Rattle.least_costs.specs.Searches.{open_operands, open_cuts}
 
 -- no cover of cost n begins with the form at k
 abbrev pub NeverBegins : StockModel → Limits → SubgoalModel → ℕ → ℕ → Type 0
 NeverBegins stock limits ask n k =
     (ps : CoverOperandsModel) (cs : CoverCutsModel) → IsSparing stock limits ask (use_form k ps cs) →
     1 + operands_cost ps + cuts_cost cs ≢ n
-
-abbrev pub Begins : StockModel → Limits → SubgoalModel → ℕ → ℕ → Option Fit → Type 0
-Begins stock limits ask n k None = NeverBegins stock limits ask n k
-Begins stock limits ask n k (Some f) =
-    Fits stock limits ask k (open_operands f.operands.items) (open_cuts f.cuts.items) f.operands_cost f.cuts_cost
-    × (1 + f.operands_cost + f.cuts_cost ≡ n)
 
 -- what is asked for an entry of the row of the matches' tree
 abbrev pub matches_subgoal : Matches → Slot → SubgoalModel

@@ -7,7 +7,7 @@ use Rattle.tree_grammar.specs.Leaves.{model_of_destination, Stands}
 use Rattle.tree_grammar.specs.declared.parts.Leaf.{Leaf}
 use Rattle.tree_grammar.specs.declared.parts.Leaf.TheVariants.{Operand, Cut}
 use Rattle.tree_sharing.specs.Sharing.{job_nodes, exprs_at}
-use Rattle.cover.specs.Made.{AreMade, HoldsParts, IsMade}
+use Rattle.least_costs.specs.Made.{AreMade, HoldsParts, IsMade}
 use Rattle.cover_lacks.specs.Lacks.{FormAsks, PartAsks}
 use Rattle.cover_lacks.specs.declared.asks.Search.{Search}
 use Rattle.cover_lacks.specs.declared.asks.Look.{Look}
@@ -85,11 +85,11 @@ pub record AreUnmade (stock : StockModel) (nodes : List ExprModel) (P : ExprMode
 -- what one form asks for, as far as it counts
 abbrev pub LookAsks : StockModel → Look → ℕ → ExprModel → Type 0
 LookAsks stock l form tree =
-    FormAsks stock form (model_of_destination l.destination) (model_of_tree l.tree.now) l.whole tree × IsBelow l.below tree
+    FormAsks stock form (model_of_destination l.goal.destination) (model_of_tree l.goal.tree.now) l.goal.whole tree × IsBelow l.below tree
 
 -- the trees that are looked at stand at their numbers
 abbrev pub LookStands : List ExprModel → Look → Type 0
-LookStands nodes l = Stands nodes l.at (model_of_destination l.destination) (model_of_tree l.tree.now)
+LookStands nodes l = Stands nodes l.goal.at (model_of_destination l.goal.destination) (model_of_tree l.goal.tree.now)
 
 -- what the first forms ask for
 abbrev pub FirstAsk : (ℕ → ExprModel → Type 0) → ℕ → ExprModel → Type 0
@@ -101,14 +101,14 @@ AreAfter at numbers = (i m : ℕ) → slice_get numbers i ≡ Some m → at < m
 
 -- a part is looked at, and only what is smaller counts
 abbrev pub IsPartLook : Look → Type 0
-IsPartLook l = HoldsParts (model_of_destination l.destination) × (l.below ≡ Some (size_of (model_of_tree l.tree.now)))
+IsPartLook l = HoldsParts (model_of_destination l.goal.destination) × (l.below ≡ Some (size_of (model_of_tree l.goal.tree.now)))
 
 -- the numbers of what one form asks for and nothing makes were added; those of a part are greater
 pub record AddsAsked (stock : StockModel) (nodes : List ExprModel) (l : Look) (form : ℕ) (old new : List ℕ) : Type 0 where
   pub added : List ℕ
   pub is : new ≡ old ++ added
   pub are : AreUnmade stock nodes (LookAsks stock l form) added
-  pub after : IsPartLook l → AreAfter l.at added
+  pub after : IsPartLook l → AreAfter l.goal.at added
 
 -- the same of what a form asks for of a part, wherever it puts that
 pub record AddsOfPart (stock : StockModel) (nodes : List ExprModel) (part : ExprModel) (at form : ℕ) (old new : List ℕ) : Type 0 where

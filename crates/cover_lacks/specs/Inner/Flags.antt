@@ -3,7 +3,7 @@ use Rattle.std.specs.Prelude.{ℕ, ◌<◌, ◌≡◌, ◌⊎◌, Bool, true, fa
 use Rattle.net_model.specs.Exprs.{ExprModel}
 use Rattle.form_model.specs.Forms.{DestinationModel}
 use Rattle.form_model.specs.Covers.{StockModel}
-use Rattle.cover.specs.Made.{IsMade}
+use Rattle.least_costs.specs.Made.{IsMade}
 use Rattle.tree_sharing.specs.Sharing.{job_nodes}
 use Rattle.cover_lacks.specs.Lacks.{RootAsks, PartAsks, RootHasAll, PartHasAll, IsMissed, IsLacking, IsUncovered}
 

@@ -17,9 +17,9 @@ part_fault ParseMemory = Compile Memory
 -- the second bytes tell no part of the program that the first are for words of so many bits: the
 -- line at this byte is none
 pub record IsPartless (src part : List ℕ) (width at : ℕ) : Type 0 where
-  pub listing : ProgramModel
-  pub file : IsSrcFile src width listing
-  pub fault : IsPartFault listing.vars part at
+  pub program : ProgramModel
+  pub file : IsSrcFile src width program
+  pub fault : IsPartFault program.vars part at
 
 -- why the two weren't taken
 abbrev pub IsToldFault : (src part : List ℕ) → ℕ → DualFault → Type 0

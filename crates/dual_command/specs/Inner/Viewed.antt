@@ -37,6 +37,6 @@ abbrev pub task_of : Netlist → Typed → List Bool → DualTask
 task_of n typed in_bank = record {
   netlist = n;
   width = typed.width;
-  listing = model_of_program typed.program;
+  program = model_of_program typed.program;
   in_bank = in_bank;
 }

@@ -1,4 +1,4 @@
--- The cells of a match's sites, told site by site from the left.
+-- The cells of a match's leaves, told leaf by leaf from the left.
 use Rattle.std.specs.Prelude.{◌≡◌, ◌<◌, ◌≤◌, ℕ, List, ◌++◌, length, drop, map}
 use Rattle.net_model.specs.Exprs.{ExprModel}
 use Rattle.form_model.specs.Covers.{StockModel, Operand}
@@ -8,12 +8,12 @@ use Rattle.form_model.specs.Steps.{OperandCellsModel, CutCellsModel, operand_cel
 use Rattle.emit_seq.specs.declared.cells.MatchCells.{MatchCells}
 use Rattle.emit_seq.specs.Models.{models_of_operand_cells, models_of_cut_cells}
 
--- the operands and cuts of the first sites have their cells, and n is the first cell of the rest
-pub record HaveCells (sites : List LeafModel) (ks ls : List ℕ) (first : ℕ) (operands : List OperandCellsModel)
+-- the operands and cuts of the first leaves have their cells, and n is the first cell of the rest
+pub record HaveCells (leaves : List LeafModel) (ks ls : List ℕ) (first : ℕ) (operands : List OperandCellsModel)
     (cuts : List CutCellsModel) (rest : List LeafModel) (n : ℕ) : Type 0 where
-  pub operands_are : operand_cells sites ks ls first
+  pub operands_are : operand_cells leaves ks ls first
       ≡ operands ++ operand_cells rest (drop (length operands) ks) (drop (length cuts) ls) n
-  pub cuts_are : cut_cells sites ks ls first
+  pub cuts_are : cut_cells leaves ks ls first
       ≡ cuts ++ cut_cells rest (drop (length operands) ks) (drop (length cuts) ls) n
 
 -- the operands and the trees of the cuts, without their cells
@@ -32,13 +32,13 @@ ArePlaces (operand_then i p ps) = (i ≤ length (operand_counts ps)) × ArePlace
 -- those that are left
 abbrev mutual
   pub IsListed : StockModel → CoverModel → Type 0
-  IsListed stock (use_form k ps cs) = (k < length stock.rules) × AreListed stock ps
+  IsListed stock (use_form k ps cs) = (k < length stock.forms) × AreListed stock ps
 
   pub AreListed : StockModel → CoverOperandsModel → Type 0
   AreListed stock no_operands = Unit {0}
   AreListed stock (operand_then i p ps) = (i ≤ length (operand_counts ps)) × IsListed stock p × AreListed stock ps
 
 -- the cells of all operands and cuts
-pub record AreMatchCells (sites : List LeafModel) (ks ls : List ℕ) (first : ℕ) (cells : MatchCells) : Type 0 where
-  pub operands : models_of_operand_cells cells.operands.items ≡ operand_cells sites ks ls first
-  pub cuts : models_of_cut_cells cells.cuts.items ≡ cut_cells sites ks ls first
+pub record AreMatchCells (leaves : List LeafModel) (ks ls : List ℕ) (first : ℕ) (cells : MatchCells) : Type 0 where
+  pub operands : models_of_operand_cells cells.operands.items ≡ operand_cells leaves ks ls first
+  pub cuts : models_of_cut_cells cells.cuts.items ≡ cut_cells leaves ks ls first

@@ -51,10 +51,10 @@ pub record Begins (Left Whole : List ℕ → Type 0) (old new : List ℕ) : Type
 pub record IsTold (src text : List ℕ) (task : Task) : Type 0 where
   pub room : HasRoom task
   pub jumps : HasJumps task
-  pub rules : List FormModel
+  pub all : List FormModel
   pub reach : ℕ
-  pub forms : AreFormsOf task.netlist rules reach
-  pub told : AreJobTexts task.netlist (task_stock rules task) src 0 (program_job_places task.listing) (task_jobs task) text
+  pub forms : AreFormsOf task.netlist all reach
+  pub told : AreJobTexts task.netlist (task_stock all task) src 0 (program_job_places task.program) (task_jobs task) text
 
 -- why the task's jobs are not told of; nothing is said where memory ran out
 abbrev pub IsEarlyFault : Task → CompileFault → Type 0

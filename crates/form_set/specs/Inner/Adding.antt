@@ -44,9 +44,9 @@ IsClass netlist pool reach pattern Other =
 
 -- a list with the forms of a pattern after the others
 pub record HasAdded (netlist : Netlist) (reach number : ℕ) (pattern : Pattern) (old new : List FormModel) : Type 0 where
-  pub rules : List FormModel
-  pub of : AreFormModelsOf netlist reach number pattern rules
-  pub is : new ≡ old ++ rules
+  pub forms : List FormModel
+  pub of : AreFormModelsOf netlist reach number pattern forms
+  pub is : new ≡ old ++ forms
 
 -- how far a jump form of a pattern reaches, and 0 where it gives none
 pub data IsReachOf (netlist : Netlist) (pattern : Pattern) (reach : ℕ) : Type 0 where

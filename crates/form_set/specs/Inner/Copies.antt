@@ -1,19 +1,15 @@
 -- Addresses and values as the code holds them.
 use Rattle.std.specs.Prelude.{◌≡◌, option_map, ℕ, ◌^◌, ◌<◌, ◌≤◌, length, List, Option, if◌then◌else◌}
-use Rattle.net_model.specs.Exprs.{model_of_expr, expr_width}
+use Rattle.net_model.specs.Exprs.{expr_width}
 use Rattle.sym_expr.specs.declared.pool.Node.{Node}
 use Rattle.sym_expr.specs.Pools.{expr_of_id}
-use Rattle.form_set.specs.declared.swaps.Sides.{Sides}
 use Rattle.form_set.specs.declared.branches.BranchIds.{BranchIds}
 use Rattle.form_set.specs.declared.branches.TargetId.{TargetId}
 use Rattle.form_model.specs.Forms.{TargetModel, absolute, relative}
 use Rattle.form_model.specs.Shapes.{Sum}
 use Rattle.form_set.specs.declared.shapes.SumIds.{SumIds}
 use Rattle.form_set.specs.Targets.{Branch}
-use Rattle.form_set.specs.Swaps.{SidesModel}
-
-abbrev pub model_of_sides : Sides → SidesModel
-model_of_sides sides = record { addr = option_map model_of_expr sides.addr; value = model_of_expr sides.value }
+use Rattle.operand_swaps.specs.Swaps.{SidesModel}
 
 -- those of a pattern by its ids
 abbrev pub ids_sides : List Node → Option ℕ → ℕ → SidesModel

@@ -7,8 +7,10 @@ use Rattle.net_model.specs.Exprs.{TransferModel, keep, write, write_at, expr_wid
 use Rattle.net_model.specs.Patterns.{IsWordOf, Pattern}
 use Rattle.net_model.specs.Transfers.{IsClean}
 use Rattle.sym_expr.specs.declared.pool.Node.{Node}
+use Rattle.transfer_set.specs.declared.machine.Machine.{Machine}
 use Rattle.transfer_set.specs.declared.row.Row.{Row}
 use Rattle.transfer_set.specs.Entries.{IsAddrKnown, ids_transfer}
+use Rattle.transfer_set.specs.Machines.{machine_netlist}
 use Rattle.net_model.specs.Fields.{transfer_fields}
 use Rattle.transfer_set.specs.TextMarks.{IsTransferOf}
 use Rattle.form_set.specs.declared.pattern_ids.PatternIds.{PatternIds}
@@ -35,12 +37,19 @@ pub record ArePatternIds (netlist : Netlist) (book : Diagrams) (pool : List Node
   pub set : IsSetOf book (IsWordOf netlist (ids_pattern pool ids)) ids.set
   pub fields : ids.fields ≡ transfer_fields (ids_transfer pool ids.addr ids.value)
   pub fits : ids.fields < 2 ^ book.bits
-  pub terms : IsTransferOf netlist (ids_transfer pool ids.addr ids.value)
+  pub exprs : IsTransferOf netlist (ids_transfer pool ids.addr ids.value)
   pub narrow : ids.storage ≡ counter_of netlist.codes → IsNarrow (ids_transfer pool ids.addr ids.value)
   pub few : book.bits ≤ 64
   pub clean : (word : ℕ) → IsClean netlist word → word < 2 ^ book.bits
   pub memory : memory_id netlist.storages < length netlist.storages
   pub storages : length netlist.storages ≤ 15
+
+-- the same over a machine
+abbrev pub pattern_in : Machine → PatternIds → Pattern
+pattern_in machine ids = ids_pattern machine.pool.now ids
+
+abbrev pub AreIdsIn : Machine → Diagrams → PatternIds → Type 0
+AreIdsIn machine book ids = ArePatternIds (machine_netlist machine) book machine.pool.now ids
 
 -- a word of a set
 pub record InSet (book : Diagrams) (set word : ℕ) : Type 0 where

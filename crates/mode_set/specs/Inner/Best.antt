@@ -12,8 +12,8 @@ pub record IsPricedBy (forms : StockModel) (destination : DestinationModel) (tre
     (priced : Priced) : Type 0 where
   pub mode : priced.plan.mode ≡ v
   pub chosen : IsChosen forms destination trees (model_of_plan priced.plan).choice
-  pub own : priced.plan.cover.cost ≡ job_cost destination (model_of_plan priced.plan).choice.plan
-  pub cost : priced.cost ≡ mode_cost v destination (model_of_plan priced.plan).choice.plan
+  pub own : priced.plan.cover.cost ≡ job_cost destination (model_of_plan priced.plan).choice.cover
+  pub cost : priced.cost ≡ mode_cost v destination (model_of_plan priced.plan).choice.cover
 
 -- this one, or that they cover the job in no way
 abbrev pub IsPriceBy : StockModel → DestinationModel → List ExprModel → ℕ → Option Priced → Type 0
@@ -26,8 +26,8 @@ pub record IsPriced (stock : ℕ → StockModel) (Usable : ℕ → Type 0) (dest
   pub can : Usable priced.plan.mode
   pub may : MayRunIn destination priced.plan.mode
   pub chosen : IsChosen (stock priced.plan.mode) destination trees (model_of_plan priced.plan).choice
-  pub own : priced.plan.cover.cost ≡ job_cost destination (model_of_plan priced.plan).choice.plan
-  pub cost : priced.cost ≡ mode_cost priced.plan.mode destination (model_of_plan priced.plan).choice.plan
+  pub own : priced.plan.cover.cost ≡ job_cost destination (model_of_plan priced.plan).choice.cover
+  pub cost : priced.cost ≡ mode_cost priced.plan.mode destination (model_of_plan priced.plan).choice.cover
 
 -- the plan in a mode, or that there is none
 abbrev pub IsPlanIn : (ℕ → StockModel) → (ℕ → Type 0) → DestinationModel → List ExprModel → ℕ → Option Priced → Type 0
@@ -41,8 +41,8 @@ pub record IsBest (stock : ℕ → StockModel) (Usable : ℕ → Type 0) (destin
   pub is : IsPriced stock Usable destination trees priced
   pub below : priced.plan.mode < n
   pub least : (v : ℕ) (other : JobCoverModel) → v < n → CoversIn stock Usable destination trees v other →
-      (priced.cost < mode_cost v destination other.plan)
-      ⊎ ((priced.cost ≡ mode_cost v destination other.plan) × (priced.plan.mode ≤ v))
+      (priced.cost < mode_cost v destination other.cover)
+      ⊎ ((priced.cost ≡ mode_cost v destination other.cover) × (priced.plan.mode ≤ v))
 
 abbrev pub IsBestBelow : (ℕ → StockModel) → (ℕ → Type 0) → DestinationModel → List ExprModel → ℕ → Option Priced → Type 0
 IsBestBelow stock Usable destination trees n None =

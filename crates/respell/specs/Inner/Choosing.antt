@@ -19,9 +19,9 @@ abbrev pub IsNoMore : Option ℕ → Option ℕ → Type 0
 IsNoMore least own = (cost : ℕ) → IsLess cost least → IsLess cost own
 
 -- a job that costs so much, which is less than what is known
-pub record IsCheaper (stock : ℕ → StockModel) (Usable : ℕ → Type 0) (known : Option ℕ) (work : JobModel)
+pub record IsCheaper (stock : ℕ → StockModel) (Usable : ℕ → Type 0) (known : Option ℕ) (job : JobModel)
     (cost : ℕ) : Type 0 where
-  pub costs : HasCost stock Usable work cost
+  pub costs : HasCost stock Usable job cost
   pub less : IsLess cost known
 
 -- such a job in place of another

@@ -72,7 +72,7 @@ pub record IsKit (m : Machine) (v : ℕ) (kit : Kit) : Type 0 where
   pub order : List ℕ
   pub keeps : KeepsRules kit.netlist order
   pub sized : kit.stock.file ≡ size_in InFile kit.netlist.storages
-  pub formed : AreFormed (file_place kit.netlist.storages) kit.patterns (length kit.netlist.storages) kit.stock.file kit.stock.rules
+  pub formed : AreFormed (file_place kit.netlist.storages) kit.patterns (length kit.netlist.storages) kit.stock.file kit.stock.forms
   pub temps : kit.stock.temps ≡ m.temps
 
 -- a word of the netlist puts a number into the mode register, steps and keeps the memory

@@ -19,14 +19,14 @@ use Rattle.right_code.specs.Inner.Forks.{IsJumpMade, IsForkMade}
 -- and the marks are the parts'. Tests and jumps are of mode 0
 pub record IsMadeCode (m : Machine) (kit : Kit) (image : Image) (flow : List Flow)
     (jobs : List JobModel) (parts : List LayoutPart) : Type 0 where
-  pub fit : PartsFit kit.stock.rules flow 0 flow parts
+  pub fit : PartsFit kit.stock.forms flow 0 flow parts
   pub marks : image.marks ≡ marks_from 0 parts
   pub room : total parts ≤ code_size kit.netlist.codes
   pub blocks : (at n block words : ℕ) → IsAssignBlock flow at n → slice_get parts at ≡ Some (Block block words)
       → IsModeBlockMade m kit image (jobs_at flow jobs at n) (address parts at) words
   pub forks : (at : ℕ) (f : BranchedTest) → slice_get parts at ≡ Some (Test f) → (job : JobModel) → slice_get jobs f.tree ≡ Some job
       → IsForkMade kit.netlist m.netlist.special kit.patterns kit.stock image job
-      (form_at_one (slice_get kit.stock.rules f.form)) f
+      (form_at_one (slice_get kit.stock.forms f.form)) f
       (address parts at) (address parts f.to) (address parts f.other)
   pub jumps : (at to : ℕ) → slice_get parts at ≡ Some (Jump to) →
       IsJumpMade kit.netlist m.netlist.special kit.patterns (image_word image (address parts at)) (address parts to)

@@ -49,35 +49,35 @@ IsTargetExpr netlist (relative shape) e =
 
 -- a branch form and its pattern: PC := select(c, target, step) or PC := select(c, step, target),
 -- with no bit both in the condition and the target
-pub record IsBranchForm (netlist : Netlist) (patterns : List Pattern) (rule : FormModel)
+pub record IsBranchForm (netlist : Netlist) (patterns : List Pattern) (form : FormModel)
     (when_one : Bool) (way : TargetModel) : Type 0 where
-  pub goal : rule.goal ≡ branches when_one way
+  pub goal : form.goal ≡ branches when_one way
   pub condition : ExprModel
   pub target : ExprModel
   pub step : ExprModel
-  pub is : slice_get patterns rule.pattern
+  pub is : slice_get patterns form.pattern
       ≡ Some (record {
         storage = counter_of netlist.codes;
         move = write (select condition (one_side when_one target step) (one_side when_one step target));
       })
   pub goes : IsTargetExpr netlist way target
   pub steps : IsNextExpr netlist step
-  pub alike : MeansAlike rule.value condition
-  pub same_fields : fields rule.value ≡ fields condition
+  pub alike : MeansAlike form.value condition
+  pub same_fields : fields form.value ≡ fields condition
   pub apart : bit_and (fields condition) (fields target) ≡ 0
 
 -- a jump form and its pattern
-pub record IsJumpForm (netlist : Netlist) (patterns : List Pattern) (rule : FormModel) : Type 0 where
-  pub is : slice_get patterns rule.pattern
-      ≡ Some (record { storage = counter_of netlist.codes; move = write rule.value })
+pub record IsJumpForm (netlist : Netlist) (patterns : List Pattern) (form : FormModel) : Type 0 where
+  pub is : slice_get patterns form.pattern
+      ≡ Some (record { storage = counter_of netlist.codes; move = write form.value })
 
 -- the word is one of a jump form to an address
 pub record IsJumpMade (netlist : Netlist) (special : Option ℕ) (patterns : List Pattern) (i to : ℕ) : Type 0 where
-  pub rule : FormModel
-  pub form : IsJumpForm netlist patterns rule
+  pub jump : FormModel
+  pub form : IsJumpForm netlist patterns jump
   pub bits : ℕ
-  pub shown : shape_setting rule.value to ≡ Some bits
-  pub word : FitsJump netlist i (operation_in netlist patterns (record { pattern = rule.pattern; setting = bits }))
+  pub shown : shape_setting jump.value to ≡ Some bits
+  pub word : FitsJump netlist i (operation_in netlist patterns (record { pattern = jump.pattern; setting = bits }))
   pub mode : KeepsMode special netlist i
 
 -- the bits for a target: an absolute one is shown as it stands, a relative one, which is an
@@ -114,7 +114,7 @@ pub record IsTestMade (netlist : Netlist) (special : Option ℕ) (patterns : Lis
   pub long : n ≡ length words
   pub stand : StandAt (words_of image) at words
   pub kept : AllByRecursion (KeepsMode special netlist) words
-  pub wants : (r : ℕ) → wanted stock tested (tree_used (test_of job) choice) choice.plan r ≡ true → live r ≡ true
+  pub wants : (r : ℕ) → wanted stock tested (tree_used (test_of job) choice) choice.cover r ≡ true → live r ≡ true
 
 -- those, the branch word, whose bits are those of the condition and of the target, and the jumps
 -- behind it
@@ -123,13 +123,13 @@ pub record IsForkMade (netlist : Netlist) (special : Option ℕ) (patterns : Lis
   pub choice : JobCoverModel
   pub operands : IsTestMade netlist special patterns stock image job choice at f.words
   pub way : TargetModel
-  pub form : IsBranchForm netlist patterns (cover_form stock choice.plan) when_one way
+  pub form : IsBranchForm netlist patterns (cover_form stock choice.cover) when_one way
   pub bits : ℕ
   pub shown : IsTargetShown netlist way (at + f.words) to f.long bits
   pub word : FitsJump netlist (image_word image (at + f.words))
       (operation_in netlist patterns (record {
-        pattern = (cover_form stock choice.plan).pattern;
-        setting = bit_or (branch_setting stock (tree_used (test_of job) choice) choice.plan) bits;
+        pattern = (cover_form stock choice.cover).pattern;
+        setting = bit_or (branch_setting stock (tree_used (test_of job) choice) choice.cover) bits;
       }))
   pub mode : KeepsMode special netlist (image_word image (at + f.words))
   pub behind : BehindMade netlist special patterns image f.next f.long (at + f.words) to other

@@ -9,9 +9,9 @@ use Rattle.right_code.specs.Jobs.{HasOne, IsCovered}
 -- each of these jobs has one
 abbrev pub AreCovered : StockModel → List JobModel → List JobCoverModel → Type 0
 AreCovered stock [] [] = Unit {0}
-AreCovered stock (work ∷ works) (choice ∷ choices) =
-    IsCovered stock work choice × HasOne work.destination work.trees
-    × AreCovered stock works choices
+AreCovered stock (job ∷ jobs) (choice ∷ choices) =
+    IsCovered stock job choice × HasOne job.destination job.trees
+    × AreCovered stock jobs choices
 AreCovered stock _ _ = ⊥
 
 -- t is what jobs leave from s, but for the cells below an address, the registers and the file

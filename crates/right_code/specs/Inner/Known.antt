@@ -8,7 +8,7 @@ use Rattle.transfer_set.specs.TextMarks.{IsTransferOf}
 -- a pattern of the netlist, of its expressions
 pub record IsKnownPattern (netlist : Netlist) (pattern : Pattern) : Type 0 where
   pub is : IsPattern netlist pattern
-  pub terms : IsTransferOf netlist pattern.move
+  pub exprs : IsTransferOf netlist pattern.move
   pub fits : TransferFits pattern.move
 
 abbrev pub AreKnown : Netlist → List Pattern → Type 0

@@ -44,17 +44,17 @@ TargetReaches reach (relative shape) = shows shape 2 ≡ true
 
 -- the first jump form of this reach shows each address below it, and each branch form is made of
 -- its pattern
-pub record AreTurns (netlist : Netlist) (patterns : List Pattern) (rules : List FormModel) (reach : ℕ) : Type 0 where
-  pub rule : FormModel
-  pub first : jump_form rules reach ≡ Some rule
-  pub jump : IsJumpForm netlist patterns rule
-  pub shown : (v : ℕ) → v < reach → shows rule.value v ≡ true
+pub record AreTurns (netlist : Netlist) (patterns : List Pattern) (forms : List FormModel) (reach : ℕ) : Type 0 where
+  pub form : FormModel
+  pub first : jump_form forms reach ≡ Some form
+  pub jump : IsJumpForm netlist patterns form
+  pub shown : (v : ℕ) → v < reach → shows form.value v ≡ true
   pub narrow : reach ≤ 2 ^ counter_width netlist
   pub forks : (k : ℕ) (turn : FormModel) (when_one : Bool) (way : TargetModel) →
-      slice_get rules k ≡ Some turn → turn.goal ≡ branches when_one way →
+      slice_get forms k ≡ Some turn → turn.goal ≡ branches when_one way →
       IsBranchForm netlist patterns turn when_one way
   pub reaches : (k : ℕ) (turn : FormModel) (when_one : Bool) (way : TargetModel) →
-      slice_get rules k ≡ Some turn → turn.goal ≡ branches when_one way → TargetReaches reach way
+      slice_get forms k ≡ Some turn → turn.goal ≡ branches when_one way → TargetReaches reach way
 
 -- ---- blocks and tests
 
@@ -108,9 +108,9 @@ pub record IsForkReady (netlist : Netlist) (special : Option ℕ) (patterns : Li
   pub least : AreGroupWords netlist patterns groups live words
   pub long : f.words ≡ length words
   pub kept : AllByRecursion (KeepsMode special netlist) words
-  pub wants : (r : ℕ) → wanted stock tested (tree_used (test_of job) choice) choice.plan r ≡ true → live r ≡ true
-  pub form : slice_get stock.rules f.form ≡ Some (cover_form stock choice.plan)
-  pub setting : f.setting ≡ branch_setting stock (tree_used (test_of job) choice) choice.plan
+  pub wants : (r : ℕ) → wanted stock tested (tree_used (test_of job) choice) choice.cover r ≡ true → live r ≡ true
+  pub form : slice_get stock.forms f.form ≡ Some (cover_form stock choice.cover)
+  pub setting : f.setting ≡ branch_setting stock (tree_used (test_of job) choice) choice.cover
 
 -- ---- the code
 
@@ -118,12 +118,12 @@ pub record IsForkReady (netlist : Netlist) (special : Option ℕ) (patterns : Li
 -- ready. Tests and jumps are of mode 0
 pub record IsLaidCode (m : Machine) (kit : Kit) (image : Image) (flow : List Flow)
     (jobs : List JobModel) (parts : List LayoutPart) (reach : ℕ) : Type 0 where
-  pub layout : IsLayout kit.stock.rules flow parts reach
+  pub layout : IsLayout kit.stock.forms flow parts reach
   pub room : total parts ≤ code_size kit.netlist.codes
   pub marks : image.marks ≡ marks_from 0 parts
   pub words : ℕ → List ℕ
   pub stand : StandItems kit.netlist m.netlist.special kit.patterns words (words_of image) 0
-      (items_from kit.stock.rules (jump_form kit.stock.rules reach) (starts parts) 0 parts)
+      (items_from kit.stock.forms (jump_form kit.stock.forms reach) (starts parts) 0 parts)
   pub long : length (words_of image) ≡ total parts
   pub blocks : (at n block size : ℕ) → IsAssignBlock flow at n →
       slice_get parts at ≡ Some (Block block size) →

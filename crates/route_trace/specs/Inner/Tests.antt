@@ -6,8 +6,8 @@ use Rattle.net_model.specs.declared.hardware.Netlist.{Netlist}
 use Rattle.net_model.specs.declared.hardware.Gate.{Gate}
 use Rattle.net_model.specs.declared.hardware.Gate.TheVariants.{Case, Bus}
 use Rattle.net_model.specs.Nets.{width_at}
-use Rattle.net_model.specs.Symbolic.{is_static}
-use Rattle.net_model.specs.Exprs.{ExprModel, const}
+use Rattle.net_model.specs.Symbolic.{is_static, case_expr}
+use Rattle.net_model.specs.Exprs.{ExprModel, const, select}
 use Rattle.sym_expr.specs.declared.pool.Node.{Node}
 use Rattle.ctl_bdd.specs.Bits.{AreSets, number_at}
 use Rattle.ctl_bdd.specs.Tables.{AreBits}
@@ -36,6 +36,12 @@ IsDecided netlist book bits (Case sel rows rest) = IsSelector netlist book (sets
 IsDecided netlist book bits (Bus drivers) =
     AllByRecursion (λ (driver : ℕ × ℕ). HasBits netlist book (sets_in bits driver.1) driver.1) drivers
 IsDecided netlist book bits _ = Unit {0}
+
+-- what a case gives: by its selector's number where the selector is decided, and else by its bit
+abbrev pub case_term : (ℕ → ExprModel) → (ℕ → ℕ) → (ℕ → Bool) → ℕ → ℕ → List (ℕ × ℕ) → Option ℕ → ExprModel
+case_term t u f width sel rows rest =
+    if f sel then case_expr t width (u sel) rows rest
+    else select (t sel) (case_expr t width 1 rows rest) (case_expr t width 0 rows rest)
 
 -- the net of a case's row with this number, or that of the rest
 abbrev pub target : List (ℕ × ℕ) → ℕ → Option ℕ → Option ℕ

@@ -6,7 +6,7 @@ use Rattle.src_model.specs.Fitting.{Fitting, FitsSides}
 use Rattle.code_model.specs.declared.image.Place.{Place as VariablePlace}
 use Rattle.form_model.specs.declared.trees.Job.{Job}
 use Rattle.form_model.specs.declared.flow.Flow.{Flow}
-use Rattle.src_trees.specs.Lowered.{MemoryMap, works, jobs_in}
+use Rattle.src_trees.specs.Lowered.{MemoryMap, stmt_jobs, jobs_in}
 use Rattle.src_trees.specs.Flows.{flow_of, flow_in}
 use Rattle.src_trees.specs.Inner.Near.{IsNear}
 use Rattle.src_trees.specs.Jobs.{models_of_jobs}
@@ -43,7 +43,7 @@ pub record IsReady (at : ℕ) (jobs : List Job) (more : ℕ) : Type 0 where
 -- the flow and the jobs of a statement, of statements, and of an else part
 pub record IsLowered (m : MemoryMap) (a : StmtModel) (at : ℕ) (old new : List Job) (flow : List Flow) : Type 0 where
   pub flow_is : flow ≡ flow_of a (length old) at
-  pub jobs_are : models_of_jobs new ≡ models_of_jobs old ++ works m a
+  pub jobs_are : models_of_jobs new ≡ models_of_jobs old ++ stmt_jobs m a
 
 pub record AreLowered (m : MemoryMap) (list : StmtsModel) (at : ℕ) (old new : List Job) (flow : List Flow) : Type 0 where
   pub flow_is : flow ≡ flow_in list (length old) at

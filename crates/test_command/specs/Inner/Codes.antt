@@ -17,10 +17,10 @@ use Rattle.test_code.specs.Tried.{IsMadeFor, skipped_count, tested_count}
 use Rattle.test_command.specs.Refusals.{test_cost}
 
 -- the jobs of a netlist with these forms and patterns, whose memory has the cells that they need
-pub record AreTestJobs (netlist : Netlist) (rules : List FormModel) (patterns : List Pattern) (tests : TestJobs) : Type 0 where
-  pub temps : tests.temps ≡ test_temps netlist rules patterns
-  pub jobs : models_of_jobs tests.blocks.jobs.items ≡ test_jobs netlist rules patterns
-  pub room : test_need netlist rules patterns ≤ memory_size netlist.storages
+pub record AreTestJobs (netlist : Netlist) (forms : List FormModel) (patterns : List Pattern) (tests : TestJobs) : Type 0 where
+  pub temps : tests.temps ≡ test_temps netlist forms patterns
+  pub jobs : models_of_jobs tests.blocks.jobs.items ≡ test_jobs netlist forms patterns
+  pub room : test_need netlist forms patterns ≤ memory_size netlist.storages
 
 -- code that is made for a netlist, whose memory has the cells that it needs, and of whose forms one
 -- is no jump and no branch
@@ -31,5 +31,5 @@ pub record IsTestCode (netlist : Netlist) (code : TestCode) : Type 0 where
   pub skipped : code.skipped ≡ skipped_count tried
   pub cost : code.cost ≡ capped (test_cost netlist tried code.words.items made)
   pub fit : AllByRecursion (WordFits netlist) code.words.items
-  pub cells : test_need netlist made.rules made.patterns ≤ memory_size netlist.storages
+  pub cells : test_need netlist made.all made.patterns ≤ memory_size netlist.storages
   pub steps : ¬ IsStepless netlist

@@ -15,6 +15,7 @@ use Rattle.net_model.specs.Transfers.{IsClean}
 use Rattle.net_model.specs.Value.{value_of}
 use Rattle.sym_expr.specs.declared.pool.Node.{Node}
 use Rattle.transfer_set.specs.declared.route.Route.{Route}
+use Rattle.transfer_set.specs.declared.sources.Source.{Source}
 use Rattle.transfer_set.specs.Routes.{AreRoutes}
 
 -- a transfer that changes something, or none
@@ -55,12 +56,16 @@ IsStorageKnown netlist book bits (Some (Memory cells)) = IsWhenKnown netlist boo
 IsStorageKnown netlist book bits (Some (File cells)) = IsWhenKnown netlist book bits cells.when
 
 -- what transfers are collected from
-pub record IsSource (netlist : Netlist) (book : Diagrams) (pool : List Node)
+pub record AreSources (netlist : Netlist) (book : Diagrams) (pool : List Node)
     (controls : ControlBits) (nets : List (List Route)) : Type 0 where
   pub routes : AreRoutes netlist book pool controls.legal nets
   pub within : controls.legal < length book.nodes
   pub legal : (word : ℕ) → word < 2 ^ book.bits → (has_word book controls.legal word ≡ true) ↔ IsClean netlist word
   pub storages : (id : ℕ) → IsStorageKnown netlist book controls.bits (slice_get netlist.storages id)
+
+abbrev pub IsSource : Source → Diagrams → Type 0
+IsSource source book =
+    AreSources source.checked.now.netlist book source.pool.now source.controls.now source.routes.now.of
 
 -- a storage with these cells, of either space
 pub data IsArray (cells : Cells) : Storage → Type 0 where

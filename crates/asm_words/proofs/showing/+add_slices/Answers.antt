@@ -10,8 +10,8 @@ pub returns-in_ok-add_slices-in-Bin : goal.returns-in_ok-add_slices-in-Bin
 returns-in_ok-add_slices-in-Bin t c =
     let term_of = expr_of_id c.args.pool.now in
     let whole : slices (term_of c.args.expr) ≡ slices (term_of c.in-Bin.a) ++ slices (term_of c.in-Bin.b) = (elim c.in-Bin.is as (λ _. slices (term_of c.args.expr) ≡ slices (term_of c.in-Bin.a) ++ slices (term_of c.in-Bin.b)) [
-      | inl w ↦ ap slices (c.node.ensures.term ∙ ap (λ (node : Node). node_expr node term_of) w.1)
-      | inr w ↦ ap slices (c.node.ensures.term ∙ ap (λ (node : Node). node_expr node term_of) w)
+      | inl w ↦ ap slices (c.node.ensures.expr ∙ ap (λ (node : Node). node_expr node term_of) w.1)
+      | inr w ↦ ap slices (c.node.ensures.expr ∙ ap (λ (node : Node). node_expr node term_of) w)
     ]) in
     on_ok_weaker c.add_slices-in-Bin-2.result
     (λ e.
@@ -24,7 +24,7 @@ returns-in_ok-add_slices-in-Select-2 t c =
     let first = slices (expr_of_id c.args.pool.now c.in-Select.c) in
     let second = slices (expr_of_id c.args.pool.now c.in-Select.a) in
     let third = slices (expr_of_id c.args.pool.now c.in-Select.b) in
-    let whole : slices (expr_of_id c.args.pool.now c.args.expr) ≡ first ++ (second ++ third) = ap slices c.in-Select.ensures.term in
+    let whole : slices (expr_of_id c.args.pool.now c.args.expr) ≡ first ++ (second ++ third) = ap slices c.in-Select.ensures.expr in
     on_ok_weaker c.add_slices-in-Select-3.result
     (λ e.
     found_two found c.add_slices-in-Select.new.found c.add_slices-in-Select-3.new.found first (second ++ third) (slices (expr_of_id c.args.pool.now c.args.expr)) c.in_ok-add_slices-in-Select.ensures

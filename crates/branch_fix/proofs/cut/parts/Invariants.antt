@@ -5,8 +5,9 @@ use Rattle.branch_fix.proofs.cut.parts.Given as goal
 
 abbrev pub invariant-loop-at : goal.invariant-loop-at
 invariant-loop-at l = record {
-  made : l.parts ++ parts_from (models_of_forms l.forms) l.flow l.sizes l.branches (drop l.at l.flow) l.at ≡ parts_of (models_of_forms l.forms) l.flow l.sizes l.branches;
-  blocks : l.block ≡ blocks_before l.flow l.at;
-  tests : l.test ≡ tests_before l.flow l.at;
-  few : l.test ≤ l.at;
+  made : l.parts ++ parts_from (models_of_forms l.outline.forms.now.list.items) l.outline.flow.now l.outline.sizes.now l.outline.branches.now (drop l.at l.outline.flow.now) l.at
+      ≡ parts_of (models_of_forms l.outline.forms.now.list.items) l.outline.flow.now l.outline.sizes.now l.outline.branches.now;
+  blocks : l.before.blocks ≡ blocks_before l.outline.flow.now l.at;
+  tests : l.before.tests ≡ tests_before l.outline.flow.now l.at;
+  few : l.before.tests ≤ l.at;
 }

@@ -25,7 +25,7 @@ returns-clause-code c =
     let most = c.loop-at.auto.at-end in
     let least = c.loop-at-test.false in
     let all : c.loop-at.at ≡ length program.flow.now = omega (arith, most, least) in
-    subst (λ upto. AreCodedTo c.args.modes.now program upto c.loop-at.code.blocks.items c.loop-at.code.branches.items) all c.loop-at.invariant.code
+    subst (λ upto. AreCodedTo c.args.program.now.modes program upto c.loop-at.code.blocks.items c.loop-at.code.branches.items) all c.loop-at.invariant.code
 
 pub returns-in_err-entered-clause-code : goal.returns-in_err-entered-clause-code
 returns-in_err-entered-clause-code c = IfOk-from_err c.from_residual.result _ c.from_residual.ensures.0

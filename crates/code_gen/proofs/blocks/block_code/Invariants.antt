@@ -6,7 +6,7 @@ use Rattle.code_gen.proofs.blocks.block_code.Given as goal
 
 abbrev pub invariant-loop-at : goal.invariant-loop-at
 invariant-loop-at l = record {
-  ready : AreReady l.modes l.books;
+  ready : AreReady l.program.modes l.books;
   once : AllByRecursion IsOnce l.code.blocks.items;
-  code : AreCodedTo l.modes l.program l.at l.code.blocks.items l.code.branches.items;
+  code : AreCodedTo l.program.modes l.program l.at l.code.blocks.items l.code.branches.items;
 }

@@ -8,21 +8,21 @@ use Rattle.word_fit.specs.Groups.{AreLeast}
 use Rattle.compaction.specs.Meant.{MeansSteps}
 use Rattle.compaction.specs.Packing.{IsPacked}
 use Rattle.word_fit.specs.Steps.{step_operation}
-use Rattle.code_gen.specs.Machines.{machine_netlist, machine_patterns}
+use Rattle.code_gen.specs.Machines.{known_netlist, known_patterns}
 use Rattle.code_gen.proofs.Packing.{packs_some, singles_some}
 use Rattle.code_gen.proofs.blocks.pack_block.Goals as goal
 
 pub returns-clause-packed : goal.returns-clause-packed
 returns-clause-packed c =
-    let machine = c.args.machine.now in
-    let operation = step_operation machine.pool.now machine.patterns.now in
+    let machine = c.args.known.now in
+    let operation = step_operation machine.machine.pool.now machine.machine.patterns.now in
     let made = c.in_ok-block.ensures in
     let some =
-    packs_some operation (fits_over (machine_netlist machine) operation) (regs_of c.args.after) 0 (singles c.args.steps.now) c.in_ok-block.block.groups (singles_some c.args.steps.now) made.chosen in
-    let nt = machine_netlist machine in
-    let patterns = machine_patterns machine in
+    packs_some operation (fits_over (known_netlist machine) operation) (regs_of c.args.after) 0 (singles c.args.steps.now) c.in_ok-block.block.groups (singles_some c.args.steps.now) made.chosen in
+    let nt = known_netlist machine in
+    let patterns = known_patterns machine in
     let after = regs_of c.args.after in
-    let told : machine.patterns.now.file ≡ file_place nt.storages = c.requires.ready.patterns.file in
+    let told : machine.machine.patterns.now.file ≡ file_place nt.storages = c.requires.ready.patterns.file in
     record {
       packing = record {
         some = some;

@@ -37,7 +37,7 @@ returns-in-Jump-clause-code c =
     let flow = program.flow.now in
     let code = c.args.code.now in
     let read = slice_get-get_or flow c.args.at (Assign 0) c.requires.within in
-    elim c.in-Jump.is as (λ _. AreCodedTo c.args.modes.now program (c.args.at + 1) code.blocks.items code.branches.items) [
+    elim c.in-Jump.is as (λ _. AreCodedTo c.args.program.now.modes program (c.args.at + 1) code.blocks.items code.branches.items) [
       | inl jump ↦
           (let place : slice_get flow c.args.at ≡ Some (Jump jump.0) = read ∙ ap (λ (f : Flow). Some f) jump.1 in
           λ task isas p. skipped task isas flow (jobs_in program) (plans_in program) c.args.at code.blocks.items code.branches.items (c.requires.code task isas p)

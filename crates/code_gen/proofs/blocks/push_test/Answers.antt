@@ -23,8 +23,8 @@ bounds-program-tree c =
     let program = c.args.program.now in
     let q = c.requires.planned in
     let p = c.requires.place in
-    let t = test_job c.args.modes.now program q.task q.isas q.planning c.args.at c.args.tree p.when_one p.when_zero p.place in
-    let l = slice_get_within (jobs_in program) c.args.tree t.work t.at in
+    let t = test_job c.args.program.now.modes program q.task q.isas q.planning c.args.at c.args.tree p.when_one p.when_zero p.place in
+    let l = slice_get_within (jobs_in program) c.args.tree t.job t.at in
     let n = length-map program.jobs.now model_of_job in
     omega (arith, l, n)
 
@@ -33,64 +33,64 @@ bounds-program-tree-2 c =
     let program = c.args.program.now in
     let q = c.requires.planned in
     let p = c.requires.place in
-    let t = test_job c.args.modes.now program q.task q.isas q.planning c.args.at c.args.tree p.when_one p.when_zero p.place in
-    let d = plan_of_job c.args.modes.now program q.task q.isas q.planning c.args.tree t.work t.at in
+    let t = test_job c.args.program.now.modes program q.task q.isas q.planning c.args.at c.args.tree p.when_one p.when_zero p.place in
+    let d = plan_of_job c.args.program.now.modes program q.task q.isas q.planning c.args.tree t.job t.at in
     let l = slice_get_within (plans_in program) c.args.tree d.0 d.1 in
     let n = length-map program.plans.now model_of_plan in
     omega (arith, l, n)
 
 pub test_block-requires-clause-job : goal.test_block-requires-clause-job
 test_block-requires-clause-job c =
-    let modes = c.args.modes.now in
+    let modes = c.args.program.now.modes in
     let program = c.args.program.now in
     let q = c.requires.planned in
     let p = c.requires.place in
     let t = test_job modes program q.task q.isas q.planning c.args.at c.args.tree p.when_one p.when_zero p.place in
-    let d = plan_of_job modes program q.task q.isas q.planning c.args.tree t.work t.at in
-    let few = slice_get_within (jobs_in program) c.args.tree t.work t.at in
+    let d = plan_of_job modes program q.task q.isas q.planning c.args.tree t.job t.at in
+    let few = slice_get_within (jobs_in program) c.args.tree t.job t.at in
     let as_many = slice_get_within (plans_in program) c.args.tree d.0 d.1 in
     let jobs = length-map program.jobs.now model_of_job in
     let plans = length-map program.plans.now model_of_plan in
-    let job : model_of_job c.index-program-tree.result ≡ t.work =
-    same_some (model_of_job c.index-program-tree.result) t.work
+    let job : model_of_job c.index-program-tree.result ≡ t.job =
+    same_some (model_of_job c.index-program-tree.result) t.job
     (sym (mapped_get model_of_job program.jobs.now c.args.tree c.index-program-tree.result (omega (arith, few, jobs)) c.index-program-tree.is) ∙ t.at) in
-    let plan : model_of_plan c.index-program-tree-2.result ≡ d.0 =
+    let cover : model_of_plan c.index-program-tree-2.result ≡ d.0 =
     same_some (model_of_plan c.index-program-tree-2.result) d.0
     (sym (mapped_get model_of_plan program.plans.now c.args.tree c.index-program-tree-2.result (omega (arith, as_many, plans)) c.index-program-tree-2.is) ∙ d.1) in
-    let mode = test_mode modes program q.task q.isas q.planning c.args.tree t.work d.0 t.at d.1 t.destination in
+    let mode = test_mode modes program q.task q.isas q.planning c.args.tree t.job d.0 t.at d.1 t.destination in
     let own = ap model_of_job (sym c.index-program-tree.is) ∙ job in
-    let planned = ap model_of_plan (sym c.index-program-tree-2.is) ∙ plan in
+    let planned = ap model_of_plan (sym c.index-program-tree-2.is) ∙ cover in
     subst (λ (w : JobModel). IsTestJob program w (record { mode = 0; choice = model_of_job_cover (slice_index_or program.plans.now c.args.tree c.index-program-tree-2.result).cover })) (sym own)
-    (subst (λ (x : PlanModel). IsTestJob program t.work (record { mode = 0; choice = x.choice })) (sym planned)
-    (record { tree = c.args.tree; work = t.at; plans = d.1 ∙ (λ j. Some (record { mode = mode j; choice = d.0.choice })); test = t.destination }))
+    (subst (λ (x : PlanModel). IsTestJob program t.job (record { mode = 0; choice = x.choice })) (sym planned)
+    (record { tree = c.args.tree; jobs = t.at; plans = d.1 ∙ (λ j. Some (record { mode = mode j; choice = d.0.choice })); test = t.destination }))
 
 pub returns-clause-code : goal.returns-clause-code
 returns-clause-code c = λ task isas q.
-    (let modes = c.args.modes.now in
+    (let modes = c.args.program.now.modes in
     let program = c.args.program.now in
     let flow = program.flow.now in
     let code = c.args.code.now in
     let p = c.requires.place in
     let t = test_job modes program task isas q c.args.at c.args.tree p.when_one p.when_zero p.place in
-    let d = plan_of_job modes program task isas q c.args.tree t.work t.at in
-    let few = slice_get_within (jobs_in program) c.args.tree t.work t.at in
+    let d = plan_of_job modes program task isas q c.args.tree t.job t.at in
+    let few = slice_get_within (jobs_in program) c.args.tree t.job t.at in
     let as_many = slice_get_within (plans_in program) c.args.tree d.0 d.1 in
     let jobs = length-map program.jobs.now model_of_job in
     let plans = length-map program.plans.now model_of_plan in
     let job = slice_index_or program.jobs.now c.args.tree c.index-program-tree.result in
     let plan = slice_index_or program.plans.now c.args.tree c.index-program-tree-2.result in
-    let work : slice_get (jobs_in program) c.args.tree ≡ Some (model_of_job job) =
+    let model : slice_get (jobs_in program) c.args.tree ≡ Some (model_of_job job) =
     mapped_get model_of_job program.jobs.now c.args.tree c.index-program-tree.result (omega (arith, few, jobs)) c.index-program-tree.is
     ∙ ap (λ (x : Job). Some (model_of_job x)) c.index-program-tree.is in
     let has : slice_get (plans_in program) c.args.tree ≡ Some (model_of_plan plan) =
     mapped_get model_of_plan program.plans.now c.args.tree c.index-program-tree-2.result (omega (arith, as_many, plans)) c.index-program-tree-2.is
     ∙ ap (λ (x : Plan). Some (model_of_plan x)) c.index-program-tree-2.is in
-    let own : model_of_job job ≡ t.work = same_some (model_of_job job) t.work (sym work ∙ t.at) in
-    let mode : plan.mode ≡ 0 = test_mode modes program task isas q c.args.tree (model_of_job job) (model_of_plan plan) work has (ap (λ (w : JobModel). w.destination) own ∙ t.destination) in
+    let own : model_of_job job ≡ t.job = same_some (model_of_job job) t.job (sym model ∙ t.at) in
+    let mode : plan.mode ≡ 0 = test_mode modes program task isas q c.args.tree (model_of_job job) (model_of_plan plan) model has (ap (λ (w : JobModel). w.destination) own ∙ t.destination) in
     let zero : slice_get (plans_in program) c.args.tree ≡ Some (record { mode = 0; choice = model_of_job_cover plan.cover }) = has ∙ (λ j. Some (record { mode = mode j; choice = model_of_job_cover plan.cover })) in
     let more =
     test_more task isas flow (jobs_in program) (plans_in program) c.args.at c.args.tree p.when_one p.when_zero
-    code.blocks.items code.branches.items c.in_ok-block.block (plan.cover.cover.form, c.in_ok-block.setting) (c.requires.code task isas q) p.place (model_of_job job) (record { mode = 0; choice = model_of_job_cover plan.cover }) work zero
+    code.blocks.items code.branches.items c.in_ok-block.block c.in_ok-block.branch (c.requires.code task isas q) p.place (model_of_job job) (record { mode = 0; choice = model_of_job_cover plan.cover }) model zero
     (c.in_ok-block.ensures.code task isas q) in
     subst (λ blocks. IsBlockCode task isas flow (jobs_in program) (plans_in program) (c.args.at + 1) blocks c.push-2.new.self.items)
     (sym c.in_ok-push.ensures.items)

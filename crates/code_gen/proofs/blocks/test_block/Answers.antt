@@ -16,18 +16,18 @@ use Rattle.code_gen.proofs.blocks.test_block.Goals as goal
 pub bounds-modes-0 : goal.bounds-modes-0
 bounds-modes-0 c =
     let q = c.requires.planned in
-    machine_within c.args.modes.now c.args.program.now q.task q.isas q.planning 0 (some_modes q.task.netlist)
+    machine_within c.args.program.now.modes c.args.program.now q.task q.isas q.planning 0 (some_modes q.task.netlist)
 
 pub bounds-modes-0-2 : goal.bounds-modes-0-2
 bounds-modes-0-2 c =
     let q = c.requires.planned in
-    forms_within c.args.modes.now c.args.program.now q.task q.isas q.planning 0 (some_modes q.task.netlist)
+    forms_within c.args.program.now.modes c.args.program.now q.task q.isas q.planning 0 (some_modes q.task.netlist)
 
 pub bounds-books-0 : goal.bounds-books-0
 bounds-books-0 c =
     let q = c.requires.planned in
-    let some = machine_within c.args.modes.now c.args.program.now q.task q.isas q.planning 0 (some_modes q.task.netlist) in
-    book_within c.args.modes.now.machines.now c.args.books.now 0 c.requires.ready some
+    let some = machine_within c.args.program.now.modes c.args.program.now q.task q.isas q.planning 0 (some_modes q.task.netlist) in
+    book_within c.args.program.now.modes.machines.now c.args.books.now 0 c.requires.ready some
 
 pub mode_set-requires : goal.mode_set-requires
 mode_set-requires c =
@@ -36,28 +36,28 @@ mode_set-requires c =
 
 pub emit-requires : goal.emit-requires
 emit-requires c =
-    let modes = c.args.modes.now in
+    let modes = c.args.program.now.modes in
     let q = c.requires.planned in
     let t = c.requires.job in
-    emitted_covers modes c.args.program.now q.task q.isas q.planning t.tree (model_of_job c.args.job.now) (record { mode = 0; choice = model_of_job_cover c.args.chosen.now }) _ t.work t.plans
+    emitted_covers modes c.args.program.now q.task q.isas q.planning t.tree (model_of_job c.args.job.now) (record { mode = 0; choice = model_of_job_cover c.args.chosen.now }) _ t.jobs t.plans
     (slice_get-get_or modes.forms.now 0 _ (forms_within modes c.args.program.now q.task q.isas q.planning 0 (some_modes q.task.netlist)))
 
 -- the machine of mode 0 is ready in its book, and knows what its expressions read
 pub branch_registers-requires-clause-tables : goal.branch_registers-requires-clause-tables
 branch_registers-requires-clause-tables c =
     let q = c.requires.planned in
-    let some = machine_within c.args.modes.now c.args.program.now q.task q.isas q.planning 0 (some_modes q.task.netlist) in
-    (known_at c.args.modes.now c.args.books.now 0 _ c.requires.ready some (slice_get-get_or c.args.modes.now.machines.now 0 _ some)).reads
+    let some = machine_within c.args.program.now.modes c.args.program.now q.task q.isas q.planning 0 (some_modes q.task.netlist) in
+    (known_at c.args.program.now.modes c.args.books.now 0 _ c.requires.ready some (slice_get-get_or c.args.program.now.modes.machines.now 0 _ some)).reads
 
 pub branch_registers-requires-clause-listed : goal.branch_registers-requires-clause-listed
 branch_registers-requires-clause-listed c =
     let q = c.requires.planned in
-    let some = machine_within c.args.modes.now c.args.program.now q.task q.isas q.planning 0 (some_modes q.task.netlist) in
-    (known_at c.args.modes.now c.args.books.now 0 _ c.requires.ready some (slice_get-get_or c.args.modes.now.machines.now 0 _ some)).listed
+    let some = machine_within c.args.program.now.modes c.args.program.now q.task q.isas q.planning 0 (some_modes q.task.netlist) in
+    (known_at c.args.program.now.modes c.args.books.now 0 _ c.requires.ready some (slice_get-get_or c.args.program.now.modes.machines.now 0 _ some)).listed
 
 pub pack_block-requires-clause-ready : goal.pack_block-requires-clause-ready
 pack_block-requires-clause-ready c =
-    let modes = c.args.modes.now in
+    let modes = c.args.program.now.modes in
     let books = c.args.books.now in
     let q = c.requires.planned in
     let some = machine_within modes c.args.program.now q.task q.isas q.planning 0 (some_modes q.task.netlist) in
@@ -66,12 +66,12 @@ pack_block-requires-clause-ready c =
 pub pack_block-requires-clause-tables : goal.pack_block-requires-clause-tables
 pack_block-requires-clause-tables c =
     let q = c.requires.planned in
-    let some = machine_within c.args.modes.now c.args.program.now q.task q.isas q.planning 0 (some_modes q.task.netlist) in
-    (known_at c.args.modes.now c.args.books.now 0 _ c.requires.ready some (slice_get-get_or c.args.modes.now.machines.now 0 _ some)).reads
+    let some = machine_within c.args.program.now.modes c.args.program.now q.task q.isas q.planning 0 (some_modes q.task.netlist) in
+    (known_at c.args.program.now.modes c.args.books.now 0 _ c.requires.ready some (slice_get-get_or c.args.program.now.modes.machines.now 0 _ some)).reads
 
 pub pack_block-requires-clause-words : goal.pack_block-requires-clause-words
 pack_block-requires-clause-words c =
-    let modes = c.args.modes.now in
+    let modes = c.args.program.now.modes in
     let program = c.args.program.now in
     let q = c.requires.planned in
     let t = c.requires.job in
@@ -80,19 +80,19 @@ pack_block-requires-clause-words c =
     let forms = forms_within modes program q.task q.isas q.planning 0 (some_modes q.task.netlist) in
     let there = slice_get-get_or modes.machines.now 0 c.index-modes-0.result some in
     known_words machine (known_at modes c.args.books.now 0 machine c.requires.ready some there) (singles c.as_slice.result.now) (regs_of (bit_or c.branch_registers.result c.mode_set.result))
-    (emitted_words modes program q.task q.isas q.planning t.tree (model_of_job c.args.job.now) (record { mode = 0; choice = model_of_job_cover c.args.chosen.now }) t.work t.plans t.test _ machine
+    (emitted_words modes program q.task q.isas q.planning t.tree (model_of_job c.args.job.now) (record { mode = 0; choice = model_of_job_cover c.args.chosen.now }) t.jobs t.plans t.test _ machine
     (slice_get-get_or modes.forms.now 0 c.index-modes-0-2.result forms) there
     c.branch_registers.result c.branch_registers.type_inv c.branch_registers.ensures c.mode_set.result c.mode_set.ensures c.in_ok-emitted.emitted c.in_ok-emitted.ensures c.as_slice.result.now c.as_slice.ensures)
 
 pub returns-clause-code : goal.returns-clause-code
 returns-clause-code c = λ task isas p.
-    (let modes = c.args.modes.now in
+    (let modes = c.args.program.now.modes in
     let program = c.args.program.now in
     let t = c.requires.job in
     let some = machine_within modes program task isas p 0 (some_modes task.netlist) in
     let forms = forms_within modes program task isas p 0 (some_modes task.netlist) in
-    subst (λ b. IsTestCode task isas (model_of_job c.args.job.now) (record { mode = 0; choice = model_of_job_cover c.args.chosen.now }) c.in_ok-block.block (c.args.chosen.now.cover.form, b)) (sym c.unwrap_or.ensures)
-    (emitted_code modes program task isas p t.tree (model_of_job c.args.job.now) (record { mode = 0; choice = model_of_job_cover c.args.chosen.now }) t.work t.plans t.test _ _
+    subst (λ b. IsTestCode task isas (model_of_job c.args.job.now) (record { mode = 0; choice = model_of_job_cover c.args.chosen.now }) c.in_ok-block.block (record { form = c.args.chosen.now.cover.form; setting = b })) (sym c.unwrap_or.ensures)
+    (emitted_code modes program task isas p t.tree (model_of_job c.args.job.now) (record { mode = 0; choice = model_of_job_cover c.args.chosen.now }) t.jobs t.plans t.test _ _
     (slice_get-get_or modes.forms.now 0 _ forms) (slice_get-get_or modes.machines.now 0 _ some)
     c.branch_registers.result c.branch_registers.type_inv c.branch_registers.ensures c.mode_set.result c.mode_set.ensures c.in_ok-emitted.emitted c.in_ok-emitted.ensures c.as_slice.result.now c.as_slice.ensures
     c.in_ok-block.block c.in_ok-block.ensures.packed))
@@ -100,11 +100,11 @@ returns-clause-code c = λ task isas p.
 pub returns-clause-ready : goal.returns-clause-ready
 returns-clause-ready c =
     let q = c.requires.planned in
-    let some = machine_within c.args.modes.now c.args.program.now q.task q.isas q.planning 0 (some_modes q.task.netlist) in
-    ready_set c.args.modes.now.machines.now c.args.books.now 0 _ c.pack_block.new.book c.requires.ready (slice_get-get_or c.args.modes.now.machines.now 0 _ some) c.pack_block.ensures.ready
+    let some = machine_within c.args.program.now.modes c.args.program.now q.task q.isas q.planning 0 (some_modes q.task.netlist) in
+    ready_set c.args.program.now.modes.machines.now c.args.books.now 0 _ c.pack_block.new.book c.requires.ready (slice_get-get_or c.args.program.now.modes.machines.now 0 _ some) c.pack_block.ensures.ready
 
 pub returns-in_err-block-clause-ready : goal.returns-in_err-block-clause-ready
 returns-in_err-block-clause-ready c =
     let q = c.requires.planned in
-    let some = machine_within c.args.modes.now c.args.program.now q.task q.isas q.planning 0 (some_modes q.task.netlist) in
-    ready_set c.args.modes.now.machines.now c.args.books.now 0 _ c.pack_block.new.book c.requires.ready (slice_get-get_or c.args.modes.now.machines.now 0 _ some) c.pack_block.ensures.ready
+    let some = machine_within c.args.program.now.modes c.args.program.now q.task q.isas q.planning 0 (some_modes q.task.netlist) in
+    ready_set c.args.program.now.modes.machines.now c.args.books.now 0 _ c.pack_block.new.book c.requires.ready (slice_get-get_or c.args.program.now.modes.machines.now 0 _ some) c.pack_block.ensures.ready

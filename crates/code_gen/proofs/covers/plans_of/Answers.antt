@@ -8,10 +8,10 @@ use Rattle.code_gen.proofs.covers.plans_of.Goals as goal
 
 pub overflow_cast-len : goal.overflow_cast-len
 overflow_cast-len c =
-    let works = models_of_jobs c.args.jobs.now in
+    let jobs = models_of_jobs c.args.jobs.now in
     let plans = c.loop-job.plans in
     let long = length-map c.args.jobs.now model_of_job in
-    let count = planned_count (stock_at c.args.forms.now c.args.temps) (UsableAt c.args.usable.now) works (map model_of_plan plans.items) c.loop-job.job-index (omega (arith, long, c.loop-job-test.true)) c.loop-job.invariant.planned in
+    let count = planned_count (stock_at c.args.forms.now c.args.temps) (UsableAt c.args.usable.now) jobs (map model_of_plan plans.items) c.loop-job.job-index (omega (arith, long, c.loop-job-test.true)) c.loop-job.invariant.planned in
     let same = length-map plans.items model_of_plan in
     omega (arith, count, same, plans.ok.0, c.len.ensures)
 
@@ -19,16 +19,16 @@ pub returns-in_err-plan-clause-refused : goal.returns-in_err-plan-clause-refused
 returns-in_err-plan-clause-refused c =
     let stock = stock_at c.args.forms.now c.args.temps in
     let usable = UsableAt c.args.usable.now in
-    let works = models_of_jobs c.args.jobs.now in
+    let jobs = models_of_jobs c.args.jobs.now in
     let plans = c.loop-job.plans in
     let number = c.loop-job.job-index in
     let long = length-map c.args.jobs.now model_of_job in
-    let count = planned_count stock usable works (map model_of_plan plans.items) number (omega (arith, long, c.loop-job-test.true)) c.loop-job.invariant.planned in
+    let count = planned_count stock usable jobs (map model_of_plan plans.items) number (omega (arith, long, c.loop-job-test.true)) c.loop-job.invariant.planned in
     let same = length-map plans.items model_of_plan in
     let told : c.len.result ≡ number = omega (arith, count, same, plans.ok.0, c.len.ensures) in
     let p = err_from_is_err_and c.from_residual.result c.from_residual.ensures.1 in
     rw (p.1, p.2)
-    (uncovered stock usable works (map model_of_plan plans.items) number (model_of_job c.job-item.result) _ c.loop-job.invariant.planned
+    (uncovered stock usable jobs (map model_of_plan plans.items) number (model_of_job c.job-item.result) _ c.loop-job.invariant.planned
     (mapped_get model_of_job c.args.jobs.now number c.job-item.result c.loop-job-test.true c.job-item.is)
     (rw told at c.in_err-plan.ensures.refused))
 
@@ -36,15 +36,15 @@ pub loop-job-preserved : goal.loop-job-preserved
 loop-job-preserved c =
     let stock = stock_at c.args.forms.now c.args.temps in
     let usable = UsableAt c.args.usable.now in
-    let works = models_of_jobs c.args.jobs.now in
+    let jobs = models_of_jobs c.args.jobs.now in
     let number = c.loop-job.job-index in
-    let work = model_of_job c.job-item.result in
-    let at : slice_get works number ≡ Some work = mapped_get model_of_job c.args.jobs.now number c.job-item.result c.loop-job-test.true c.job-item.is in
+    let job = model_of_job c.job-item.result in
+    let at : slice_get jobs number ≡ Some job = mapped_get model_of_job c.args.jobs.now number c.job-item.result c.loop-job-test.true c.job-item.is in
     record {
       planned =
-          plans_more stock usable works c.loop-job.plans.items c.push.new.self.items number work c.in_ok-plan.plan at c.in_ok-push.ensures.items c.loop-job.invariant.planned c.in_ok-plan.ensures.planned;
+          plans_more stock usable jobs c.loop-job.plans.items c.push.new.self.items number job c.in_ok-plan.plan at c.in_ok-push.ensures.items c.loop-job.invariant.planned c.in_ok-plan.ensures.planned;
       costs =
-          prices_more stock usable works c.loop-job.plans.items c.push.new.self.items number work c.in_ok-plan.plan at c.in_ok-push.ensures.items c.loop-job.invariant.planned c.in_ok-plan.ensures.cost
+          prices_more stock usable jobs c.loop-job.plans.items c.push.new.self.items number job c.in_ok-plan.plan at c.in_ok-push.ensures.items c.loop-job.invariant.planned c.in_ok-plan.ensures.cost
           c.loop-job.invariant.costs;
     }
 

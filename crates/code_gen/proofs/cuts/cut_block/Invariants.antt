@@ -5,9 +5,9 @@ use Rattle.code_gen.proofs.cuts.cut_block.Given as goal
 
 abbrev pub invariant-loop-place : goal.invariant-loop-place
 invariant-loop-place l = record {
-  ready : AreReady l.modes l.books;
+  ready : AreReady l.program.modes l.books;
   within : l.place ≤ l.at + l.count;
-  cuts : AddsCuts l.modes l.program l.at l.place (l.at + l.count) no_block l.block;
+  cuts : AddsCuts l.program.modes l.program l.at l.place (l.at + l.count) no_block l.block;
 }
 
 abbrev pub decreases-loop-place : goal.decreases-loop-place

@@ -19,12 +19,12 @@ push_packed-requires-clause-special c =
 pub push_packed-requires-clause-mode : goal.push_packed-requires-clause-mode
 push_packed-requires-clause-mode c =
     let p = c.requires.planned in
-    machine_within c.args.modes.now c.args.program.now p.task p.isas p.planning 0 (some_modes p.task.netlist)
+    machine_within c.args.program.now.modes c.args.program.now p.task p.isas p.planning 0 (some_modes p.task.netlist)
 
 pub push_packed-requires-clause-words : goal.push_packed-requires-clause-words
 push_packed-requires-clause-words c =
-    let steps : c.in_ok-steps.steps ≡ place_steps c.args.modes.now c.args.program.now c.args.at c.args.count = c.in_ok-steps.ensures in
-    let modes = c.args.modes.now in
+    let steps : c.in_ok-steps.steps ≡ place_steps c.args.program.now.modes c.args.program.now c.args.at c.args.count = c.in_ok-steps.ensures in
+    let modes = c.args.program.now.modes in
     let program = c.args.program.now in
     let p = c.requires.planned in
     subst (λ (list : List Step). HaveWordsIn modes 0 list) (sym c.as_slice.ensures)
@@ -34,11 +34,11 @@ push_packed-requires-clause-words c =
 
 pub returns-clause-run : goal.returns-clause-run
 returns-clause-run c =
-    let steps : c.in_ok-steps.steps ≡ place_steps c.args.modes.now c.args.program.now c.args.at c.args.count = c.in_ok-steps.ensures in
+    let steps : c.in_ok-steps.steps ≡ place_steps c.args.program.now.modes c.args.program.now c.args.at c.args.count = c.in_ok-steps.ensures in
     on_ok_weaker c.push_packed.result
-    (λ a. zeros_run c.args.modes.now c.args.program.now c.args.at c.args.count c.args.block.now c.push_packed.new.block c.requires.zero
-    (subst (λ (list : List Step). AddsPacked c.args.modes.now 0 list c.args.block.now c.push_packed.new.block) steps
-    (subst (λ (list : List Step). AddsPacked c.args.modes.now 0 list c.args.block.now c.push_packed.new.block) c.as_slice.ensures a)))
+    (λ a. zeros_run c.args.program.now.modes c.args.program.now c.args.at c.args.count c.args.block.now c.push_packed.new.block c.requires.zero
+    (subst (λ (list : List Step). AddsPacked c.args.program.now.modes 0 list c.args.block.now c.push_packed.new.block) steps
+    (subst (λ (list : List Step). AddsPacked c.args.program.now.modes 0 list c.args.block.now c.push_packed.new.block) c.as_slice.ensures a)))
     c.push_packed.ensures.packed
 
 pub returns-in_err-steps-clause-run : goal.returns-in_err-steps-clause-run

@@ -10,7 +10,7 @@ use Rattle.right_code.specs.Covered.{numbered}
 use Rattle.code_gen.specs.Inner.Coded.{AreItemWords, HasWord}
 use Rattle.code_gen.specs.Inner.Planning.{costs_in}
 use Rattle.code_gen.specs.Inner.Views.{HasModeBit, mode_bits}
-use Rattle.code_gen.specs.Machines.{machine_netlist, machine_patterns}
+use Rattle.code_gen.specs.Machines.{known_netlist, known_patterns}
 use Rattle.code_gen.proofs.ByMode.{books_long, ready_at}
 use Rattle.code_gen.proofs.Built.{is_made, items_have, within}
 use Rattle.code_gen.proofs.Frames.{forms_within, machine_within}
@@ -23,28 +23,28 @@ use Rattle.code_gen.proofs.image.laid_image.Goals as goal
 pub bounds-modes-0 : goal.bounds-modes-0
 bounds-modes-0 c =
     let t = c.requires.task in
-    forms_within c.args.modes.now c.args.program.now t.task t.isas t.planning 0 (some_modes t.task.netlist)
+    forms_within c.args.program.now.modes c.args.program.now t.task t.isas t.planning 0 (some_modes t.task.netlist)
 
 pub bounds-modes-0-2 : goal.bounds-modes-0-2
 bounds-modes-0-2 c =
     let t = c.requires.task in
-    machine_within c.args.modes.now c.args.program.now t.task t.isas t.planning 0 (some_modes t.task.netlist)
+    machine_within c.args.program.now.modes c.args.program.now t.task t.isas t.planning 0 (some_modes t.task.netlist)
 
 -- and its book
 pub bounds-books-0 : goal.bounds-books-0
 bounds-books-0 c =
     let t = c.requires.task in
-    let within = machine_within c.args.modes.now c.args.program.now t.task t.isas t.planning 0 (some_modes t.task.netlist) in
-    let many = books_long c.args.modes.now.machines.now c.block_code.new.books c.block_code.ensures.ready in
+    let within = machine_within c.args.program.now.modes c.args.program.now t.task t.isas t.planning 0 (some_modes t.task.netlist) in
+    let many = books_long c.args.program.now.modes.machines.now c.block_code.new.books c.block_code.ensures.ready in
     let some : 0 < length c.block_code.new.books = omega (arith, within, many) in
     some
 
 pub words_of_items-requires-clause-ready : goal.words_of_items-requires-clause-ready
 words_of_items-requires-clause-ready c =
     let t = c.requires.task in
-    let within = machine_within c.args.modes.now c.args.program.now t.task t.isas t.planning 0 (some_modes t.task.netlist) in
-    let many = books_long c.args.modes.now.machines.now c.block_code.new.books c.block_code.ensures.ready in
-    (ready_at c.args.modes.now.machines.now c.block_code.new.books 0 _ _ c.block_code.ensures.ready (slice_get-get_or c.args.modes.now.machines.now 0 c.index-modes-0-2.result within)
+    let within = machine_within c.args.program.now.modes c.args.program.now t.task t.isas t.planning 0 (some_modes t.task.netlist) in
+    let many = books_long c.args.program.now.modes.machines.now c.block_code.new.books c.block_code.ensures.ready in
+    (ready_at c.args.program.now.modes.machines.now c.block_code.new.books 0 _ _ c.block_code.ensures.ready (slice_get-get_or c.args.program.now.modes.machines.now 0 c.index-modes-0-2.result within)
     (slice_get-get_or c.block_code.new.books 0 c.index-books-0.result (omega (arith, within, many)))).ready
 
 pub mode_set-requires : goal.mode_set-requires
@@ -55,7 +55,7 @@ mode_set-requires c =
 pub laid-requires-clause-reach : goal.laid-requires-clause-reach
 laid-requires-clause-reach c =
     let t = c.requires.task in
-    let far = reach_read c.args.modes.now c.index-modes-0.result (forms_within c.args.modes.now c.args.program.now t.task t.isas t.planning 0 (some_modes t.task.netlist)) in
+    let far = reach_read c.args.program.now.modes c.index-modes-0.result (forms_within c.args.program.now.modes c.args.program.now t.task t.isas t.planning 0 (some_modes t.task.netlist)) in
     let reach = c.requires.reach in
     omega (arith, far, reach)
 
@@ -63,7 +63,7 @@ pub laid-requires-clause-within : goal.laid-requires-clause-within
 laid-requires-clause-within c =
     let program = c.args.program.now in
     let t = c.requires.task in
-    let w = within c.args.modes.now program t.task t.isas t.planning c.in_ok-code.code.blocks.items c.in_ok-code.code.branches.items (c.in_ok-code.ensures.code t.task t.isas t.planning) in
+    let w = within c.args.program.now.modes program t.task t.isas t.planning c.in_ok-code.code.blocks.items c.in_ok-code.code.branches.items (c.in_ok-code.ensures.code t.task t.isas t.planning) in
     let are = c.as_slice.ensures ∙ c.in_ok-sizes.ensures ∙ ap sizes c.deref.ensures.value in
     let bound = c.requires.bound ∙ ap (bound_of program.flow.now) c.requires.costs in
     subst (λ n. sum_of c.as_slice.result.now + control_words program.flow.now ≤ n) (sym bound)
@@ -71,7 +71,7 @@ laid-requires-clause-within c =
 
 pub words_of_items-requires-clause-words : goal.words_of_items-requires-clause-words
 words_of_items-requires-clause-words c =
-    let modes = c.args.modes.now in
+    let modes = c.args.program.now.modes in
     let program = c.args.program.now in
     let forms = get_or modes.forms.now 0 c.index-modes-0.result in
     let machine = get_or modes.machines.now 0 c.index-modes-0-2.result in
@@ -82,13 +82,13 @@ words_of_items-requires-clause-words c =
     (subst (λ bs. IsLaid (outline program.flow.now c.as_slice.result.now bs forms 18446744073709551615 c.args.bound) c.in_ok-laid.laid) c.deref-2.ensures.value c.in_ok-laid.ensures) in
     let first = slice_get-get_or modes.forms.now 0 c.index-modes-0.result (forms_within modes program t.task t.isas t.planning 0 (some_modes t.task.netlist)) in
     let own = slice_get-get_or modes.machines.now 0 c.index-modes-0-2.result (machine_within modes program t.task t.isas t.planning 0 (some_modes t.task.netlist)) in
-    subst (AllByRecursion (HasWord (machine_netlist machine) (machine_patterns machine) (regs_of c.mode_set.result))) (sym c.as_slice-2.ensures)
-    (subst (λ n. AllByRecursion (HasWord (machine_netlist machine) (machine_patterns machine) (regs_of n)) c.in_ok-laid.laid.items) (sym c.mode_set.ensures)
+    subst (AllByRecursion (HasWord (known_netlist machine) (known_patterns machine) (regs_of c.mode_set.result))) (sym c.as_slice-2.ensures)
+    (subst (λ n. AllByRecursion (HasWord (known_netlist machine) (known_patterns machine) (regs_of n)) c.in_ok-laid.laid.items) (sym c.mode_set.ensures)
     (items_have modes program t.task t.isas t.planning c.in_ok-code.code.blocks.items c.in_ok-code.code.branches.items (c.in_ok-code.ensures.code t.task t.isas t.planning) c.in_ok-laid.laid forms 18446744073709551615 c.args.bound first laid machine own))
 
 pub returns-clause-made : goal.returns-clause-made
 returns-clause-made c = λ task isas p placed.
-    (let modes = c.args.modes.now in
+    (let modes = c.args.program.now.modes in
     let program = c.args.program.now in
     let forms = get_or modes.forms.now 0 c.index-modes-0.result in
     let machine = get_or modes.machines.now 0 c.index-modes-0-2.result in
@@ -98,9 +98,9 @@ returns-clause-made c = λ task isas p placed.
     (subst (λ bs. IsLaid (outline program.flow.now c.as_slice.result.now bs forms 18446744073709551615 c.args.bound) c.in_ok-laid.laid) c.deref-2.ensures.value c.in_ok-laid.ensures) in
     let first = slice_get-get_or modes.forms.now 0 c.index-modes-0.result (forms_within modes program task isas p 0 (some_modes task.netlist)) in
     let own = slice_get-get_or modes.machines.now 0 c.index-modes-0-2.result (machine_within modes program task isas p 0 (some_modes task.netlist)) in
-    let items : AreItemWords (machine_netlist machine) (machine_patterns machine) (regs_of (mode_bits modes.special)) c.in_ok-code.code.blocks.items c.in_ok-laid.laid.items c.in_ok-words.words =
-    subst (λ n. AreItemWords (machine_netlist machine) (machine_patterns machine) (regs_of n) c.in_ok-code.code.blocks.items c.in_ok-laid.laid.items c.in_ok-words.words) c.mode_set.ensures
-    (subst (λ bs. AreItemWords (machine_netlist machine) (machine_patterns machine) (regs_of c.mode_set.result) bs c.in_ok-laid.laid.items c.in_ok-words.words) c.deref-3.ensures.value
-    (subst (λ xs. AreItemWords (machine_netlist machine) (machine_patterns machine) (regs_of c.mode_set.result) c.deref-3.result.now xs c.in_ok-words.words) c.as_slice-2.ensures c.in_ok-words.ensures.words)) in
+    let items : AreItemWords (known_netlist machine) (known_patterns machine) (regs_of (mode_bits modes.special)) c.in_ok-code.code.blocks.items c.in_ok-laid.laid.items c.in_ok-words.words =
+    subst (λ n. AreItemWords (known_netlist machine) (known_patterns machine) (regs_of n) c.in_ok-code.code.blocks.items c.in_ok-laid.laid.items c.in_ok-words.words) c.mode_set.ensures
+    (subst (λ bs. AreItemWords (known_netlist machine) (known_patterns machine) (regs_of c.mode_set.result) bs c.in_ok-laid.laid.items c.in_ok-words.words) c.deref-3.ensures.value
+    (subst (λ xs. AreItemWords (known_netlist machine) (known_patterns machine) (regs_of c.mode_set.result) c.deref-3.result.now xs c.in_ok-words.words) c.as_slice-2.ensures c.in_ok-words.ensures.words)) in
     is_made modes program task isas p c.in_ok-code.code.blocks.items c.in_ok-code.code.branches.items (c.in_ok-code.ensures.code task isas p) c.in_ok-laid.laid forms 18446744073709551615 c.args.bound first laid
     (c.requires.bound ∙ ap (bound_of program.flow.now) c.requires.costs) c.args.places placed _ machine own items refl (c.in_ok-costs.ensures.lines ∙ ap (numbered 0) c.requires.costs) (c.word_width.ensures ∙ ap word_width c.netlist.ensures.value) refl refl)

@@ -2,7 +2,7 @@ use Rattle.std.proofs.Common.{◌≡◌, ◌≤◌, ◌<◌, ℕ, List, arith, l
 use Rattle.std.proofs.lemmas.Result.{err_from_is_err_and}
 use Rattle.net_model.specs.declared.hardware.Netlist.{Netlist}
 use Rattle.net_model.proofs.ModeFaults.{some_modes}
-use Rattle.compaction.specs.declared.machine.Machine.{Machine}
+use Rattle.compaction.specs.declared.machine.KnownMachine.{KnownMachine}
 use Rattle.code_gen.specs.declared.modes.FormsByMode.{FormsByMode}
 use Rattle.code_gen.specs.Inner.Planning.{AreFormsBelow, AreMachinesOf}
 use Rattle.code_gen.proofs.Held.{read}
@@ -10,11 +10,11 @@ use Rattle.code_gen.proofs.NeededForms.{formless, some_jump, some_step}
 use Rattle.code_gen.proofs.Told.{first_told}
 use Rattle.code_gen.proofs.modes.forms_by_mode.Goals as goal
 
-whole : (machines : List Machine) (n : ℕ) → length machines ≤ n → n ≤ length machines → n ≡ length machines
+whole : (machines : List KnownMachine) (n : ℕ) → length machines ≤ n → n ≤ length machines → n ≡ length machines
 whole machines n past within = omega (arith, past, within)
 
 -- mode 0 has its forms
-some : (netlist : Netlist) (machines : List Machine) (list : FormsByMode) → AreMachinesOf machines netlist → (n : ℕ) → AreFormsBelow netlist machines n list → n ≡ length machines → 0 < length list.kept.items
+some : (netlist : Netlist) (machines : List KnownMachine) (list : FormsByMode) → AreMachinesOf machines netlist → (n : ℕ) → AreFormsBelow netlist machines n list → n ≡ length machines → 0 < length list.kept.items
 some netlist machines list are n forms all =
     let long = are.long in
     let kept = forms.kept in

@@ -40,7 +40,7 @@ keeping-requires-clause-mode c =
 
 pub keeping-requires-clause-patterns : goal.keeping-requires-clause-patterns
 keeping-requires-clause-patterns c =
-    patterns_below c.index-machines-mode.result.checked.now.netlist c.index-machines-mode.result.pool.now c.index-machines-mode.result.patterns.now.rows c.in_ok-all.all.reach c.in_ok-all.all.list.items
+    patterns_below c.index-machines-mode.result.machine.checked.now.netlist c.index-machines-mode.result.machine.pool.now c.index-machines-mode.result.machine.patterns.now.rows c.in_ok-all.all.reach c.in_ok-all.all.list.items
     c.in_ok-all.ensures.forms
 
 pub returns-in_err-kept-clause-ready : goal.returns-in_err-kept-clause-ready

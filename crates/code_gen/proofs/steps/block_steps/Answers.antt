@@ -6,7 +6,7 @@ use Rattle.code_gen.proofs.steps.block_steps.Goals as goal
 
 pub loop-k-preserved : goal.loop-k-preserved
 loop-k-preserved c =
-    let modes = c.args.modes.now in
+    let modes = c.args.program.now.modes in
     let program = c.args.program.now in
     let p = c.requires.planned in
     place_more (jobs_in program) (plans_in program) (even modes program p.task p.isas p.planning) (stock_at modes.forms.now program.temps) program.flow.now c.args.at c.loop-k.k c.loop-k.steps.items c.push_place.new.steps.items

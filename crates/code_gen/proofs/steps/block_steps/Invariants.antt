@@ -6,4 +6,4 @@ use Rattle.code_gen.proofs.steps.block_steps.Given as goal
 
 abbrev pub invariant-loop-k : goal.invariant-loop-k
 invariant-loop-k l =
-    l.steps.items ≡ planned_steps l.modes l.program.temps (jobs_at l.program.flow.now (jobs_in l.program) l.at l.k) (plans_at l.program.flow.now (plans_in l.program) l.at l.k)
+    l.steps.items ≡ planned_steps l.program.modes l.program.temps (jobs_at l.program.flow.now (jobs_in l.program) l.at l.k) (plans_at l.program.flow.now (plans_in l.program) l.at l.k)

@@ -10,13 +10,13 @@ use Rattle.code_gen.proofs.steps.push_place.Goals as goal
 
 pub returns-in_default : goal.returns-in_default
 returns-in_default c =
-    let modes = c.args.modes.now in
+    let modes = c.args.program.now.modes in
     let program = c.args.program.now in
     placeless (stock_at modes.forms.now program.temps) (jobs_in program) (plans_in program) program.flow.now c.args.at c.args.steps.now.items c.in_default.ensures.lookup.3
 
 pub returns-in-Assign : goal.returns-in-Assign
 returns-in-Assign c =
-    let modes = c.args.modes.now in
+    let modes = c.args.program.now.modes in
     let program = c.args.program.now in
     let place = c.in-Some.ensures.lookup in
     let has : slice_get program.flow.now c.args.at ≡ Some c.in-Some.place.now = slice_get_read program.flow.now (length program.flow.now) c.args.at c.in-Some.place.now refl place.3.0 place.1 in
@@ -26,7 +26,7 @@ returns-in-Assign c =
 
 pub returns-in_default-place : goal.returns-in_default-place
 returns-in_default-place c =
-    let modes = c.args.modes.now in
+    let modes = c.args.program.now.modes in
     let program = c.args.program.now in
     let place = c.in-Some.ensures.lookup in
     let has : slice_get program.flow.now c.args.at ≡ Some c.in-Some.place.now = slice_get_read program.flow.now (length program.flow.now) c.args.at c.in-Some.place.now refl place.3.0 place.1 in

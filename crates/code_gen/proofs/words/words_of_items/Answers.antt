@@ -5,14 +5,14 @@ use Rattle.bit_bdd.proofs.CallerLemmas.{extends_trans}
 use Rattle.branch_fix.specs.declared.laid.Item.TheVariants.{Group}
 use Rattle.form_model.specs.Live.{regs_of}
 use Rattle.code_gen.specs.Inner.Coded.{AreItemWords}
-use Rattle.code_gen.specs.Machines.{machine_netlist, machine_patterns}
+use Rattle.code_gen.specs.Machines.{known_netlist, known_patterns}
 use Rattle.code_gen.proofs.Listing.{words_more}
 use Rattle.code_gen.proofs.words.words_of_items.Goals as goal
 
 pub loop-item-preserved : goal.loop-item-preserved
 loop-item-preserved c =
-    let netlist = machine_netlist c.args.machine.now in
-    let patterns = machine_patterns c.args.machine.now in
+    let netlist = known_netlist c.args.known.now in
+    let patterns = known_patterns c.args.known.now in
     let blocks = c.args.blocks.now in
     let kept = regs_of c.args.kept in
     let items = c.args.items.now in

@@ -4,11 +4,11 @@ use Rattle.compaction.proofs.depends.shares_either.Goals as goal
 
 pub returns-then-shares_destination : goal.returns-then-shares_destination
 returns-then-shares_destination c =
-    let m = operation_in c.args.machine.now in
+    let m = operation_in c.args.known.now in
     first_of_two _ _ _ _ (shares_destination-append m (m c.args.step) c.args.first.now c.args.second.now) c.shares_destination.ensures c.if-shares_destination.true
 
 pub returns-else-shares_destination : goal.returns-else-shares_destination
 returns-else-shares_destination c =
-    let m = operation_in c.args.machine.now in
+    let m = operation_in c.args.known.now in
     second_of_two _ _ _ _ _ (shares_destination-append m (m c.args.step) c.args.first.now c.args.second.now) c.shares_destination.ensures c.if-shares_destination.false
     c.shares_destination-else-shares_destination.ensures

@@ -5,5 +5,5 @@ use Rattle.compaction.proofs.depends.touches.Goals as goal
 
 pub returns-then-not-reads_memory : goal.returns-then-not-reads_memory
 returns-then-not-reads_memory c =
-    sym (unseen (operation_in c.args.machine.now c.args.reader) (operation_in c.args.machine.now c.args.writer)
-    (sym (c.stores_cells.ensures c.args.machine.now.pool.now) ∙ c.if-stores_cells.true) (sym c.reads_memory.ensures ∙ c.if-not-reads_memory.true))
+    sym (unseen (operation_in c.args.known.now c.args.reader) (operation_in c.args.known.now c.args.writer)
+    (sym (c.stores_cells.ensures c.args.known.now.machine.pool.now) ∙ c.if-stores_cells.true) (sym c.reads_memory.ensures ∙ c.if-not-reads_memory.true))

@@ -1,14 +1,16 @@
-use Rattle.std.proofs.Common.{sym, subst}
-use Rattle.form_model.specs.Live.{regs_of, singles}
+use Rattle.std.proofs.Common.{List, subst, sym}
+use Rattle.form_model.specs.declared.forms.Step.{Step}
+use Rattle.form_model.specs.Live.{regs_of}
+use Rattle.word_fit.specs.Groups.{AreLeast}
 use Rattle.compaction.specs.Machines.{fits_in, operation_in}
-use Rattle.compaction.specs.Inner.Machines.{HaveFound}
-use Rattle.compaction.proofs.Found.{none_found}
 use Rattle.compaction.proofs.packer.packed.Goals as goal
 
-pub settle-requires-clause-found : goal.settle-requires-clause-found
-settle-requires-clause-found c =
-    let machine = c.args.machine.now in
+pub group_words-requires-clause-draft : goal.group_words-requires-clause-draft
+group_words-requires-clause-draft c = (regs_of c.args.after, c.in_ok-draft.ensures.draft)
+
+pub returns-clause-least : goal.returns-clause-least
+returns-clause-least c =
+    let known = c.args.known.now in
     let after = regs_of c.args.after in
-    subst (λ z. HaveFound machine c.in_ok-found.found.items z after) (sym c.in_ok-groups.ensures)
-    (subst (λ z. HaveFound machine z (singles c.args.steps.now) after) (sym c.in_ok-found.ensures)
-    (none_found (operation_in machine) (fits_in machine) after c.args.steps.now))
+    subst (λ (z : List (List Step)). AreLeast (operation_in known) (fits_in known) c.in_ok-words.words z after) (sym c.from_vec.ensures)
+    (c.in_ok-words.ensures.least after c.in_ok-draft.ensures.draft)

@@ -33,15 +33,15 @@ returns-clause-room c =
 pub returns-clause-named : goal.returns-clause-named
 returns-clause-named c =
     let netlist = c.args.modes.now.netlist in
-    let listing = model_of_program c.args.typed.now.program in
-    let temps = temp_count c.args.typed.now.width listing in
+    let program = model_of_program c.args.typed.now.program in
+    let temps = temp_count c.args.typed.now.width program in
     let have : c.memory_size.result ≡ memory_size netlist.storages =
     of_first memory_size netlist c.first.result.now.netlist c.memory_size.result c.first.ensures.base c.memory_size.ensures in
-    let apart : Apart temps (places_from temps (variables_of listing.vars)) (memory_size netlist.storages) =
-    subst (λ (n : ℕ). Apart temps (places_from temps (variables_of listing.vars)) n) have
+    let apart : Apart temps (places_from temps (variables_of program.vars)) (memory_size netlist.storages) =
+    subst (λ (n : ℕ). Apart temps (places_from temps (variables_of program.vars)) n) have
     (subst (λ (p : Places). Apart p.temps p.list c.memory_size.result) c.in_ok-places.ensures.places c.in_ok-places.ensures.apart) in
     subst (λ (p : Places). AllByRecursion PlaceFits p.list) (sym c.in_ok-places.ensures.places)
-    (places_fit temps (memory_size netlist.storages) listing.vars (few_data_cells netlist (modes_keep netlist c.args.modes.now.bases c.first.ensures.kept)) c.requires.named apart)
+    (places_fit temps (memory_size netlist.storages) program.vars (few_data_cells netlist (modes_keep netlist c.args.modes.now.bases c.first.ensures.kept)) c.requires.named apart)
 
 pub returns-in_err-places-clause-refused : goal.returns-in_err-places-clause-refused
 returns-in_err-places-clause-refused c =

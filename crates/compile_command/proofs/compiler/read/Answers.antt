@@ -4,6 +4,7 @@ use Rattle.src_model.specs.Written.{model_of_program}
 use Rattle.src_front.specs.Fronts.{IsSrcFile}
 use Rattle.net_model.specs.Nets.{memory_width}
 use Rattle.compile_command.proofs.FittingLemmas.{of_first}
+use Rattle.compile_command.proofs.ReadLemmas.{read_checked}
 use Rattle.compile_command.proofs.TaskLemmas.{fault_of_program}
 use Rattle.compile_command.proofs.compiler.read.Goals as goal
 
@@ -23,3 +24,6 @@ returns-clause-read c =
       src_file = subst (λ (n : ℕ). IsSrcFile c.args.src.now n (model_of_program typed.program)) (sym c.in_ok-typed.ensures.width) c.in_ok-typed.ensures.found;
       width = c.in_ok-typed.ensures.width ∙ wide;
     }
+
+pub returns-clause-checked : goal.returns-clause-checked
+returns-clause-checked c = read_checked c.args.net.now c.args.src.now c.in_ok-modes.modes c.in_ok-typed.typed (returns-clause-read c) c.requires.src

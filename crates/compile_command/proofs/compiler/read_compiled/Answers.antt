@@ -1,19 +1,6 @@
 use Rattle.std.proofs.lemmas.Result.{err_from_is_err_and}
-use Rattle.compile_command.proofs.ReadLemmas.{read_few, read_named, read_program, read_rules}
 use Rattle.compile_command.proofs.TaskLemmas.{fault_of_code, read_refused}
 use Rattle.compile_command.proofs.compiler.read_compiled.Goals as goal
-
-pub image_for-requires-clause-rules : goal.image_for-requires-clause-rules
-image_for-requires-clause-rules c = read_rules c.args.net.now c.args.src.now c.in_ok-modes.modes c.in_ok-modes.typed c.in_ok-modes.ensures.read
-
-pub image_for-requires-clause-program : goal.image_for-requires-clause-program
-image_for-requires-clause-program c = read_program c.args.net.now c.args.src.now c.in_ok-modes.modes c.in_ok-modes.typed c.in_ok-modes.ensures.read
-
-pub image_for-requires-clause-few : goal.image_for-requires-clause-few
-image_for-requires-clause-few c = read_few c.args.net.now c.args.src.now c.in_ok-modes.modes c.in_ok-modes.typed c.in_ok-modes.ensures.read c.requires.src
-
-pub image_for-requires-clause-named : goal.image_for-requires-clause-named
-image_for-requires-clause-named c = read_named c.args.net.now c.args.src.now c.in_ok-modes.modes c.in_ok-modes.typed c.in_ok-modes.ensures.read
 
 pub returns-in_err-modes-clause-refused : goal.returns-in_err-modes-clause-refused
 returns-in_err-modes-clause-refused c =

@@ -1,8 +1,8 @@
 use Rattle.std.proofs.Common.{sym, subst, refl, inl, inr}
 use Rattle.std.proofs.lemmas.Bool.{OnTrue_at}
-use Rattle.cover.specs.Inner.Least.{AtMost}
-use Rattle.cover.specs.Inner.Jobs.{instance_stock, open_operands, open_cuts}
-use Rattle.cover.proofs.FewLemmas.{opened_low, order_few, parts_held}
+use Rattle.least_costs.specs.Least.{AtMost}
+use Rattle.least_costs.specs.Searches.{search_stock, open_operands, open_cuts}
+use Rattle.least_costs.proofs.FewLemmas.{opened_low, order_few, parts_held}
 use Rattle.cover.proofs.choice.costs_within.Goals as goal
 
 pub returns-then-is_above-clause-costs : goal.returns-then-is_above-clause-costs
@@ -22,9 +22,9 @@ returns-clause-costs c = inl (record { operands = c.in_ok-a.a; cuts = c.in_ok-b.
 
 pub form_cost-requires : goal.form_cost-requires
 form_cost-requires c =
-    parts_held c.args.instance.now (open_operands c.args.operands.now) (open_cuts c.args.cuts.now) c.in_ok-floor.floor c.in_ok-b.b c.requires.right.few c.requires.few c.in_ok-floor.ensures.few c.in_ok-b.ensures.least
+    parts_held c.args.search.now (open_operands c.args.operands.now) (open_cuts c.args.cuts.now) c.in_ok-floor.floor c.in_ok-b.b c.requires.right.few c.requires.few c.in_ok-floor.ensures.few c.in_ok-b.ensures.least
 
 pub costs_of-requires : goal.costs_of-requires
 costs_of-requires c =
-    parts_held c.args.instance.now (open_operands c.args.operands.now) (open_cuts c.args.cuts.now) c.in_ok-a.a c.in_ok-b.b c.requires.right.few c.requires.few
-    (order_few (instance_stock c.args.instance.now) c.args.instance.now.low c.args.limits (open_operands c.args.operands.now) c.in_ok-a.a (opened_low c.args.operands.now) c.in_ok-a.ensures.least) c.in_ok-b.ensures.least
+    parts_held c.args.search.now (open_operands c.args.operands.now) (open_cuts c.args.cuts.now) c.in_ok-a.a c.in_ok-b.b c.requires.right.few c.requires.few
+    (order_few (search_stock c.args.search.now) c.args.search.now.low c.args.limits (open_operands c.args.operands.now) c.in_ok-a.a (opened_low c.args.operands.now) c.in_ok-a.ensures.least) c.in_ok-b.ensures.least

@@ -14,7 +14,7 @@ add_asked-requires-clause-stands c = root_stands (model_of_destination c.args.se
 pub loop-k-preserved : goal.loop-k-preserved
 loop-k-preserved c =
     let search = c.args.search.now in
-    let look : Look = record { destination = search.destination; tree = search.tree; whole = true; at = 0; below = None } in
+    let look : Look = record { goal = record { destination = search.destination; tree = search.tree; whole = true; at = 0 }; below = None } in
     let e = c.in_ok-add_asked.ensures in
     first_more (search_stock search) (search_nodes search) (RootAsks (search_stock search) (model_of_destination search.destination) (model_of_tree search.tree.now)) c.loop-k.k (LookAsks (search_stock search) look c.loop-k.k) c.loop-k.numbers.items c.add_asked.new.numbers.items e.added c.loop-k.invariant e.is e.are
     (λ t a. a.0) (λ t a. (a, tt))

@@ -21,10 +21,10 @@ loop-j-preserved c =
     let root = model_of_tree c.index.result.now in
     let lt : c.loop-j.j < length trees = search rules in
     let get : slice_get (trees_of trees) c.loop-j.j ≡ Some root = slice_get-map model_of_tree trees c.loop-j.j ∙ ap (option_map model_of_tree) (slice_get_read trees (length trees) c.loop-j.j c.index.result.now refl lt c.index.ensures) in
-    let adds = subst (λ x. AddsRoot stock x root c.loop-j.nodes.items c.add_root.new.nodes.items c.loop-j.flags.items c.add_root.new.flags.items) c.of-destination.ensures c.in_ok-add_root.ensures in
+    let adds = subst (λ x. AddsRoot stock x root c.loop-j.list.nodes.items c.add_root.new.list.nodes.items c.loop-j.list.flags.items c.add_root.new.list.flags.items) c.of-destination.ensures c.in_ok-add_root.ensures in
     record {
-      nodes = root_nodes stock d (trees_of trees) c.loop-j.j root get c.loop-j.nodes.items c.add_root.new.nodes.items c.loop-j.flags.items c.add_root.new.flags.items adds c.loop-j.invariant.nodes;
-      added = root_added stock d (trees_of trees) c.loop-j.j root get c.loop-j.nodes.items c.add_root.new.nodes.items c.loop-j.flags.items c.add_root.new.flags.items adds c.loop-j.invariant.added;
+      nodes = root_nodes stock d (trees_of trees) c.loop-j.j root get c.loop-j.list.nodes.items c.add_root.new.list.nodes.items c.loop-j.list.flags.items c.add_root.new.list.flags.items adds c.loop-j.invariant.nodes;
+      added = root_added stock d (trees_of trees) c.loop-j.j root get c.loop-j.list.nodes.items c.add_root.new.list.nodes.items c.loop-j.list.flags.items c.add_root.new.list.flags.items adds c.loop-j.invariant.added;
     }
 
 pub returns-clause-nodes : goal.returns-clause-nodes
@@ -39,4 +39,4 @@ returns-clause-added c =
     let stock = stock_with c.args.forms.now.list.items c.args.temps c.args.forms.now.file in
     let job = c.args.job.now in
     let n : c.loop-j.j ≡ length job.trees.items = omega (arith, c.loop-j-test.false, c.loop-j.auto.j-end) in
-    subst (λ k. AreAdded stock (aim_destination job.aim) (trees_of job.trees.items) k (exprs_at c.loop-j.nodes.items) c.loop-j.flags.items) n c.loop-j.invariant.added
+    subst (λ k. AreAdded stock (aim_destination job.aim) (trees_of job.trees.items) k (exprs_at c.loop-j.list.nodes.items) c.loop-j.list.flags.items) n c.loop-j.invariant.added

@@ -9,6 +9,6 @@ use Rattle.cover_lacks.proofs.jobs.add_roots.Given as goal
 
 abbrev pub invariant-loop-j : goal.invariant-loop-j
 invariant-loop-j l = record {
-  nodes : exprs_at l.nodes.items ≡ all_nodes (aim_destination l.job.aim) (take l.j (trees_of l.job.trees.items));
-  added : AreAdded (stock_with l.forms.list.items l.temps l.forms.file) (aim_destination l.job.aim) (trees_of l.job.trees.items) l.j (exprs_at l.nodes.items) l.flags.items;
+  nodes : exprs_at l.list.nodes.items ≡ all_nodes (aim_destination l.job.aim) (take l.j (trees_of l.job.trees.items));
+  added : AreAdded (stock_with l.forms.list.items l.temps l.forms.file) (aim_destination l.job.aim) (trees_of l.job.trees.items) l.j (exprs_at l.list.nodes.items) l.list.flags.items;
 }

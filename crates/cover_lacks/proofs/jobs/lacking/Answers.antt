@@ -17,7 +17,7 @@ use Rattle.cover_lacks.proofs.jobs.lacking.Goals as goal
 
 pub in_order-requires : goal.in_order-requires
 in_order-requires c =
-    let nodes = c.add_roots.new.nodes.items in
+    let nodes = c.add_roots.new.list.nodes.items in
     let len = c.in_ok-add_roots.ensures.added.are.len in
     let l = length-map nodes (λ (tree : Bor Tree). model_of_tree tree.now) in
     let a = ap (length {A = Bor Tree}) c.deref.ensures.value in
@@ -30,8 +30,8 @@ returns-clause-list c =
     let job = c.args.job.now in
     let d = aim_destination job.aim in
     let roots = trees_of job.trees.items in
-    let nodes = exprs_at c.add_roots.new.nodes.items in
-    let flags = c.add_roots.new.flags.items in
+    let nodes = exprs_at c.add_roots.new.list.nodes.items in
+    let flags = c.add_roots.new.list.flags.items in
     let n : length job.trees.items ≡ length roots = sym (length-map job.trees.items model_of_tree) in
     IfOk-weaker c.in_order.result _ (λ list. AreLacking stock d roots (exprs_at list.items))
     (λ list order. job_list stock d roots (length job.trees.items) n nodes flags c.in_ok-add_roots.ensures.added (exprs_at list.items)
@@ -45,8 +45,8 @@ returns-clause-some c =
     let job = c.args.job.now in
     let d = aim_destination job.aim in
     let roots = trees_of job.trees.items in
-    let nodes = exprs_at c.add_roots.new.nodes.items in
-    let flags = c.add_roots.new.flags.items in
+    let nodes = exprs_at c.add_roots.new.list.nodes.items in
+    let flags = c.add_roots.new.list.flags.items in
     let n : length job.trees.items ≡ length roots = sym (length-map job.trees.items model_of_tree) in
     IfOk-weaker c.in_order.result _ (λ list. (which : ℕ) (root : ExprModel) → slice_get roots which ≡ Some root → IsUncovered stock d root → 0 < vec_len list)
     (λ list order which root used none. (let l = length-map list.items (λ (tree : Bor Tree). model_of_tree tree.now) in

@@ -20,7 +20,7 @@ loop-left-init c = record {
   long = c.in_ok-out.ensures.long;
   number = λ word.
       c.in_ok-out.ensures.number (number_at c.args.book.now c.args.sel.now word) word
-      ∙ ap (λ rows. case_value (numbers_at c.args.book.now c.args.table.now word) (number_at c.args.book.now c.args.sel.now word) rows c.args.rest) (sym (drop_all (length c.args.rows.now) c.args.rows.now (omega arith)));
+      ∙ ap (λ rows. case_value (numbers_at c.args.book.now c.args.table.now word) (number_at c.args.book.now c.args.sel.now word) rows c.args.case.now.rest) (sym (drop_all (length c.args.case.now.rows.now) c.args.case.now.rows.now (omega arith)));
 }
 
 pub row_bits-requires-clause-sel : goal.row_bits-requires-clause-sel
@@ -28,8 +28,8 @@ row_bits-requires-clause-sel c = sets_later c.args.book.now c.loop-left.book c.l
 
 pub row_bits-requires-clause-key : goal.row_bits-requires-clause-key
 row_bits-requires-clause-key c =
-    let lt : c.loop-left.left - 1 < length c.args.rows.now = omega (arith, c.loop-left-test.true, c.loop-left.invariant.below) in
-    (row_at (λ (row : ℕ × ℕ). (row.0 < 2 ^ length c.args.sel.now) × (length (sets_at c.args.table.now row.1) ≡ c.args.width)) c.args.rows.now _ (0, 0) lt c.requires.rows).0
+    let lt : c.loop-left.left - 1 < length c.args.case.now.rows.now = omega (arith, c.loop-left-test.true, c.loop-left.invariant.below) in
+    (row_at (λ (row : ℕ × ℕ). (row.0 < 2 ^ length c.args.sel.now) × (length (sets_at c.args.table.now row.1) ≡ c.args.case.now.width)) c.args.case.now.rows.now _ (0, 0) lt c.requires.rows).0
 
 pub row_bits-requires-clause-on : goal.row_bits-requires-clause-on
 row_bits-requires-clause-on c =
@@ -37,14 +37,14 @@ row_bits-requires-clause-on c =
 
 pub row_bits-requires-clause-long : goal.row_bits-requires-clause-long
 row_bits-requires-clause-long c =
-    let lt : c.loop-left.left - 1 < length c.args.rows.now = omega (arith, c.loop-left-test.true, c.loop-left.invariant.below) in
-    let row = row_at (λ (row : ℕ × ℕ). (row.0 < 2 ^ length c.args.sel.now) × (length (sets_at c.args.table.now row.1) ≡ c.args.width)) c.args.rows.now _ (0, 0) lt c.requires.rows in
+    let lt : c.loop-left.left - 1 < length c.args.case.now.rows.now = omega (arith, c.loop-left-test.true, c.loop-left.invariant.below) in
+    let row = row_at (λ (row : ℕ × ℕ). (row.0 < 2 ^ length c.args.sel.now) × (length (sets_at c.args.table.now row.1) ≡ c.args.case.now.width)) c.args.case.now.rows.now _ (0, 0) lt c.requires.rows in
     rw (c.sets_of.ensures, c.as_slice.ensures) (row.1 ∙ sym c.loop-left.invariant.long)
 
 pub loop-left-preserved : goal.loop-left-preserved
 loop-left-preserved c =
-    let lt : c.loop-left.left - 1 < length c.args.rows.now = omega (arith, c.loop-left-test.true, c.loop-left.invariant.below) in
-    let row = row_at (λ (row : ℕ × ℕ). (row.0 < 2 ^ length c.args.sel.now) × (length (sets_at c.args.table.now row.1) ≡ c.args.width)) c.args.rows.now _ (0, 0) lt c.requires.rows in
+    let lt : c.loop-left.left - 1 < length c.args.case.now.rows.now = omega (arith, c.loop-left-test.true, c.loop-left.invariant.below) in
+    let row = row_at (λ (row : ℕ × ℕ). (row.0 < 2 ^ length c.args.sel.now) × (length (sets_at c.args.table.now row.1) ≡ c.args.case.now.width)) c.args.case.now.rows.now _ (0, 0) lt c.requires.rows in
     let more : suc (c.loop-left.left - 1) ≡ c.loop-left.left = omega (arith, c.loop-left-test.true) in
     record {
       below = omega (arith, c.loop-left.invariant.below);
@@ -53,11 +53,11 @@ loop-left-preserved c =
       long = c.in_ok-out-2.ensures.long ∙ rw c.sets_of.ensures row.1;
       number = λ word.
           let sel = number_later c.args.book.now c.loop-left.book c.loop-left.invariant.grows c.args.sel.now c.requires.sel word in
-          let on = ap (λ sets. number_at c.loop-left.book sets word) c.sets_of.ensures ∙ number_later c.args.book.now c.loop-left.book c.loop-left.invariant.grows _ (c.requires.table.sets (get_or c.args.rows.now (c.loop-left.left - 1) (0, 0)).1) word in
+          let on = ap (λ sets. number_at c.loop-left.book sets word) c.sets_of.ensures ∙ number_later c.args.book.now c.loop-left.book c.loop-left.invariant.grows _ (c.requires.table.sets (get_or c.args.case.now.rows.now (c.loop-left.left - 1) (0, 0)).1) word in
           let off = ap (λ sets. number_at c.loop-left.book sets word) c.as_slice.ensures ∙ c.loop-left.invariant.number word in
           c.in_ok-out-2.ensures.number word
-          ∙ (λ j. cond ((get_or c.args.rows.now (c.loop-left.left - 1) (0, 0)).0 == sel j) (on j) (off j))
-          ∙ case_step (numbers_at c.args.book.now c.args.table.now word) (number_at c.args.book.now c.args.sel.now word) c.args.rows.now c.args.rest (c.loop-left.left - 1) c.loop-left.left (0, 0) more lt;
+          ∙ (λ j. cond ((get_or c.args.case.now.rows.now (c.loop-left.left - 1) (0, 0)).0 == sel j) (on j) (off j))
+          ∙ case_step (numbers_at c.args.book.now c.args.table.now word) (number_at c.args.book.now c.args.sel.now word) c.args.case.now.rows.now c.args.case.now.rest (c.loop-left.left - 1) c.loop-left.left (0, 0) more lt;
     }
 
 pub returns-in_err-out-clause-sets : goal.returns-in_err-out-clause-sets

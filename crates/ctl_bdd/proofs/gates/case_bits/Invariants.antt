@@ -10,9 +10,9 @@ decreases-loop-left l = l.left
 
 abbrev pub invariant-loop-left : goal.invariant-loop-left
 invariant-loop-left l = record {
-  below : l.left ≤ length l.rows;
+  below : l.left ≤ length l.case.rows.now;
   grows : Extends l.initial.book l.book;
   sets : AreSets l.book l.out;
-  long : length l.out ≡ l.width;
-  number : (word : ℕ) → number_at l.book l.out word ≡ case_value (numbers_at l.initial.book l.table word) (number_at l.initial.book l.sel word) (drop l.left l.rows) l.fn.rest;
+  long : length l.out ≡ l.case.width;
+  number : (word : ℕ) → number_at l.book l.out word ≡ case_value (numbers_at l.initial.book l.table word) (number_at l.initial.book l.sel word) (drop l.left l.case.rows.now) l.case.rest;
 }

@@ -5,8 +5,9 @@ use Rattle.isa_extract.specs.Extraction.{AreIsas}
 use Rattle.explain_command.proofs.Alone.{only_isa}
 use Rattle.explain_command.proofs.ending.verdict.Goals as goal
 
-pub image_for-requires-clause-rules : goal.image_for-requires-clause-rules
-image_for-requires-clause-rules c = c.requires.alone.rules
+pub image_for-requires-clause-checked : goal.image_for-requires-clause-checked
+image_for-requires-clause-checked c =
+    record { rules = c.requires.alone.rules; width = c.requires.width; program = c.requires.program; few = c.requires.few; named = c.requires.named }
 
 pub image_for-requires-clause-isas : goal.image_for-requires-clause-isas
 image_for-requires-clause-isas c =

@@ -5,7 +5,7 @@ use Rattle.net_model.specs.Nets.{memory_width}
 use Rattle.respell.specs.Kept.{IsGain}
 use Rattle.respell.specs.Respelled.{IsRespelled}
 use Rattle.respell.specs.declared.needs.Limits.{Limits}
-use Rattle.right_code.specs.Works.{node_limit}
+use Rattle.right_code.specs.FlowJobs.{node_limit}
 use Rattle.src_trees.specs.Jobs.{model_of_job}
 use Rattle.src_trees.specs.Measures.{IsSmall}
 use Rattle.explain_command.specs.Inner.Telling.{netlist_of, stock_of}

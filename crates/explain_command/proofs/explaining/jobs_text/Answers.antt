@@ -59,7 +59,7 @@ returns-clause-told c =
         steps = record { steps = subst (λ (n : Netlist). IsStepless n → ⊥) same c.in_ok-forms.ensures.steps };
         jumps = subst (λ (n : Netlist). IsJumpless n → ⊥) same c.in_ok-forms.ensures.jumps;
       };
-      rules = models_of_forms forms.list.items;
+      all = models_of_forms forms.list.items;
       reach = forms.reach;
       forms = record {
         patterns = patterns;
@@ -67,9 +67,9 @@ returns-clause-told c =
         forms = subst (λ (n : Netlist). AreForms n patterns (models_of_forms forms.list.items) forms.reach) same c.in_ok-forms.ensures.forms;
       };
       told =
-          subst (λ (file : ℕ). AreJobTexts task.netlist (record { rules = models_of_forms forms.list.items; temps = temp_count task.width task.listing; file = file }) c.args.src.now 0 (program_job_places task.listing) (task_jobs task) c.in_ok-text.text.items)
+          subst (λ (file : ℕ). AreJobTexts task.netlist (record { forms = models_of_forms forms.list.items; temps = temp_count task.width task.program; file = file }) c.args.src.now 0 (program_job_places task.program) (task_jobs task) c.in_ok-text.text.items)
           (c.in_ok-forms.ensures.file ∙ ap (λ (n : Netlist). size_in InFile n.storages) same)
-          (subst (λ (temps : ℕ). AreJobTexts task.netlist (record { rules = models_of_forms forms.list.items; temps = temps; file = forms.file }) c.args.src.now 0 (program_job_places task.listing) (task_jobs task) c.in_ok-text.text.items)
+          (subst (λ (temps : ℕ). AreJobTexts task.netlist (record { forms = models_of_forms forms.list.items; temps = temps; file = forms.file }) c.args.src.now 0 (program_job_places task.program) (task_jobs task) c.in_ok-text.text.items)
           (ap (λ (p : Places). p.temps) c.in_ok-places.ensures.places) c.in_ok-text.ensures);
     }
 

@@ -13,7 +13,7 @@ returns-clause-explained c =
     record {
       room = jobs.room;
       jumps = jobs.jumps;
-      rules = jobs.rules;
+      all = jobs.all;
       reach = jobs.reach;
       forms = jobs.forms;
       jobs = c.in_ok-text.text.items;

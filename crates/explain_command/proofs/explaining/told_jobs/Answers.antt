@@ -10,7 +10,7 @@ use Rattle.src_model.specs.Written.{ProgramModel, stmts_of, model_of_program}
 use Rattle.src_trees.specs.Jobs.{model_of_job, models_of_jobs}
 use Rattle.src_trees.specs.Lowered.{JobModel}
 use Rattle.right_code.specs.Tasks.{read_task, row_memory, task_jobs}
-use Rattle.code_gen.proofs.Built.{few_works}
+use Rattle.code_gen.proofs.Built.{few_jobs}
 use Rattle.explain_command.specs.Explained.{AreJobTexts}
 use Rattle.explain_command.proofs.Alone.{first_is}
 use Rattle.explain_command.proofs.explaining.told_jobs.Goals as goal
@@ -20,13 +20,13 @@ job_texts-text-requires-clause-same c =
     let task = read_task c.args.modes.now c.args.typed.now in
     let jobs = ap (λ (js : List Job). length (models_of_jobs js)) c.deref.ensures.value ∙ ap length c.in_ok-blocks.ensures.jobs in
     let long = length-map c.deref.result.now model_of_job in
-    let spots = of_stmts (row_memory task.netlist task.width task.listing) (stmts_of task.listing.body) in
+    let spots = of_stmts (row_memory task.netlist task.width task.program) (stmts_of task.program.body) in
     rw c.program.ensures.value (omega (arith, jobs, long, spots))
 
 pub job_texts-text-requires-clause-few : goal.job_texts-text-requires-clause-few
 job_texts-text-requires-clause-few c =
     let task = read_task c.args.modes.now c.args.typed.now in
-    let few = few_works task c.requires.checked in
+    let few = few_jobs task c.requires.checked in
     let jobs = ap (λ (js : List Job). length (models_of_jobs js)) c.deref.ensures.value ∙ ap length c.in_ok-blocks.ensures.jobs in
     let long = length-map c.deref.result.now model_of_job in
     omega (arith, few, jobs, long)
@@ -40,8 +40,8 @@ returns c =
     let stock = stock_with c.args.forms.now.list.items c.args.places.now.temps c.args.forms.now.file in
     let same = first_is c.args.modes.now c.requires.alone c.first.result.now.netlist c.first.ensures.base in
     IfOk-weaker c.job_texts-text.result _ _
-    (λ text is. subst (λ (n : Netlist). AreJobTexts n stock c.args.src.now 0 (program_job_places task.listing) (task_jobs task) text.items) same
+    (λ text is. subst (λ (n : Netlist). AreJobTexts n stock c.args.src.now 0 (program_job_places task.program) (task_jobs task) text.items) same
     (subst (λ (l : ProgramModel). AreJobTexts c.first.result.now.netlist stock c.args.src.now 0 (program_job_places l) (task_jobs task) text.items) (ap model_of_program c.program.ensures.value)
-    (subst (λ (works : List JobModel). AreJobTexts c.first.result.now.netlist stock c.args.src.now 0 (program_job_places (model_of_program c.program.result.now)) works text.items)
+    (subst (λ (jobs : List JobModel). AreJobTexts c.first.result.now.netlist stock c.args.src.now 0 (program_job_places (model_of_program c.program.result.now)) jobs text.items)
     (ap models_of_jobs c.deref.ensures.value ∙ c.in_ok-blocks.ensures.jobs) is)))
     c.job_texts-text.ensures

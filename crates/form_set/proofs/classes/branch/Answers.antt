@@ -38,8 +38,8 @@ move_linear-requires-clause-addr c = c.requires.ids.addr
 pub move_linear-requires-clause-value : goal.move_linear-requires-clause-value
 move_linear-requires-clause-value c = c.requires.ids.value
 
-pub move_linear-requires-clause-terms : goal.move_linear-requires-clause-terms
-move_linear-requires-clause-terms c = c.requires.ids.terms
+pub move_linear-requires-clause-exprs : goal.move_linear-requires-clause-exprs
+move_linear-requires-clause-exprs c = c.requires.ids.exprs
 
 pub branch_at-requires-clause-within : goal.branch_at-requires-clause-within
 branch_at-requires-clause-within c = c.requires.ids.value

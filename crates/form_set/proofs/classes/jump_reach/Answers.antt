@@ -4,7 +4,7 @@ use Rattle.form_set.proofs.classes.jump_reach.Goals as goal
 
 pub returns-clause-reach : goal.returns-clause-reach
 returns-clause-reach c =
-    reach_is_of c.args.checked.now.netlist c.args.pool.now c.args.ids c.in_ok-jump.jump c.in_ok-jump.ensures.jump c.if-not-jump.false c.shape_reach.result c.shape_reach.ensures
+    reach_is_of c.args.machine.now.checked.now.netlist c.args.machine.now.pool.now c.args.ids c.in_ok-jump.jump c.in_ok-jump.ensures.jump c.if-not-jump.false c.shape_reach.result c.shape_reach.ensures
 
 pub is_jump-requires-clause-ready : goal.is_jump-requires-clause-ready
 is_jump-requires-clause-ready c = c.requires.ready
@@ -26,4 +26,4 @@ returns-in_err-jump-clause-reach c = IfOk-from_err c.from_residual.result _ c.fr
 
 pub shape_reach-requires-clause-shape : goal.shape_reach-requires-clause-shape
 shape_reach-requires-clause-shape c =
-    jump_shape c.args.checked.now.netlist c.args.pool.now c.args.ids (c.in_ok-jump.ensures.jump.0 c.if-not-jump.false)
+    jump_shape c.args.machine.now.checked.now.netlist c.args.machine.now.pool.now c.args.ids (c.in_ok-jump.ensures.jump.0 c.if-not-jump.false)

@@ -1,7 +1,7 @@
 use Rattle.std.proofs.Common.{◌-◌, ◌^◌, ◌≤◌, subst, sym, arith}
 use Rattle.std.proofs.lemmas.Result.{IfOk-weaker}
 use Rattle.sym_expr.specs.Pools.{expr_of_id}
-use Rattle.form_set.specs.Swaps.{levels}
+use Rattle.operand_swaps.specs.Swaps.{levels}
 use Rattle.form_set.proofs.Levels.{levels-at}
 use Rattle.form_set.proofs.copies.expr_at.Goals as goal
 

@@ -7,6 +7,6 @@ use Rattle.form_set.proofs.ShapeBits.{shape_fits}
 use Rattle.form_set.proofs.laws.law_of_reach.Goals as goal
 
 pub returns : goal.returns
-returns c = λ netlist pattern h terms fits.
+returns c = λ netlist pattern h exprs fits.
     (let s : is_shape h.target ≡ true = shape_from netlist.edition h.target h.shape in
-    reach_is (word_width netlist) h.target s (shape_fits netlist h.target s terms fits))
+    reach_is (word_width netlist) h.target s (shape_fits netlist h.target s exprs fits))

@@ -16,3 +16,6 @@ returns-in_ok-reach-in-Some-clause-grows c = c.jump_reach.ensures.grows
 
 pub returns-in_err-reach-in-Some-clause-reach : goal.returns-in_err-reach-in-Some-clause-reach
 returns-in_err-reach-in-Some-clause-reach c = IfOk-from_err c.from_residual.result _ c.from_residual.ensures.0
+
+pub jump_reach-requires-clause-ids : goal.jump_reach-requires-clause-ids
+jump_reach-requires-clause-ids c = c.in-Some.ensures.ids c.args.book.now c.requires.ready

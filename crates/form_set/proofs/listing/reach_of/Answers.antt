@@ -8,17 +8,17 @@ use Rattle.form_set.proofs.listing.reach_of.Goals as goal
 
 pub number_reach-requires : goal.number_reach-requires
 number_reach-requires c = record {
-  ready = ready_later c.args.checked.now.netlist c.args.book.now c.loop-number.book c.args.pool.now c.args.patterns.now c.loop-number.invariant.grows c.requires.ready;
+  ready = ready_later c.args.machine.now.checked.now.netlist c.args.book.now c.loop-number.book c.args.machine.now.pool.now c.args.machine.now.patterns.now c.loop-number.invariant.grows c.requires.ready;
 }
 
 pub loop-number-preserved : goal.loop-number-preserved
 loop-number-preserved c =
     let n = c.loop-number.number in
-    let some = told_some c.args.pool.now c.args.patterns.now.rows n (omega arith) in
+    let some = told_some c.args.machine.now.pool.now c.args.machine.now.patterns.now.rows n (omega arith) in
     record {
       grows = extends_trans c.args.book.now c.loop-number.book c.number_reach.new.book c.loop-number.invariant.grows c.number_reach.ensures.grows;
       reach = rw (add-one n, c.larger-reach.ensures)
-          (greatest_more c.args.checked.now.netlist (row_patterns c.args.pool.now c.args.patterns.now.rows) n some.0 some.1
+          (greatest_more c.args.machine.now.checked.now.netlist (row_patterns c.args.machine.now.pool.now c.args.machine.now.patterns.now.rows) n some.0 some.1
           c.loop-number.reach c.in_ok-here.here c.loop-number.invariant.reach (c.in_ok-here.ensures.reach some.0 some.1));
     }
 

@@ -7,5 +7,5 @@ use Rattle.form_set.proofs.listing.reach_of.Given as goal
 abbrev pub invariant-loop-number : goal.invariant-loop-number
 invariant-loop-number l = record {
   grows : Extends l.initial.book l.book;
-  reach : IsGreatestReach l.checked.netlist (take l.number (row_patterns l.pool l.patterns.rows)) l.reach;
+  reach : IsGreatestReach l.machine.checked.now.netlist (take l.number (row_patterns l.machine.pool.now l.machine.patterns.now.rows)) l.reach;
 }

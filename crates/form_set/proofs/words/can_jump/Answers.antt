@@ -7,11 +7,11 @@ use Rattle.form_set.proofs.words.can_jump.Goals as goal
 
 pub returns-clause-can : goal.returns-clause-can
 returns-clause-can c =
-    let netlist = c.args.checked.now.netlist in
+    let netlist = c.args.machine.now.checked.now.netlist in
     let grows = c.in_ok-words.ensures.grows in
-    jump_told netlist c.jump_words.new.book c.args.pool.now c.args.patterns.now
-    (ready_later netlist c.args.book.now c.jump_words.new.book c.args.pool.now c.args.patterns.now grows c.requires.ready)
-    c.args.ids (ids_later netlist c.args.book.now c.jump_words.new.book c.args.pool.now c.args.ids grows c.requires.ids)
+    jump_told netlist c.jump_words.new.book c.args.machine.now.pool.now c.args.machine.now.patterns.now
+    (ready_later netlist c.args.book.now c.jump_words.new.book c.args.machine.now.pool.now c.args.machine.now.patterns.now grows c.requires.ready)
+    c.args.ids (ids_later netlist c.args.book.now c.jump_words.new.book c.args.machine.now.pool.now c.args.ids grows c.requires.ids)
     c.in_ok-words.words c.in_ok-words.ensures.words c.in_ok-can.can c.in_ok-can.ensures.all
 
 pub returns-in_err-can-clause-grows : goal.returns-in_err-can-clause-grows

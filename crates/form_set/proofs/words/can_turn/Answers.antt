@@ -6,4 +6,7 @@ use Rattle.form_set.proofs.words.can_turn.Goals as goal
 
 pub returns-in-Some-clause-can : goal.returns-in-Some-clause-can
 returns-in-Some-clause-can c =
-    subst (λ (o : Option Pattern). IfOk c.turns.result (λ can. IsTrue can ↔ TurnsAt c.args.checked.now.netlist o c.args.mode)) c.in-Some.ensures.pattern c.turns.ensures.can
+    subst (λ (o : Option Pattern). IfOk c.turns.result (λ can. IsTrue can ↔ TurnsAt c.args.machine.now.checked.now.netlist o c.args.mode)) c.in-Some.ensures.pattern c.turns.ensures.can
+
+pub turns-requires-clause-ids : goal.turns-requires-clause-ids
+turns-requires-clause-ids c = c.in-Some.ensures.ids c.args.book.now c.requires.ready

@@ -5,18 +5,18 @@ use Rattle.form_set.proofs.words.step_words.Goals as goal
 
 pub memory_words-requires-clause-ready : goal.memory_words-requires-clause-ready
 memory_words-requires-clause-ready c =
-    ready_later c.args.checked.now.netlist c.args.book.now c.and.new.self c.args.pool.now c.args.patterns.now c.in_ok-steps.ensures.grows c.requires.ready
+    ready_later c.args.machine.now.checked.now.netlist c.args.book.now c.and.new.self c.args.machine.now.pool.now c.args.machine.now.patterns.now c.in_ok-steps.ensures.grows c.requires.ready
 
 pub memory_words-requires-clause-ids : goal.memory_words-requires-clause-ids
 memory_words-requires-clause-ids c =
-    ids_later c.args.checked.now.netlist c.args.book.now c.and.new.self c.args.pool.now c.args.ids c.in_ok-steps.ensures.grows c.requires.ids
+    ids_later c.args.machine.now.checked.now.netlist c.args.book.now c.and.new.self c.args.machine.now.pool.now c.args.ids c.in_ok-steps.ensures.grows c.requires.ids
 
 pub file_words-requires-clause-ready : goal.file_words-requires-clause-ready
 file_words-requires-clause-ready c =
-    ready_later c.args.checked.now.netlist c.args.book.now c.memory_words.new.book c.args.pool.now c.args.patterns.now
+    ready_later c.args.machine.now.checked.now.netlist c.args.book.now c.memory_words.new.book c.args.machine.now.pool.now c.args.machine.now.patterns.now
     (extends_trans c.args.book.now c.and.new.self c.memory_words.new.book c.in_ok-steps.ensures.grows c.in_ok-words.ensures.grows) c.requires.ready
 
 pub file_words-requires-clause-ids : goal.file_words-requires-clause-ids
 file_words-requires-clause-ids c =
-    ids_later c.args.checked.now.netlist c.args.book.now c.memory_words.new.book c.args.pool.now c.args.ids
+    ids_later c.args.machine.now.checked.now.netlist c.args.book.now c.memory_words.new.book c.args.machine.now.pool.now c.args.ids
     (extends_trans c.args.book.now c.and.new.self c.memory_words.new.book c.in_ok-steps.ensures.grows c.in_ok-words.ensures.grows) c.requires.ids

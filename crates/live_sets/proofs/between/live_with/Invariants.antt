@@ -8,8 +8,8 @@ abbrev pub invariant-loop-index : goal.invariant-loop-index
 invariant-loop-index l = record {
   within : l.index ≤ length l.groups;
   long : length l.lives ≡ length l.groups;
-  live : regs_of l.live ≡ live_before (step_operation l.pool l.patterns) (drop l.index l.groups) (regs_of l.after);
-  done : map regs_of (drop l.index l.lives) ≡ lives_of (step_operation l.pool l.patterns) (drop l.index l.groups) (regs_of l.after);
+  live : regs_of l.live ≡ live_before (step_operation l.machine.pool.now l.machine.patterns.now) (drop l.index l.groups) (regs_of l.after);
+  done : map regs_of (drop l.index l.lives) ≡ lives_of (step_operation l.machine.pool.now l.machine.patterns.now) (drop l.index l.groups) (regs_of l.after);
 }
 
 abbrev pub decreases-loop-index : goal.decreases-loop-index

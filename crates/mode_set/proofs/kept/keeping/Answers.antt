@@ -9,8 +9,8 @@ use Rattle.mode_set.proofs.kept.keeping.Goals.{then-kept+in_ok-copy_form+in_ok-p
 
 pub loop-form-preserved : goal.loop-form-preserved
 loop-form-preserved c =
-    let netlist = c.args.checked.now.netlist in
-    let patterns = row_patterns c.args.pool.now c.args.patterns.now.rows in
+    let netlist = c.args.machine.now.checked.now.netlist in
+    let patterns = row_patterns c.args.machine.now.pool.now c.args.machine.now.patterns.now.rows in
     let forms = c.args.forms.now.list.items in
     let i = c.loop-form.form-index in
     let form = c.form-item.result in

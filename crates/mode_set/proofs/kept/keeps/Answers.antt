@@ -13,15 +13,15 @@ use Rattle.mode_set.proofs.KeptForms.{spared_keep}
 use Rattle.mode_set.proofs.kept.keeps.Goals as goal
 
 pub overflow_cast-result : goal.overflow_cast-result
-overflow_cast-result c = omega (arith, few_storages c.args.checked.now.netlist c.args.checked.now.order c.netlist-netlist.ensures.kept)
+overflow_cast-result c = omega (arith, few_storages c.args.machine.now.checked.now.netlist c.args.machine.now.checked.now.order c.netlist-netlist.ensures.kept)
 
 pub overflow_shr-result : goal.overflow_shr-result
-overflow_shr-result c = omega (arith, few_storages c.args.checked.now.netlist c.args.checked.now.order c.netlist-netlist.ensures.kept)
+overflow_shr-result c = omega (arith, few_storages c.args.machine.now.checked.now.netlist c.args.machine.now.checked.now.order c.netlist-netlist.ensures.kept)
 
 pub returns-in-Reg : goal.returns-in-Reg
 returns-in-Reg c =
-    let patterns = row_patterns c.args.pool.now c.args.patterns.now.rows in
-    let some = told_some c.args.pool.now c.args.patterns.now.rows c.args.form.now.pattern c.requires.pattern in
+    let patterns = row_patterns c.args.machine.now.pool.now c.args.machine.now.patterns.now.rows in
+    let some = told_some c.args.machine.now.pool.now c.args.machine.now.patterns.now.rows c.args.form.now.pattern c.requires.pattern in
     let there = slice_get_within patterns c.args.form.now.pattern some.0 some.1 in
     let goal_is = λ (g : Goal) (e : c.args.form.now.goal ≡ g). ap (λ (k : Goal). is_control_goal (model_of_goal k)) e in
     let plain : is_control_goal (model_of_goal c.args.form.now.goal) ≡ false =
@@ -32,9 +32,9 @@ returns-in-Reg c =
     record {
       grows = extends_refl c.args.book.now;
       ready = c.requires.ready;
-      keeps = spared_keep c.args.checked.now.netlist patterns c.args.mode (model_of_form c.args.form.now) plain there;
+      keeps = spared_keep c.args.machine.now.checked.now.netlist patterns c.args.mode (model_of_form c.args.form.now) plain there;
     }
 
 pub returns-in-Jump-clause-ready : goal.returns-in-Jump-clause-ready
 returns-in-Jump-clause-ready c =
-    ready_later c.args.checked.now.netlist c.args.book.now c.can_turn.new.book c.args.pool.now c.args.patterns.now c.can_turn.ensures.grows c.requires.ready
+    ready_later c.args.machine.now.checked.now.netlist c.args.book.now c.can_turn.new.book c.args.machine.now.pool.now c.args.machine.now.patterns.now c.can_turn.ensures.grows c.requires.ready

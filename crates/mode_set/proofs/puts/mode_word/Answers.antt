@@ -11,11 +11,11 @@ use Rattle.mode_set.proofs.puts.mode_word.Goals.{in-Some+in_ok-next, in_default}
 
 pub loop-form-preserved : goal.loop-form-preserved
 loop-form-preserved c =
-    let netlist = c.args.checked.now.netlist in
-    let order = c.args.checked.now.order in
+    let netlist = c.args.machine.now.checked.now.netlist in
+    let order = c.args.machine.now.checked.now.order in
     let kept = c.netlist-netlist.ensures.kept in
-    let pool = c.args.pool.now in
-    let table = c.args.patterns.now in
+    let pool = c.args.machine.now.pool.now in
+    let table = c.args.machine.now.patterns.now in
     let each = c.requires.ready.patterns.each in
     let told_file = c.requires.ready.patterns.file in
     let forms = c.args.forms.now.list.items in
@@ -45,5 +45,5 @@ pub returns-clause-word : goal.returns-clause-word
 returns-clause-word c =
     let forms = c.args.forms.now.list.items in
     let all : length forms ≤ c.loop-form.form-index = omega arith in
-    subst (λ (list : List Form). IsLeastModeWord c.args.checked.now.netlist (Some c.args.mode) (row_patterns c.args.pool.now c.args.patterns.now.rows) (models_of_forms list) c.args.value c.loop-form.least)
+    subst (λ (list : List Form). IsLeastModeWord c.args.machine.now.checked.now.netlist (Some c.args.mode) (row_patterns c.args.machine.now.pool.now c.args.machine.now.patterns.now.rows) (models_of_forms list) c.args.value c.loop-form.least)
     (take_all c.loop-form.form-index forms all) c.loop-form.invariant.least

@@ -37,12 +37,12 @@ emit-returns-in-Case t c =
     _ c.emit_case.ensures
 
 pub emit_case-emit-requires : goal.emit_case-emit-requires
-emit_case-emit-requires t c = (omega arith, ((case_wide (scope_at (model_of_site c.args.site.now)) (model_of_net_expr c.args.selector.now) (case_rows_of (map model_of_case_row c.args.rows.now)) (case_rest_of (other_of c.args.other.now)) c.requires.widths).selector_wide, omega arith))
+emit_case-emit-requires t c = (omega arith, ((case_wide (scope_at (model_of_site c.args.site.now)) (model_of_net_expr c.args.written.now.sel.now) (case_rows_of (map model_of_case_row c.args.written.now.rows.now)) (case_rest_of (other_of c.args.written.now.rest.now)) c.requires.widths).selector_wide, omega arith))
 
 pub emit_case-emit_rows-requires : goal.emit_case-emit_rows-requires
 emit_case-emit_rows-requires t c =
     let k = c.in_ok-selector.ensures in
-    (omega arith, ((case_wide (scope_at (model_of_site c.args.site.now)) (model_of_net_expr c.args.selector.now) (case_rows_of (map model_of_case_row c.args.rows.now)) (case_rest_of (other_of c.args.other.now)) c.requires.widths).rows_are_wide, omega (arith, k.long)))
+    (omega arith, ((case_wide (scope_at (model_of_site c.args.site.now)) (model_of_net_expr c.args.written.now.sel.now) (case_rows_of (map model_of_case_row c.args.written.now.rows.now)) (case_rest_of (other_of c.args.written.now.rest.now)) c.requires.widths).rows_are_wide, omega (arith, k.long)))
 
 pub emit_case-returns-in-None : goal.emit_case-returns-in-None
 emit_case-returns-in-None t c =

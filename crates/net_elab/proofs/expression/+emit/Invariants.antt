@@ -9,7 +9,7 @@ abbrev pub decreases-emit : goal.decreases-emit
 decreases-emit l = nodes (model_of_net_expr l.e.now)
 
 abbrev pub decreases-emit_case : goal.decreases-emit_case
-decreases-emit_case l = nodes (model_of_net_expr l.selector.now) + nodes_rows (case_rows_of (map model_of_case_row l.rows.now)) + nodes_rest (case_rest_of (other_of l.other.now)) + 1
+decreases-emit_case l = nodes (model_of_net_expr l.written.now.sel.now) + nodes_rows (case_rows_of (map model_of_case_row l.written.now.rows.now)) + nodes_rest (case_rest_of (other_of l.written.now.rest.now)) + 1
 
 abbrev pub decreases-emit_rows : goal.decreases-emit_rows
 decreases-emit_rows l = nodes_rows (case_rows_of (map model_of_case_row l.rows.now))

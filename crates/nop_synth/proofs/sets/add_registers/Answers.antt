@@ -12,5 +12,5 @@ loop-register-init c = sym (append-nil c.args.sets.now)
 
 pub loop-register-preserved : goal.loop-register-preserved
 loop-register-preserved c =
-    registers_more c.args.patterns.now (regs_of c.args.live) (group_writes (step_operation c.args.pool.now c.args.patterns.now) c.args.group.now) c.loop-register.register
+    registers_more c.args.machine.now.patterns.now (regs_of c.args.live) (group_writes (step_operation c.args.machine.now.pool.now c.args.machine.now.patterns.now) c.args.group.now) c.loop-register.register
     c.args.sets.now c.loop-register.sets c.add_register.new.sets c.is_kept-kept.result c.in_ok-add_register.ensures c.loop-register.invariant c.is_kept-kept.ensures

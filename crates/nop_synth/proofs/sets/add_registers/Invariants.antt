@@ -5,4 +5,4 @@ use Rattle.nop_synth.specs.Wanted.{register_sets}
 use Rattle.nop_synth.proofs.sets.add_registers.Given as goal
 
 abbrev pub invariant-loop-register : goal.invariant-loop-register
-invariant-loop-register l = l.sets ≡ l.initial.sets ++ register_sets l.patterns (regs_of l.live) (group_writes (step_operation l.pool l.patterns) l.group) l.register
+invariant-loop-register l = l.sets ≡ l.initial.sets ++ register_sets l.machine.patterns.now (regs_of l.live) (group_writes (step_operation l.machine.pool.now l.machine.patterns.now) l.group) l.register

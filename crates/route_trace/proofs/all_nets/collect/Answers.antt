@@ -111,9 +111,9 @@ loop-id-preserved c =
     elim c.if-all_kept.branch [
       | then-all_kept+in-Ok w ↦
           (let kept : all_nets (kept_at c.loop-id.verdicts) (gate_nets c.index-nets-at.result.gate) ≡ true = sym told ∙ w.if-all_kept.true in
-          let terms = rw (c.netlist-netlist.ensures.value, w.as_slice-then-all_kept.ensures) at w.in-Ok.ensures.terms in
+          let exprs = rw (c.netlist-netlist.ensures.value, w.as_slice-then-all_kept.ensures) at w.in-Ok.ensures.exprs in
           let gives = (λ (word : ℕ) (low : word < 2 ^ c.loop-id.book.bits).
-          terms (sym_of netlist word) word low
+          exprs (sym_of netlist word) word low
           (all_given netlist order o i c.loop-id-test.true c.loop-id.book c.loop-id.pool c.loop-id.routes c.args.controls.now.legal c.loop-id.verdicts c.loop-id.invariant.done c.index-nets-at.result there kept word low)) in
           let table = w.in-Ok.ensures.table in
           let grows = extends_trans c.args.book.now c.loop-id.book w.net_routes.new.book c.loop-id.invariant.book w.in-Ok.ensures.book in

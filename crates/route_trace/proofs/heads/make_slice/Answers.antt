@@ -6,5 +6,5 @@ use Rattle.route_trace.proofs.heads.make_slice.Goals as goal
 
 pub overflow_add-hi : goal.overflow_add-hi
 overflow_add-hi c =
-    let fits = subst (λ (t : ExprModel). ExprFits t) (sym c.node.ensures.term) c.node.ensures.fits in
+    let fits = subst (λ (t : ExprModel). ExprFits t) (sym c.node.ensures.expr) c.node.ensures.fits in
     omega (arith, c.requires.high, (width_fits (expr_of_id c.args.pool.now c.args.of) fits).1)

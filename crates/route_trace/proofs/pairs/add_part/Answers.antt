@@ -12,10 +12,10 @@ use Rattle.route_trace.proofs.Lookups.{same_choice}
 use Rattle.route_trace.proofs.pairs.add_part.Goals as goal
 
 pub and-requires-clause-a : goal.and-requires-clause-a
-and-requires-clause-a c = still_within c.args.book.now c.without.new.book c.in_ok-left.ensures.book c.args.set c.requires.set
+and-requires-clause-a c = still_within c.args.book.now c.without.new.book c.in_ok-left.ensures.book c.args.cut.set c.requires.set
 
 pub and-requires-clause-b : goal.and-requires-clause-b
-and-requires-clause-b c = still_within c.args.book.now c.without.new.book c.in_ok-left.ensures.book c.args.part c.requires.part
+and-requires-clause-b c = still_within c.args.book.now c.without.new.book c.in_ok-left.ensures.book c.args.cut.part c.requires.part
 
 pub returns-in_err-both-clause-book : goal.returns-in_err-both-clause-book
 returns-in_err-both-clause-book c = extends_trans c.args.book.now c.without.new.book c.and.new.self c.in_ok-left.ensures.book c.in_err-both.ensures.grows
@@ -24,18 +24,18 @@ returns-in_err-both-clause-book c = extends_trans c.args.book.now c.without.new.
 more : (c : goal.After-add_all-arg-3-1) → Extends c.args.book.now c.and.new.self
 more c = extends_trans c.args.book.now c.without.new.book c.and.new.self c.in_ok-left.ensures.book c.in_ok-both.ensures.grows
 
-words : (c : goal.After-add_all-arg-3-1) → (word : ℕ) → has_word c.and.new.self c.in_ok-both.both word ≡ (has_word c.args.book.now c.args.set word && has_word c.args.book.now c.args.part word)
+words : (c : goal.After-add_all-arg-3-1) → (word : ℕ) → has_word c.and.new.self c.in_ok-both.both word ≡ (has_word c.args.book.now c.args.cut.set word && has_word c.args.book.now c.args.cut.part word)
 words c word =
-    let e = same_words c.args.book.now c.without.new.book c.in_ok-left.ensures.book c.args.set c.requires.set word in
-    let f = same_words c.args.book.now c.without.new.book c.in_ok-left.ensures.book c.args.part c.requires.part word in
+    let e = same_words c.args.book.now c.without.new.book c.in_ok-left.ensures.book c.args.cut.set c.requires.set word in
+    let f = same_words c.args.book.now c.without.new.book c.in_ok-left.ensures.book c.args.cut.part c.requires.part word in
     c.in_ok-both.ensures.words word ∙ (λ j. e j && f j)
 
 pub add_all-requires-clause-source : goal.add_all-requires-clause-source
-add_all-requires-clause-source c = table_later c.args.book.now c.and.new.self c.args.pool.now c.args.pool.now (more c) (grows_refl c.args.pool.now) c.args.routes.now c.requires.source
+add_all-requires-clause-source c = table_later c.args.book.now c.and.new.self c.args.pool.now c.args.pool.now (more c) (grows_refl c.args.pool.now) c.args.operation.now.routes.now c.requires.source
 
 pub add_all-requires-clause-one : goal.add_all-requires-clause-one
 add_all-requires-clause-one c word fits =
-    let e = held_later c.args.book.now c.and.new.self (more c) c.args.routes.now c.requires.source.right.sets word in
+    let e = held_later c.args.book.now c.and.new.self (more c) c.args.operation.now.routes.now c.requires.source.right.sets word in
     rw e (c.requires.one word (subst (λ b. word < 2 ^ b) (more c).bits fits))
 
 pub add_all-requires-clause-table : goal.add_all-requires-clause-table
@@ -56,15 +56,15 @@ returns-clause-book c =
     extends_trans c.args.book.now c.and.new.self c.add_all.new.book
     (extends_trans c.args.book.now c.without.new.book c.and.new.self c.in_ok-left.ensures.book c.in_ok-both.ensures.grows) c.in_ok-add_all.ensures.book
 
-pub returns-clause-terms : goal.returns-clause-terms
-returns-clause-terms c word fits =
+pub returns-clause-exprs : goal.returns-clause-exprs
+returns-clause-exprs c word fits =
     let grows = extends_trans c.args.book.now c.without.new.book c.and.new.self c.in_ok-left.ensures.book c.in_ok-both.ensures.grows in
-    let e = same_words c.args.book.now c.without.new.book c.in_ok-left.ensures.book c.args.set c.requires.set word in
-    let f = same_words c.args.book.now c.without.new.book c.in_ok-left.ensures.book c.args.part c.requires.part word in
+    let e = same_words c.args.book.now c.without.new.book c.in_ok-left.ensures.book c.args.cut.set c.requires.set word in
+    let f = same_words c.args.book.now c.without.new.book c.in_ok-left.ensures.book c.args.cut.part c.requires.part word in
     same_choice _ _ _ _ _ _ _ (c.in_ok-both.ensures.words word ∙ (λ j. e j && f j))
-    (ap (map (head_expr c.args.head (expr_of_id c.args.pool.now))) (both_later c.args.book.now c.and.new.self c.args.pool.now c.args.pool.now grows (grows_refl c.args.pool.now) c.args.routes.now c.requires.source word))
+    (ap (map (head_expr c.args.operation.now.head (expr_of_id c.args.pool.now))) (both_later c.args.book.now c.and.new.self c.args.pool.now c.args.pool.now grows (grows_refl c.args.pool.now) c.args.operation.now.routes.now c.requires.source word))
     (both_later c.args.book.now c.and.new.self c.args.pool.now c.args.pool.now grows (grows_refl c.args.pool.now) c.args.out.now c.requires.table word)
-    (c.in_ok-add_all.ensures.terms word (subst (λ b. word < 2 ^ b) (sym grows.bits) fits))
+    (c.in_ok-add_all.ensures.exprs word (subst (λ b. word < 2 ^ b) (sym grows.bits) fits))
 
 pub returns-clause-left_within : goal.returns-clause-left_within
 returns-clause-left_within c =
@@ -83,11 +83,11 @@ returns-in_err-add_all-clause-many c =
     let p = err_from_is_err_and c.from_residual-in_err-add_all.result c.from_residual-in_err-add_all.ensures.1 in
     rw (p.1, p.2)
     (many_in c.in_err-add_all.field-0.0 c.add_all.new.book c.add_all.new.pool _ _
-    (λ word fits terms is.
-    (let e = same_words c.args.book.now c.without.new.book c.in_ok-left.ensures.book c.args.set c.requires.set word in
-    let f = same_words c.args.book.now c.without.new.book c.in_ok-left.ensures.book c.args.part c.requires.part word in
-    inr (same_choice _ _ _ _ _ _ terms (c.in_ok-both.ensures.words word ∙ (λ j. e j && f j))
-    (ap (map (head_expr c.args.head (expr_of_id c.args.pool.now))) (both_later c.args.book.now c.and.new.self c.args.pool.now c.args.pool.now grows (grows_refl c.args.pool.now) c.args.routes.now c.requires.source word))
+    (λ word fits exprs is.
+    (let e = same_words c.args.book.now c.without.new.book c.in_ok-left.ensures.book c.args.cut.set c.requires.set word in
+    let f = same_words c.args.book.now c.without.new.book c.in_ok-left.ensures.book c.args.cut.part c.requires.part word in
+    inr (same_choice _ _ _ _ _ _ exprs (c.in_ok-both.ensures.words word ∙ (λ j. e j && f j))
+    (ap (map (head_expr c.args.operation.now.head (expr_of_id c.args.pool.now))) (both_later c.args.book.now c.and.new.self c.args.pool.now c.args.pool.now grows (grows_refl c.args.pool.now) c.args.operation.now.routes.now c.requires.source word))
     (both_later c.args.book.now c.and.new.self c.args.pool.now c.args.pool.now grows (grows_refl c.args.pool.now) c.args.out.now c.requires.table word)
     is)))
     c.in_err-add_all.ensures.many)
@@ -95,8 +95,8 @@ returns-in_err-add_all-clause-many c =
 pub returns-in_err-add_all-clause-table : goal.returns-in_err-add_all-clause-table
 returns-in_err-add_all-clause-table c = IfOk-from_err c.from_residual-in_err-add_all.result _ c.from_residual-in_err-add_all.ensures.0
 
-pub returns-in_err-add_all-clause-terms : goal.returns-in_err-add_all-clause-terms
-returns-in_err-add_all-clause-terms c = IfOk-from_err c.from_residual-in_err-add_all.result _ c.from_residual-in_err-add_all.ensures.0
+pub returns-in_err-add_all-clause-exprs : goal.returns-in_err-add_all-clause-exprs
+returns-in_err-add_all-clause-exprs c = IfOk-from_err c.from_residual-in_err-add_all.result _ c.from_residual-in_err-add_all.ensures.0
 
 pub returns-in_err-add_all-clause-left_within : goal.returns-in_err-add_all-clause-left_within
 returns-in_err-add_all-clause-left_within c = IfOk-from_err c.from_residual-in_err-add_all.result _ c.from_residual-in_err-add_all.ensures.0
@@ -107,8 +107,8 @@ returns-in_err-add_all-clause-left c = IfOk-from_err c.from_residual-in_err-add_
 pub returns-in_err-both-clause-table : goal.returns-in_err-both-clause-table
 returns-in_err-both-clause-table c = IfOk-from_err c.from_residual-in_err-both.result _ c.from_residual-in_err-both.ensures.0
 
-pub returns-in_err-both-clause-terms : goal.returns-in_err-both-clause-terms
-returns-in_err-both-clause-terms c = IfOk-from_err c.from_residual-in_err-both.result _ c.from_residual-in_err-both.ensures.0
+pub returns-in_err-both-clause-exprs : goal.returns-in_err-both-clause-exprs
+returns-in_err-both-clause-exprs c = IfOk-from_err c.from_residual-in_err-both.result _ c.from_residual-in_err-both.ensures.0
 
 pub returns-in_err-both-clause-left_within : goal.returns-in_err-both-clause-left_within
 returns-in_err-both-clause-left_within c = IfOk-from_err c.from_residual-in_err-both.result _ c.from_residual-in_err-both.ensures.0
@@ -119,8 +119,8 @@ returns-in_err-both-clause-left c = IfOk-from_err c.from_residual-in_err-both.re
 pub returns-in_err-left-clause-table : goal.returns-in_err-left-clause-table
 returns-in_err-left-clause-table c = IfOk-from_err c.from_residual.result _ c.from_residual.ensures.0
 
-pub returns-in_err-left-clause-terms : goal.returns-in_err-left-clause-terms
-returns-in_err-left-clause-terms c = IfOk-from_err c.from_residual.result _ c.from_residual.ensures.0
+pub returns-in_err-left-clause-exprs : goal.returns-in_err-left-clause-exprs
+returns-in_err-left-clause-exprs c = IfOk-from_err c.from_residual.result _ c.from_residual.ensures.0
 
 pub returns-in_err-left-clause-left_within : goal.returns-in_err-left-clause-left_within
 returns-in_err-left-clause-left_within c = IfOk-from_err c.from_residual.result _ c.from_residual.ensures.0

@@ -13,7 +13,7 @@ invariant-loop-word l = record {
   table : IsRouteTable l.book l.pool l.out;
   within : l.left < length l.book.nodes;
   inside : (word : ℕ) → has_word l.book l.left word ≡ true → has_word l.initial.book l.set word ≡ true;
-  terms : (word : ℕ) → word < 2 ^ l.initial.book.bits → models_under l.book l.pool l.out word ≡ left_exprs (has_word l.initial.book l.set word) (has_word l.book l.left word) (map (head_expr l.head (expr_of_id l.initial.pool)) (models_under l.initial.book l.initial.pool l.routes word)) (models_under l.initial.book l.initial.pool l.initial.out word);
+  exprs : (word : ℕ) → word < 2 ^ l.initial.book.bits → models_under l.book l.pool l.out word ≡ left_exprs (has_word l.initial.book l.set word) (has_word l.book l.left word) (map (head_expr l.operation.head (expr_of_id l.initial.pool)) (models_under l.initial.book l.initial.pool l.operation.routes.now word)) (models_under l.initial.book l.initial.pool l.initial.out word);
 }
 
 -- each turn takes a word

@@ -10,7 +10,7 @@ pub and-requires-clause-a : goal.and-requires-clause-a
 and-requires-clause-a c = still_within c.args.book.now c.without.new.book c.in_ok-left.ensures.book c.args.set c.requires.set
 
 pub and-requires-clause-b : goal.and-requires-clause-b
-and-requires-clause-b c = still_within c.args.book.now c.without.new.book c.in_ok-left.ensures.book c.args.route.set c.requires.route_set
+and-requires-clause-b c = still_within c.args.book.now c.without.new.book c.in_ok-left.ensures.book c.args.last.route.set c.requires.route_set
 
 pub returns-in_err-both-clause-book : goal.returns-in_err-both-clause-book
 returns-in_err-both-clause-book c = extends_trans c.args.book.now c.without.new.book c.and.new.self c.in_ok-left.ensures.book c.in_err-both.ensures.grows
@@ -32,7 +32,7 @@ pub add_route-requires-clause-set : goal.add_route-requires-clause-set
 add_route-requires-clause-set c =
     let grows = extends_trans c.args.book.now c.without.new.book c.and.new.self c.in_ok-left.ensures.book c.in_ok-both.ensures.grows in
     let e = same_words c.args.book.now c.without.new.book c.in_ok-left.ensures.book c.args.set c.requires.set c.requires.meet.word in
-    let f = same_words c.args.book.now c.without.new.book c.in_ok-left.ensures.book c.args.route.set c.requires.route_set c.requires.meet.word in
+    let f = same_words c.args.book.now c.without.new.book c.in_ok-left.ensures.book c.args.last.route.set c.requires.route_set c.requires.meet.word in
     record {
       within = c.in_ok-both.ensures.within;
       word = c.requires.meet.word;
@@ -48,7 +48,7 @@ pub add_route-requires-clause-apart : goal.add_route-requires-clause-apart
 add_route-requires-clause-apart c word fits holds =
     let grows = extends_trans c.args.book.now c.without.new.book c.and.new.self c.in_ok-left.ensures.book c.in_ok-both.ensures.grows in
     let e = same_words c.args.book.now c.without.new.book c.in_ok-left.ensures.book c.args.set c.requires.set word in
-    let f = same_words c.args.book.now c.without.new.book c.in_ok-left.ensures.book c.args.route.set c.requires.route_set word in
+    let f = same_words c.args.book.now c.without.new.book c.in_ok-left.ensures.book c.args.last.route.set c.requires.route_set word in
     held_later c.args.book.now c.and.new.self grows c.args.out.now c.requires.table.right.sets word
     ∙ c.requires.apart word (subst (λ b. word < 2 ^ b) grows.bits fits) (sym (c.in_ok-both.ensures.words word ∙ (λ j. e j && f j)) ∙ holds)
 
@@ -58,13 +58,13 @@ returns-clause-table c = record {
   exprs = c.in_ok-add_route.ensures.exprs _ c.in_ok-expr.ensures.within (exprs_later _ _ c.in_ok-expr.ensures.grows.longer c.args.out.now c.requires.table.exprs);
 }
 
-pub returns-clause-terms : goal.returns-clause-terms
-returns-clause-terms c word fits =
+pub returns-clause-exprs : goal.returns-clause-exprs
+returns-clause-exprs c word fits =
     let grows = extends_trans c.args.book.now c.without.new.book c.and.new.self c.in_ok-left.ensures.book c.in_ok-both.ensures.grows in
     let e = same_words c.args.book.now c.without.new.book c.in_ok-left.ensures.book c.args.set c.requires.set word in
-    let f = same_words c.args.book.now c.without.new.book c.in_ok-left.ensures.book c.args.route.set c.requires.route_set word in
+    let f = same_words c.args.book.now c.without.new.book c.in_ok-left.ensures.book c.args.last.route.set c.requires.route_set word in
     added_exprs c.args.book.now c.and.new.self c.add_route.new.book c.args.pool.now c.close.new.pool grows c.in_ok-expr.ensures.grows c.args.out.now c.add_route.new.out c.requires.table
-    c.in_ok-expr.expr _ c.in_ok-expr.ensures.term word _ (has_word c.and.new.self c.in_ok-both.both word) (c.in_ok-both.ensures.words word ∙ (λ j. e j && f j))
+    c.in_ok-expr.expr _ c.in_ok-expr.ensures.expr word _ (has_word c.and.new.self c.in_ok-both.both word) (c.in_ok-both.ensures.words word ∙ (λ j. e j && f j))
     (c.in_ok-add_route.ensures.by_word word (subst (λ b. word < 2 ^ b) (sym grows.bits) fits))
 
 pub returns-clause-left_within : goal.returns-clause-left_within
@@ -81,8 +81,8 @@ returns-clause-left c word =
 pub returns-in_err-add_route-clause-table : goal.returns-in_err-add_route-clause-table
 returns-in_err-add_route-clause-table c = IfOk-from_err c.from_residual-in_err-add_route.result _ c.from_residual-in_err-add_route.ensures.0
 
-pub returns-in_err-add_route-clause-terms : goal.returns-in_err-add_route-clause-terms
-returns-in_err-add_route-clause-terms c = IfOk-from_err c.from_residual-in_err-add_route.result _ c.from_residual-in_err-add_route.ensures.0
+pub returns-in_err-add_route-clause-exprs : goal.returns-in_err-add_route-clause-exprs
+returns-in_err-add_route-clause-exprs c = IfOk-from_err c.from_residual-in_err-add_route.result _ c.from_residual-in_err-add_route.ensures.0
 
 pub returns-in_err-add_route-clause-left_within : goal.returns-in_err-add_route-clause-left_within
 returns-in_err-add_route-clause-left_within c = IfOk-from_err c.from_residual-in_err-add_route.result _ c.from_residual-in_err-add_route.ensures.0
@@ -93,8 +93,8 @@ returns-in_err-add_route-clause-left c = IfOk-from_err c.from_residual-in_err-ad
 pub returns-in_err-both-clause-table : goal.returns-in_err-both-clause-table
 returns-in_err-both-clause-table c = IfOk-from_err c.from_residual-in_err-both.result _ c.from_residual-in_err-both.ensures.0
 
-pub returns-in_err-both-clause-terms : goal.returns-in_err-both-clause-terms
-returns-in_err-both-clause-terms c = IfOk-from_err c.from_residual-in_err-both.result _ c.from_residual-in_err-both.ensures.0
+pub returns-in_err-both-clause-exprs : goal.returns-in_err-both-clause-exprs
+returns-in_err-both-clause-exprs c = IfOk-from_err c.from_residual-in_err-both.result _ c.from_residual-in_err-both.ensures.0
 
 pub returns-in_err-both-clause-left_within : goal.returns-in_err-both-clause-left_within
 returns-in_err-both-clause-left_within c = IfOk-from_err c.from_residual-in_err-both.result _ c.from_residual-in_err-both.ensures.0
@@ -105,8 +105,8 @@ returns-in_err-both-clause-left c = IfOk-from_err c.from_residual-in_err-both.re
 pub returns-in_err-expr-clause-table : goal.returns-in_err-expr-clause-table
 returns-in_err-expr-clause-table c = IfOk-from_err c.from_residual-in_err-expr.result _ c.from_residual-in_err-expr.ensures.0
 
-pub returns-in_err-expr-clause-terms : goal.returns-in_err-expr-clause-terms
-returns-in_err-expr-clause-terms c = IfOk-from_err c.from_residual-in_err-expr.result _ c.from_residual-in_err-expr.ensures.0
+pub returns-in_err-expr-clause-exprs : goal.returns-in_err-expr-clause-exprs
+returns-in_err-expr-clause-exprs c = IfOk-from_err c.from_residual-in_err-expr.result _ c.from_residual-in_err-expr.ensures.0
 
 pub returns-in_err-expr-clause-left_within : goal.returns-in_err-expr-clause-left_within
 returns-in_err-expr-clause-left_within c = IfOk-from_err c.from_residual-in_err-expr.result _ c.from_residual-in_err-expr.ensures.0
@@ -117,8 +117,8 @@ returns-in_err-expr-clause-left c = IfOk-from_err c.from_residual-in_err-expr.re
 pub returns-in_err-left-clause-table : goal.returns-in_err-left-clause-table
 returns-in_err-left-clause-table c = IfOk-from_err c.from_residual.result _ c.from_residual.ensures.0
 
-pub returns-in_err-left-clause-terms : goal.returns-in_err-left-clause-terms
-returns-in_err-left-clause-terms c = IfOk-from_err c.from_residual.result _ c.from_residual.ensures.0
+pub returns-in_err-left-clause-exprs : goal.returns-in_err-left-clause-exprs
+returns-in_err-left-clause-exprs c = IfOk-from_err c.from_residual.result _ c.from_residual.ensures.0
 
 pub returns-in_err-left-clause-left_within : goal.returns-in_err-left-clause-left_within
 returns-in_err-left-clause-left_within c = IfOk-from_err c.from_residual.result _ c.from_residual.ensures.0

@@ -28,45 +28,45 @@ returns-in_err-add_pairs-clause-book c = extends_trans c.args.book.now c.and.new
 pub returns-in_err-add_pairs-clause-pool : goal.returns-in_err-add_pairs-clause-pool
 returns-in_err-add_pairs-clause-pool c = grows_trans c.args.pool.now c.loop-route.pool c.add_pairs.new.pool c.loop-route.invariant.pool c.in_err-add_pairs.ensures.pool
 
-at : (c : goal.After-and-arg-1) → slice_get c.args.choices.now c.loop-route.route-index ≡ Some (slice_index_or c.args.choices.now c.loop-route.route-index (record { expr = 0; set = 0 }))
-at c = slice_get-get_or c.args.choices.now c.loop-route.route-index (record { expr = 0; set = 0 }) c.loop-route-test.true
+at : (c : goal.After-and-arg-1) → slice_get c.args.selection.now.choices.now c.loop-route.route-index ≡ Some (slice_index_or c.args.selection.now.choices.now c.loop-route.route-index (record { expr = 0; set = 0 }))
+at c = slice_get-get_or c.args.selection.now.choices.now c.loop-route.route-index (record { expr = 0; set = 0 }) c.loop-route-test.true
 
-set_within : (c : goal.After-and-arg-1) → IsSet c.args.book.now (slice_index_or c.args.choices.now c.loop-route.route-index (record { expr = 0; set = 0 })).set
-set_within c = set_at c.args.book.now c.args.choices.now c.loop-route.route-index _ (at c) c.requires.choice.right.sets
+set_within : (c : goal.After-and-arg-1) → IsSet c.args.book.now (slice_index_or c.args.selection.now.choices.now c.loop-route.route-index (record { expr = 0; set = 0 })).set
+set_within c = set_at c.args.book.now c.args.selection.now.choices.now c.loop-route.route-index _ (at c) c.requires.choice.right.sets
 
-expr_within : (c : goal.After-and-arg-1) → (slice_index_or c.args.choices.now c.loop-route.route-index (record { expr = 0; set = 0 })).expr < length c.args.pool.now
-expr_within c = expr_at (length c.args.pool.now) c.args.choices.now c.loop-route.route-index _ (at c) c.requires.choice.exprs
+expr_within : (c : goal.After-and-arg-1) → (slice_index_or c.args.selection.now.choices.now c.loop-route.route-index (record { expr = 0; set = 0 })).expr < length c.args.pool.now
+expr_within c = expr_at (length c.args.pool.now) c.args.selection.now.choices.now c.loop-route.route-index _ (at c) c.requires.choice.exprs
 
 pub and-requires-clause-b : goal.and-requires-clause-b
 and-requires-clause-b c = omega (arith, (set_within c).within, c.loop-route.invariant.book.longer)
 
 pub add_pairs-requires-clause-parts : goal.add_pairs-requires-clause-parts
 add_pairs-requires-clause-parts c =
-    let at = slice_get-get_or c.args.choices.now c.loop-route.route-index (record { expr = 0; set = 0 }) c.loop-route-test.true in
-    (omega (arith, expr_at (length c.args.pool.now) c.args.choices.now c.loop-route.route-index _ at c.requires.choice.exprs, c.loop-route.invariant.pool.longer), tt)
+    let at = slice_get-get_or c.args.selection.now.choices.now c.loop-route.route-index (record { expr = 0; set = 0 }) c.loop-route-test.true in
+    (omega (arith, expr_at (length c.args.pool.now) c.args.selection.now.choices.now c.loop-route.route-index _ at c.requires.choice.exprs, c.loop-route.invariant.pool.longer), tt)
 
 pub add_pairs-requires-clause-first : goal.add_pairs-requires-clause-first
-add_pairs-requires-clause-first c = table_later c.args.book.now c.and.new.self c.args.pool.now c.loop-route.pool (extends_trans c.args.book.now c.loop-route.book c.and.new.self c.loop-route.invariant.book c.in_ok-both.ensures.grows) c.loop-route.invariant.pool c.args.firsts.now c.requires.first
+add_pairs-requires-clause-first c = table_later c.args.book.now c.and.new.self c.args.pool.now c.loop-route.pool (extends_trans c.args.book.now c.loop-route.book c.and.new.self c.loop-route.invariant.book c.in_ok-both.ensures.grows) c.loop-route.invariant.pool c.args.selection.now.firsts.now c.requires.first
 
 pub add_pairs-requires-clause-second : goal.add_pairs-requires-clause-second
-add_pairs-requires-clause-second c = table_later c.args.book.now c.and.new.self c.args.pool.now c.loop-route.pool (extends_trans c.args.book.now c.loop-route.book c.and.new.self c.loop-route.invariant.book c.in_ok-both.ensures.grows) c.loop-route.invariant.pool c.args.seconds.now c.requires.second
+add_pairs-requires-clause-second c = table_later c.args.book.now c.and.new.self c.args.pool.now c.loop-route.pool (extends_trans c.args.book.now c.loop-route.book c.and.new.self c.loop-route.invariant.book c.in_ok-both.ensures.grows) c.loop-route.invariant.pool c.args.selection.now.seconds.now c.requires.second
 
 pub add_pairs-requires-clause-first_one : goal.add_pairs-requires-clause-first_one
 add_pairs-requires-clause-first_one c word fits =
-    let e = held_later c.args.book.now c.and.new.self (extends_trans c.args.book.now c.loop-route.book c.and.new.self c.loop-route.invariant.book c.in_ok-both.ensures.grows) c.args.firsts.now c.requires.first.right.sets word in
+    let e = held_later c.args.book.now c.and.new.self (extends_trans c.args.book.now c.loop-route.book c.and.new.self c.loop-route.invariant.book c.in_ok-both.ensures.grows) c.args.selection.now.firsts.now c.requires.first.right.sets word in
     rw e (c.requires.first_one word (subst (λ b. word < 2 ^ b) (extends_trans c.args.book.now c.loop-route.book c.and.new.self c.loop-route.invariant.book c.in_ok-both.ensures.grows).bits fits))
 
 pub add_pairs-requires-clause-second_one : goal.add_pairs-requires-clause-second_one
 add_pairs-requires-clause-second_one c word fits =
-    let e = held_later c.args.book.now c.and.new.self (extends_trans c.args.book.now c.loop-route.book c.and.new.self c.loop-route.invariant.book c.in_ok-both.ensures.grows) c.args.seconds.now c.requires.second.right.sets word in
+    let e = held_later c.args.book.now c.and.new.self (extends_trans c.args.book.now c.loop-route.book c.and.new.self c.loop-route.invariant.book c.in_ok-both.ensures.grows) c.args.selection.now.seconds.now c.requires.second.right.sets word in
     rw e (c.requires.second_one word (subst (λ b. word < 2 ^ b) (extends_trans c.args.book.now c.loop-route.book c.and.new.self c.loop-route.invariant.book c.in_ok-both.ensures.grows).bits fits))
 
 pub add_pairs-requires-clause-fits : goal.add_pairs-requires-clause-fits
 add_pairs-requires-clause-fits c =
-    let at = slice_get-get_or c.args.choices.now c.loop-route.route-index (record { expr = 0; set = 0 }) c.loop-route-test.true in
-    binary_fit_later c.args.pool.now c.loop-route.pool c.loop-route.invariant.pool (Select (slice_index_or c.args.choices.now c.loop-route.route-index (record { expr = 0; set = 0 })).expr)
-    (expr_at (length c.args.pool.now) c.args.choices.now c.loop-route.route-index _ at c.requires.choice.exprs, tt) c.args.firsts.now c.args.seconds.now c.requires.first.exprs c.requires.second.exprs
-    (select_fit_at c.args.pool.now c.args.choices.now c.args.firsts.now c.args.seconds.now c.loop-route.route-index _ at c.requires.fits)
+    let at = slice_get-get_or c.args.selection.now.choices.now c.loop-route.route-index (record { expr = 0; set = 0 }) c.loop-route-test.true in
+    binary_fit_later c.args.pool.now c.loop-route.pool c.loop-route.invariant.pool (Select (slice_index_or c.args.selection.now.choices.now c.loop-route.route-index (record { expr = 0; set = 0 })).expr)
+    (expr_at (length c.args.pool.now) c.args.selection.now.choices.now c.loop-route.route-index _ at c.requires.choice.exprs, tt) c.args.selection.now.firsts.now c.args.selection.now.seconds.now c.requires.first.exprs c.requires.second.exprs
+    (select_fit_at c.args.pool.now c.args.selection.now.choices.now c.args.selection.now.firsts.now c.args.selection.now.seconds.now c.loop-route.route-index _ at c.requires.fits)
 
 pub add_pairs-requires-clause-table : goal.add_pairs-requires-clause-table
 add_pairs-requires-clause-table c = table_later c.loop-route.book c.and.new.self c.loop-route.pool c.loop-route.pool c.in_ok-both.ensures.grows (grows_refl c.loop-route.pool) c.loop-route.out c.loop-route.invariant.table
@@ -74,64 +74,64 @@ add_pairs-requires-clause-table c = table_later c.loop-route.book c.and.new.self
 pub add_pairs-requires-clause-apart : goal.add_pairs-requires-clause-apart
 add_pairs-requires-clause-apart c word fits both =
     let low = subst (λ b. word < 2 ^ b) (extends_trans c.args.book.now c.loop-route.book c.and.new.self c.loop-route.invariant.book c.in_ok-both.ensures.grows).bits fits in
-    let at = slice_get-get_or c.args.choices.now c.loop-route.route-index (record { expr = 0; set = 0 }) c.loop-route-test.true in
+    let at = slice_get-get_or c.args.selection.now.choices.now c.loop-route.route-index (record { expr = 0; set = 0 }) c.loop-route-test.true in
     held_later c.loop-route.book c.and.new.self c.in_ok-both.ensures.grows c.loop-route.out c.loop-route.invariant.table.right.sets word
-    ∙ each_apart _ c.args.book.now c.args.pool.now c.args.choices.now c.args.set word c.loop-route.route-index _ at (c.requires.choice_one word low)
+    ∙ each_apart _ c.args.book.now c.args.pool.now c.args.selection.now.choices.now c.args.set word c.loop-route.route-index _ at (c.requires.choice_one word low)
     c.loop-route.pool _ _ _ _
     (same_words c.args.book.now c.loop-route.book c.loop-route.invariant.book c.args.set c.requires.set word)
-    (same_words c.args.book.now c.loop-route.book c.loop-route.invariant.book _ (set_at c.args.book.now c.args.choices.now c.loop-route.route-index _ at c.requires.choice.right.sets).within word)
-    (c.loop-route.invariant.terms word low) (sym (c.in_ok-both.ensures.words word) ∙ both)
+    (same_words c.args.book.now c.loop-route.book c.loop-route.invariant.book _ (set_at c.args.book.now c.args.selection.now.choices.now c.loop-route.route-index _ at c.requires.choice.right.sets).within word)
+    (c.loop-route.invariant.exprs word low) (sym (c.in_ok-both.ensures.words word) ∙ both)
 
 pub loop-route-preserved : goal.loop-route-preserved
 loop-route-preserved c =
     let grows = extends_trans c.args.book.now c.loop-route.book c.and.new.self c.loop-route.invariant.book c.in_ok-both.ensures.grows in
-    let at = slice_get-get_or c.args.choices.now c.loop-route.route-index (record { expr = 0; set = 0 }) c.loop-route-test.true in
-    let in_set = (set_at c.args.book.now c.args.choices.now c.loop-route.route-index _ at c.requires.choice.right.sets).within in
-    let in_pool = expr_at (length c.args.pool.now) c.args.choices.now c.loop-route.route-index _ at c.requires.choice.exprs in
+    let at = slice_get-get_or c.args.selection.now.choices.now c.loop-route.route-index (record { expr = 0; set = 0 }) c.loop-route-test.true in
+    let in_set = (set_at c.args.book.now c.args.selection.now.choices.now c.loop-route.route-index _ at c.requires.choice.right.sets).within in
+    let in_pool = expr_at (length c.args.pool.now) c.args.selection.now.choices.now c.loop-route.route-index _ at c.requires.choice.exprs in
     record {
       book = extends_trans c.args.book.now c.and.new.self c.add_pairs.new.book grows c.in_ok-add_pairs.ensures.book;
       pool = grows_trans c.args.pool.now c.loop-route.pool c.add_pairs.new.pool c.loop-route.invariant.pool c.in_ok-add_pairs.ensures.pool;
       table = c.in_ok-add_pairs.ensures.table;
-      terms = λ word low.
-          each_step _ c.args.book.now c.args.pool.now c.args.choices.now c.args.set word c.loop-route.route-index _ at (c.requires.choice_one word low)
+      exprs = λ word low.
+          each_step _ c.args.book.now c.args.pool.now c.args.selection.now.choices.now c.args.set word c.loop-route.route-index _ at (c.requires.choice_one word low)
           c.loop-route.book c.and.new.self c.loop-route.pool c.loop-route.invariant.book c.in_ok-both.ensures.grows c.loop-route.out c.loop-route.invariant.table c.requires.set in_set
-          _ _ _ c.in_ok-both.both (c.in_ok-both.ensures.words word) (c.loop-route.invariant.terms word low)
+          _ _ _ c.in_ok-both.both (c.in_ok-both.ensures.words word) (c.loop-route.invariant.exprs word low)
           (under_later c.args.pool.now c.loop-route.pool c.loop-route.invariant.pool _ in_pool _ _ _ _
-          (both_later c.args.book.now c.and.new.self c.args.pool.now c.loop-route.pool grows c.loop-route.invariant.pool c.args.firsts.now c.requires.first word)
-          (both_later c.args.book.now c.and.new.self c.args.pool.now c.loop-route.pool grows c.loop-route.invariant.pool c.args.seconds.now c.requires.second word))
-          (c.in_ok-add_pairs.ensures.terms word (subst (λ b. word < 2 ^ b) (sym grows.bits) low));
+          (both_later c.args.book.now c.and.new.self c.args.pool.now c.loop-route.pool grows c.loop-route.invariant.pool c.args.selection.now.firsts.now c.requires.first word)
+          (both_later c.args.book.now c.and.new.self c.args.pool.now c.loop-route.pool grows c.loop-route.invariant.pool c.args.selection.now.seconds.now c.requires.second word))
+          (c.in_ok-add_pairs.ensures.exprs word (subst (λ b. word < 2 ^ b) (sym grows.bits) low));
     }
 
 pub returns-in_err-add_pairs-clause-many : goal.returns-in_err-add_pairs-clause-many
 returns-in_err-add_pairs-clause-many c =
     let grows = extends_trans c.args.book.now c.loop-route.book c.and.new.self c.loop-route.invariant.book c.in_ok-both.ensures.grows in
-    let at = slice_get-get_or c.args.choices.now c.loop-route.route-index (record { expr = 0; set = 0 }) c.loop-route-test.true in
-    let in_set = (set_at c.args.book.now c.args.choices.now c.loop-route.route-index _ at c.requires.choice.right.sets).within in
-    let in_pool = expr_at (length c.args.pool.now) c.args.choices.now c.loop-route.route-index _ at c.requires.choice.exprs in
+    let at = slice_get-get_or c.args.selection.now.choices.now c.loop-route.route-index (record { expr = 0; set = 0 }) c.loop-route-test.true in
+    let in_set = (set_at c.args.book.now c.args.selection.now.choices.now c.loop-route.route-index _ at c.requires.choice.right.sets).within in
+    let in_pool = expr_at (length c.args.pool.now) c.args.selection.now.choices.now c.loop-route.route-index _ at c.requires.choice.exprs in
     let p = err_from_is_err_and c.from_residual-in_err-add_pairs.result c.from_residual-in_err-add_pairs.ensures.1 in
     rw (p.1, p.2)
     (many_in c.in_err-add_pairs.field-0.0 c.add_pairs.new.book c.add_pairs.new.pool _ _
-    (λ word fits terms e.
+    (λ word fits exprs e.
     (let low = subst (λ b. word < 2 ^ b) (extends_trans c.args.book.now c.and.new.self c.add_pairs.new.book grows c.in_err-add_pairs.ensures.book).bits fits in
-    part_taken (each (λ t. under t (models_under c.args.book.now c.args.pool.now c.args.firsts.now word) (models_under c.args.book.now c.args.pool.now c.args.seconds.now word))) refl c.args.book.now c.args.pool.now c.args.choices.now (c.loop-route.route-index + 1) word (c.requires.choice_one word low)
-    (has_word c.args.book.now c.args.set word) _ terms
-    (each_step _ c.args.book.now c.args.pool.now c.args.choices.now c.args.set word c.loop-route.route-index _ at (c.requires.choice_one word low)
+    part_taken (each (λ t. under t (models_under c.args.book.now c.args.pool.now c.args.selection.now.firsts.now word) (models_under c.args.book.now c.args.pool.now c.args.selection.now.seconds.now word))) refl c.args.book.now c.args.pool.now c.args.selection.now.choices.now (c.loop-route.route-index + 1) word (c.requires.choice_one word low)
+    (has_word c.args.book.now c.args.set word) _ exprs
+    (each_step _ c.args.book.now c.args.pool.now c.args.selection.now.choices.now c.args.set word c.loop-route.route-index _ at (c.requires.choice_one word low)
     c.loop-route.book c.and.new.self c.loop-route.pool c.loop-route.invariant.book c.in_ok-both.ensures.grows c.loop-route.out c.loop-route.invariant.table c.requires.set in_set
-    _ _ terms c.in_ok-both.both (c.in_ok-both.ensures.words word) (c.loop-route.invariant.terms word low)
+    _ _ exprs c.in_ok-both.both (c.in_ok-both.ensures.words word) (c.loop-route.invariant.exprs word low)
     (under_later c.args.pool.now c.loop-route.pool c.loop-route.invariant.pool _ in_pool _ _ _ _
-    (both_later c.args.book.now c.and.new.self c.args.pool.now c.loop-route.pool grows c.loop-route.invariant.pool c.args.firsts.now c.requires.first word)
-    (both_later c.args.book.now c.and.new.self c.args.pool.now c.loop-route.pool grows c.loop-route.invariant.pool c.args.seconds.now c.requires.second word))
+    (both_later c.args.book.now c.and.new.self c.args.pool.now c.loop-route.pool grows c.loop-route.invariant.pool c.args.selection.now.firsts.now c.requires.first word)
+    (both_later c.args.book.now c.and.new.self c.args.pool.now c.loop-route.pool grows c.loop-route.invariant.pool c.args.selection.now.seconds.now c.requires.second word))
     e)))
     c.in_err-add_pairs.ensures.many)
 
 pub returns-in_err-add_pairs-clause-table : goal.returns-in_err-add_pairs-clause-table
 returns-in_err-add_pairs-clause-table c = IfOk-from_err c.from_residual-in_err-add_pairs.result _ c.from_residual-in_err-add_pairs.ensures.0
 
-pub returns-in_err-add_pairs-clause-terms : goal.returns-in_err-add_pairs-clause-terms
-returns-in_err-add_pairs-clause-terms c = IfOk-from_err c.from_residual-in_err-add_pairs.result _ c.from_residual-in_err-add_pairs.ensures.0
+pub returns-in_err-add_pairs-clause-exprs : goal.returns-in_err-add_pairs-clause-exprs
+returns-in_err-add_pairs-clause-exprs c = IfOk-from_err c.from_residual-in_err-add_pairs.result _ c.from_residual-in_err-add_pairs.ensures.0
 
 pub returns-in_err-both-clause-table : goal.returns-in_err-both-clause-table
 returns-in_err-both-clause-table c = IfOk-from_err c.from_residual.result _ c.from_residual.ensures.0
 
-pub returns-in_err-both-clause-terms : goal.returns-in_err-both-clause-terms
-returns-in_err-both-clause-terms c = IfOk-from_err c.from_residual.result _ c.from_residual.ensures.0
+pub returns-in_err-both-clause-exprs : goal.returns-in_err-both-clause-exprs
+returns-in_err-both-clause-exprs c = IfOk-from_err c.from_residual.result _ c.from_residual.ensures.0

@@ -11,5 +11,5 @@ invariant-loop-route l = record {
   book : Extends l.initial.book l.book;
   pool : Grows l.initial.pool l.pool;
   table : IsRouteTable l.book l.pool l.out;
-  terms : (word : ℕ) → word < 2 ^ l.initial.book.bits → models_under l.book l.pool l.out word ≡ (if has_word l.initial.book l.set word then each (λ c. under c (models_under l.initial.book l.initial.pool l.firsts word) (models_under l.initial.book l.initial.pool l.seconds word)) (models_under l.initial.book l.initial.pool (take l.route-index l.choices) word) else models_under l.initial.book l.initial.pool l.initial.out word);
+  exprs : (word : ℕ) → word < 2 ^ l.initial.book.bits → models_under l.book l.pool l.out word ≡ (if has_word l.initial.book l.set word then each (λ c. under c (models_under l.initial.book l.initial.pool l.selection.firsts.now word) (models_under l.initial.book l.initial.pool l.selection.seconds.now word)) (models_under l.initial.book l.initial.pool (take l.route-index l.selection.choices.now) word) else models_under l.initial.book l.initial.pool l.initial.out word);
 }

@@ -5,16 +5,16 @@ use Rattle.row_texts.proofs.Wide.{some_wide_later, choice_fits, choice_is}
 use Rattle.row_texts.proofs.gates.select_id.Goals as goal
 
 pub id_there-requires-2-clause-known : goal.id_there-requires-2-clause-known
-id_there-requires-2-clause-known c = some_wide_later _ _ c.in_ok-on.ensures.grows _ _ c.args.zero c.requires.zero
+id_there-requires-2-clause-known c = some_wide_later _ _ c.in_ok-on.ensures.grows _ _ c.args.choice.zero c.requires.zero
 
 pub intern-requires-clause-fits : goal.intern-requires-clause-fits
 intern-requires-clause-fits c =
-    choice_fits _ _ _ c.in_ok-on.ensures.grows c.in_ok-off.ensures.grows _ _ c.args.one c.args.zero c.args.sel _ _ _ c.value_at-test.ensures
-    c.requires.sel c.requires.one c.requires.zero c.in_ok-on.ensures.within c.in_ok-on.ensures.term c.in_ok-off.ensures.term
+    choice_fits _ _ _ c.in_ok-on.ensures.grows c.in_ok-off.ensures.grows _ _ c.args.choice.one c.args.choice.zero c.args.choice.sel _ _ _ c.value_at-test.ensures
+    c.requires.sel c.requires.one c.requires.zero c.in_ok-on.ensures.within c.in_ok-on.ensures.expr c.in_ok-off.ensures.expr
 
-pub returns-clause-term : goal.returns-clause-term
-returns-clause-term c =
+pub returns-clause-expr : goal.returns-clause-expr
+returns-clause-expr c =
     subst (λ (e : ExprModel). IfOk c.intern.result (λ id. expr_of_id c.intern.new.self id ≡ e))
-    (choice_is _ _ _ c.in_ok-on.ensures.grows c.in_ok-off.ensures.grows _ _ c.args.one c.args.zero c.args.sel _ _ _ c.value_at-test.ensures
-    c.requires.sel c.requires.one c.requires.zero c.in_ok-on.ensures.within c.in_ok-on.ensures.term c.in_ok-off.ensures.term)
-    c.intern.ensures.term
+    (choice_is _ _ _ c.in_ok-on.ensures.grows c.in_ok-off.ensures.grows _ _ c.args.choice.one c.args.choice.zero c.args.choice.sel _ _ _ c.value_at-test.ensures
+    c.requires.sel c.requires.one c.requires.zero c.in_ok-on.ensures.within c.in_ok-on.ensures.expr c.in_ok-off.ensures.expr)
+    c.intern.ensures.expr

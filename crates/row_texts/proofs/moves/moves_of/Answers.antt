@@ -10,9 +10,9 @@ loop-id-preserved c =
     record {
       long = rw pushed (grind (arith, length-append, c.loop-id.invariant.long));
       within = rw pushed
-          (more_within c.args.checked.now.netlist c.args._word c.args.pool.now c.args.ids.now c.requires.ids _ c.requires.values c.netlist.ensures.sound.typed c.loop-id.moves c.loop-id.id c.loop-id.invariant.long
+          (more_within c.args.checked.now.netlist c.args.at.now.word c.args.pool.now c.args.ids.now c.requires.ids _ c.requires.values c.netlist.ensures.sound.typed c.loop-id.moves c.loop-id.id c.loop-id.invariant.long
           c.index-storages-id.result is inside c.move_of.result c.loop-id.invariant.within c.move_of.ensures.within);
       are = rw pushed
-          (more_are c.args.checked.now.netlist c.args._word c.args.pool.now c.args.ids.now c.requires.ids _ c.requires.values c.netlist.ensures.sound.typed c.loop-id.moves c.loop-id.id c.loop-id.invariant.long
+          (more_are c.args.checked.now.netlist c.args.at.now.word c.args.pool.now c.args.ids.now c.requires.ids _ c.requires.values c.netlist.ensures.sound.typed c.loop-id.moves c.loop-id.id c.loop-id.invariant.long
           c.index-storages-id.result is inside c.move_of.result c.loop-id.invariant.are c.move_of.ensures.is);
     }

@@ -8,5 +8,5 @@ abbrev pub invariant-loop-id : goal.invariant-loop-id
 invariant-loop-id l = record {
   long : length l.moves ≡ l.id;
   within : (id : ℕ) (move : StorageMove) → slice_get l.moves id ≡ Some move → IsMoveWithin l.pool move;
-  are : (id : ℕ) (move : StorageMove) → slice_get l.moves id ≡ Some move → transfer_in l.pool move ≡ transfer_at l.checked.netlist l._word id;
+  are : (id : ℕ) (move : StorageMove) → slice_get l.moves id ≡ Some move → transfer_in l.pool move ≡ transfer_at l.checked.netlist l.at.word id;
 }

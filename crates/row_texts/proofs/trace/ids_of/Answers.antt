@@ -11,27 +11,27 @@ use Rattle.row_texts.proofs.trace.ids_of.Goals as goal
 pub gate_id-requires-clause-known : goal.gate_id-requires-clause-known
 gate_id-requires-clause-known c =
     let o : IsOrder c.args.checked.now.netlist c.as_slice-order.result.now = rw (c.as_slice-order.ensures, c.order.ensures.value) c.order.ensures.kept.ordered in
-    let is : c.index-nets-at.result ≡ get_or c.args.checked.now.netlist.nets (slice_index c.as_slice-order.result.now c.loop-id.id-index) c.index-nets-at.result = rw (c.as_slice-nets.ensures, c.netlist-netlist.ensures.value) at c.index-nets-at.is in
+    let is : c.index-nets-place.result ≡ get_or c.args.checked.now.netlist.nets (slice_index c.as_slice-order.result.now c.loop-id.id-index) c.index-nets-place.result = rw (c.as_slice-nets.ensures, c.netlist-netlist.ensures.value) at c.index-nets-place.is in
     rw (c.netlist-netlist.ensures.value, c.as_slice-current.ensures)
-    (turn_known c.args.checked.now.netlist c.args._word c.as_slice-order.result.now o c.loop-id.pool c.loop-id.ids c.loop-id.id-index c.loop-id-test.true c.loop-id.invariant.done c.index-nets-at.result is c.netlist-netlist.ensures.sound.typed)
+    (turn_known c.args.checked.now.netlist c.args.at.now.word c.as_slice-order.result.now o c.loop-id.pool c.loop-id.ids c.loop-id.id-index c.loop-id-test.true c.loop-id.invariant.done c.index-nets-place.result is c.netlist-netlist.ensures.sound.typed)
 
 pub gate_id-requires-clause-control : goal.gate_id-requires-clause-control
 gate_id-requires-clause-control c =
     let o : IsOrder c.args.checked.now.netlist c.as_slice-order.result.now = rw (c.as_slice-order.ensures, c.order.ensures.value) c.order.ensures.kept.ordered in
-    let is : c.index-nets-at.result ≡ get_or c.args.checked.now.netlist.nets (slice_index c.as_slice-order.result.now c.loop-id.id-index) c.index-nets-at.result = rw (c.as_slice-nets.ensures, c.netlist-netlist.ensures.value) at c.index-nets-at.is in
+    let is : c.index-nets-place.result ≡ get_or c.args.checked.now.netlist.nets (slice_index c.as_slice-order.result.now c.loop-id.id-index) c.index-nets-place.result = rw (c.as_slice-nets.ensures, c.netlist-netlist.ensures.value) at c.index-nets-place.is in
     rw c.netlist-netlist.ensures.value
-    (turn_controlled c.args.checked.now.netlist c.args._word c.as_slice-order.result.now o c.loop-id.pool c.loop-id.ids c.loop-id.id-index c.loop-id-test.true c.loop-id.invariant.done c.index-nets-at.result is c.netlist-netlist.ensures.sound.controlled)
+    (turn_controlled c.args.checked.now.netlist c.args.at.now.word c.as_slice-order.result.now o c.loop-id.pool c.loop-id.ids c.loop-id.id-index c.loop-id-test.true c.loop-id.invariant.done c.index-nets-place.result is c.netlist-netlist.ensures.sound.controlled)
 
 pub loop-id-preserved : goal.loop-id-preserved
 loop-id-preserved c =
     let o : IsOrder c.args.checked.now.netlist c.as_slice-order.result.now = rw (c.as_slice-order.ensures, c.order.ensures.value) c.order.ensures.kept.ordered in
-    let is : c.index-nets-at.result ≡ get_or c.args.checked.now.netlist.nets (slice_index c.as_slice-order.result.now c.loop-id.id-index) c.index-nets-at.result = rw (c.as_slice-nets.ensures, c.netlist-netlist.ensures.value) at c.index-nets-at.is in
+    let is : c.index-nets-place.result ≡ get_or c.args.checked.now.netlist.nets (slice_index c.as_slice-order.result.now c.loop-id.id-index) c.index-nets-place.result = rw (c.as_slice-nets.ensures, c.netlist-netlist.ensures.value) at c.index-nets-place.is in
     let long : length c.loop-id.ids ≡ length c.args.checked.now.netlist.nets = c.loop-id.invariant.long in
-    let term : expr_of_id c.gate_id.new.pool c.in_ok-found.found ≡ gate_expr (net_exprs c.loop-id.pool c.loop-id.ids) (slice_index c.args.values.now) (flag_at c.args.statics.now) c.args.checked.now.netlist c.index-nets-at.result.width c.index-nets-at.result.gate = rw (c.as_slice-current.ensures, c.netlist-netlist.ensures.value) at c.in_ok-found.ensures.term in
+    let expr : expr_of_id c.gate_id.new.pool c.in_ok-found.found ≡ gate_expr (net_exprs c.loop-id.pool c.loop-id.ids) (slice_index c.args.at.now.values.now) (flag_at c.args.at.now.statics.now) c.args.checked.now.netlist c.index-nets-place.result.width c.index-nets-place.result.gate = rw (c.as_slice-current.ensures, c.netlist-netlist.ensures.value) at c.in_ok-found.ensures.expr in
     record {
       grows = grows_trans _ _ _ c.loop-id.invariant.grows c.in_ok-found.ensures.grows;
       long = rw c.set.ensures (simp length-set long);
       done = rw c.set.ensures
-          (turn_traced c.args.checked.now.netlist c.args._word c.as_slice-order.result.now o c.loop-id.pool c.loop-id.ids c.loop-id.id-index c.loop-id-test.true c.loop-id.invariant.done c.index-nets-at.result is
-          long (slice_index c.args.values.now) (flag_at c.args.statics.now) c.requires.values c.requires.statics c.gate_id.new.pool c.in_ok-found.ensures.grows c.in_ok-found.found c.in_ok-found.ensures.within term);
+          (turn_traced c.args.checked.now.netlist c.args.at.now.word c.as_slice-order.result.now o c.loop-id.pool c.loop-id.ids c.loop-id.id-index c.loop-id-test.true c.loop-id.invariant.done c.index-nets-place.result is
+          long (slice_index c.args.at.now.values.now) (flag_at c.args.at.now.statics.now) c.requires.values c.requires.statics c.gate_id.new.pool c.in_ok-found.ensures.grows c.in_ok-found.found c.in_ok-found.ensures.within expr);
     }

@@ -8,5 +8,5 @@ abbrev pub invariant-loop-id : goal.invariant-loop-id
 invariant-loop-id l = record {
   grows : Grows l.initial.pool l.pool;
   long : length l.ids ≡ length l.checked.netlist.nets;
-  done : (m : ℕ) → position_of l.order m < l.id-index → IsTraced l.checked.netlist l._word l.pool l.ids m;
+  done : (m : ℕ) → position_of l.order m < l.id-index → IsTraced l.checked.netlist l.at.word l.pool l.ids m;
 }

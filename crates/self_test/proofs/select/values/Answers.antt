@@ -10,7 +10,7 @@ use Rattle.self_test.proofs.select.values.Goals as goal
 pub loop-number-preserved : goal.loop-number-preserved
 loop-number-preserved c =
     let nt = c.args.checked.now.netlist in
-    let rules = models_of_forms c.args.forms.now in
+    let forms = models_of_forms c.args.forms.now in
     let pool = c.args.pool.now in
     let rows = c.args.patterns.now.rows in
     let i = c.loop-number.number in
@@ -19,7 +19,7 @@ loop-number-preserved c =
       known = c.in_ok-push_value.ensures.known;
       so_far =
           c.loop-number.invariant.so_far
-          ∙ ap (λ (ts : List ExprModel). exprs_at pool c.loop-number.values ++ ts) (rows_step nt rules pool rows i i lt)
+          ∙ ap (λ (ts : List ExprModel). exprs_at pool c.loop-number.values ++ ts) (rows_step nt forms pool rows i i lt)
           ∙ sym (append_assoc (exprs_at pool c.loop-number.values) _ _)
-          ∙ ap (λ (ts : List ExprModel). ts ++ values_from nt rules (i + 1) (drop (i + 1) (row_patterns pool rows))) (sym c.in_ok-push_value.ensures.added);
+          ∙ ap (λ (ts : List ExprModel). ts ++ values_from nt forms (i + 1) (drop (i + 1) (row_patterns pool rows))) (sym c.in_ok-push_value.ensures.added);
     }

@@ -12,7 +12,7 @@ abbrev pub decreases-build_block : goal.decreases-build_block
 decreases-build_block l = 2 * trees_of l.block.now + 1
 
 abbrev pub invariant-build_block-loop-statement : goal.invariant-build_block-loop-statement
-invariant-build_block-loop-statement l = Going l.word l.table l.fn.steps l.steps l.block l.left l.next
+invariant-build_block-loop-statement l = Going l.scope.word l.scope.table l.fn.steps l.steps l.block l.left l.next
 
 abbrev pub decreases-build_block-loop-statement : goal.decreases-build_block-loop-statement
 decreases-build_block-loop-statement l = length l.left

@@ -11,14 +11,14 @@ use Rattle.src_eval.proofs.resolve.+resolve.Goals as goal
 pub resolve-overflow_cast-result-in-Low : goal.resolve-overflow_cast-result-in-Low
 resolve-overflow_cast-result-in-Low t c =
     let x = c.in-Low.x.value in
-    let f : Fitting c.args.word c.args.asked (low x.at (model_of_src_node x.node) c.in-Low.width) = subst (λ n. Fitting c.args.word c.args.asked (model_of_src_node n)) c.in-Low.is c.requires.fitting in
-    let w = width_wide c.args.word c.args.word (model_of_src_node x.node) c.requires.word c.requires.word f.0 in
+    let f : Fitting c.args.scope.now.word c.args.asked (low x.at (model_of_src_node x.node) c.in-Low.width) = subst (λ n. Fitting c.args.scope.now.word c.args.asked (model_of_src_node n)) c.in-Low.is c.requires.fitting in
+    let w = width_wide c.args.scope.now.word c.args.scope.now.word (model_of_src_node x.node) c.requires.word c.requires.word f.0 in
     omega (arith, w, f.2)
 
 pub resolve-returns-in-Zext : goal.resolve-returns-in-Zext
 resolve-returns-in-Zext t c =
-    let word = c.args.word in
-    let vars = c.args.table.now in
+    let word = c.args.scope.now.word in
+    let vars = c.args.scope.now.table in
     let x = c.in-Zext.x.value in
     let f : Fitting word c.args.asked (zext x.at (model_of_src_node x.node) c.in-Zext.field-1) = subst (λ n. Fitting word c.args.asked (model_of_src_node n)) c.in-Zext.is c.requires.fitting in
     IfOk-weaker c.resolve.result _ _
@@ -30,8 +30,8 @@ resolve-returns-in-Zext t c =
 
 pub resolve-returns-in_ok-operand-in-Low : goal.resolve-returns-in_ok-operand-in-Low
 resolve-returns-in_ok-operand-in-Low t c =
-    let word = c.args.word in
-    let vars = c.args.table.now in
+    let word = c.args.scope.now.word in
+    let vars = c.args.scope.now.table in
     let x = c.in-Low.x.value in
     let b = c.in_ok-operand-in-Low.operand in
     let f : Fitting word c.args.asked (low x.at (model_of_src_node x.node) c.in-Low.width) = subst (λ n. Fitting word c.args.asked (model_of_src_node n)) c.in-Low.is c.requires.fitting in

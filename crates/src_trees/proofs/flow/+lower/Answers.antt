@@ -78,7 +78,7 @@ lower_if-returns t c =
 
 pub lower_else-overflow_cast-over : goal.lower_else-overflow_cast-over
 lower_else-overflow_cast-over t c =
-    let b = counted c.args.memory.now (block_stmts c.args.taken.now) (c.args.at + 1) c.push_job.new.jobs c.lower_block.new.jobs c.in_ok-inner.inner c.in_ok-inner.ensures in
+    let b = counted c.args.memory.now (block_stmts c.args.branches.now.taken.now) (c.args.at + 1) c.push_job.new.jobs c.lower_block.new.jobs c.in_ok-inner.inner c.in_ok-inner.ensures in
     let few = b.flow in
     let place = c.requires.ready.place in
     let more = c.requires.ready.few in
@@ -86,7 +86,7 @@ lower_else-overflow_cast-over t c =
 
 pub lower_else-overflow_add-over-2 : goal.lower_else-overflow_add-over-2
 lower_else-overflow_add-over-2 t c =
-    let b = counted c.args.memory.now (block_stmts c.args.taken.now) (c.args.at + 1) c.push_job.new.jobs c.lower_block.new.jobs c.in_ok-inner.inner c.in_ok-inner.ensures in
+    let b = counted c.args.memory.now (block_stmts c.args.branches.now.taken.now) (c.args.at + 1) c.push_job.new.jobs c.lower_block.new.jobs c.in_ok-inner.inner c.in_ok-inner.ensures in
     let few = b.flow in
     let place = c.requires.ready.place in
     let more = c.requires.ready.few in
@@ -94,7 +94,7 @@ lower_else-overflow_add-over-2 t c =
 
 pub lower_else-overflow_add-over-3 : goal.lower_else-overflow_add-over-3
 lower_else-overflow_add-over-3 t c =
-    let b = counted c.args.memory.now (block_stmts c.args.taken.now) (c.args.at + 1) c.push_job.new.jobs c.lower_block.new.jobs c.in_ok-inner.inner c.in_ok-inner.ensures in
+    let b = counted c.args.memory.now (block_stmts c.args.branches.now.taken.now) (c.args.at + 1) c.push_job.new.jobs c.lower_block.new.jobs c.in_ok-inner.inner c.in_ok-inner.ensures in
     let few = b.flow in
     let place = c.requires.ready.place in
     let more = c.requires.ready.few in
@@ -102,8 +102,8 @@ lower_else-overflow_add-over-3 t c =
 
 pub lower_else-lower_block-requires-2 : goal.lower_else-lower_block-requires-2
 lower_else-lower_block-requires-2 t c =
-    let taken = block_stmts c.args.taken.now in
-    let other = block_stmts c.args.other.now in
+    let taken = block_stmts c.args.branches.now.taken.now in
+    let other = block_stmts c.args.branches.now.other.now in
     let b = counted c.args.memory.now taken (c.args.at + 1) c.push_job.new.jobs c.lower_block.new.jobs c.in_ok-inner.inner c.in_ok-inner.ensures in
     let r = other_may c.args.memory.now.word c.args.memory.now.places (choice (model_of_src_test c.args.test.now) taken (otherwise other)) c.args.at c.args.jobs.now c.requires.ready c.requires.plain (model_of_src_test c.args.test.now) taken other c.push_job.new.jobs c.lower_block.new.jobs
     c.in_ok-job.job c.in_ok-inner.inner c.len.result refl c.in_ok-tree.ensures.pushed b c.len.ensures in
@@ -111,8 +111,8 @@ lower_else-lower_block-requires-2 t c =
 
 pub lower_else-else_flow-requires : goal.lower_else-else_flow-requires
 lower_else-else_flow-requires t c =
-    let taken = block_stmts c.args.taken.now in
-    let other = block_stmts c.args.other.now in
+    let taken = block_stmts c.args.branches.now.taken.now in
+    let other = block_stmts c.args.branches.now.other.now in
     let b = counted c.args.memory.now taken (c.args.at + 1) c.push_job.new.jobs c.lower_block.new.jobs c.in_ok-inner.inner c.in_ok-inner.ensures in
     let d = counted c.args.memory.now other _ c.lower_block.new.jobs c.lower_block-2.new.jobs c.in_ok-after.after c.in_ok-after.ensures in
     room_both c.args.memory.now.word c.args.memory.now.places (choice (model_of_src_test c.args.test.now) taken (otherwise other)) c.args.at c.args.jobs.now c.requires.ready c.requires.plain taken other c.push_job.new.jobs c.lower_block.new.jobs
@@ -121,8 +121,8 @@ lower_else-else_flow-requires t c =
 pub lower_else-returns : goal.lower_else-returns
 lower_else-returns t c =
     let m : MemoryMap = c.args.memory.now in
-    let taken = block_stmts c.args.taken.now in
-    let other = block_stmts c.args.other.now in
+    let taken = block_stmts c.args.branches.now.taken.now in
+    let other = block_stmts c.args.branches.now.other.now in
     let n = c.len.ensures ∙ ap length (sym c.as_slice.ensures) in
     IfOk-weaker c.else_flow.result _ _
     (λ flow made. else_lowered m (choice (model_of_src_test c.args.test.now) taken (otherwise other)) c.args.at c.args.jobs.now (model_of_src_test c.args.test.now) c.push_job.new.jobs c.in_ok-job.job c.in_ok-tree.tree c.in_ok-job.ensures c.in_ok-tree.ensures.pushed c.in_ok-tree.ensures.number
@@ -158,7 +158,7 @@ lower_for-push_job-requires-3 t c =
     let body = block_stmts c.args.body.now in
     let b = counted c.args.memory.now body (c.args.at + 2) c.push_job-2.new.jobs c.lower_block.new.jobs c.in_ok-inner.inner c.in_ok-inner.ensures in
     let long = b.jobs in
-    let few = step_may c.args.memory.now.word c.args.memory.now.places (count c.args.counter.now 0 c.args.ends.0 c.args.ends.1 body) c.args.at c.args.jobs.now c.requires.ready c.requires.plain c.args.counter.now 0 c.args.ends.0 c.args.ends.1 body c.push_job.new.jobs
+    let few = step_may c.args.memory.now.word c.args.memory.now.places (count c.args.counting.now.counter.now 0 c.args.counting.now.from c.args.counting.now.to body) c.args.at c.args.jobs.now c.requires.ready c.requires.plain c.args.counting.now.counter.now 0 c.args.counting.now.from c.args.counting.now.to body c.push_job.new.jobs
     c.push_job-2.new.jobs c.in_ok-start.start c.in_ok-test.test refl c.in_ok-tree.ensures.pushed c.in_ok-_test.ensures.pushed in
     omega (arith, long, few)
 
@@ -166,7 +166,7 @@ pub lower_for-for_flow-requires-clause-few : goal.lower_for-for_flow-requires-cl
 lower_for-for_flow-requires-clause-few t c =
     let body = block_stmts c.args.body.now in
     let b = counted c.args.memory.now body (c.args.at + 2) c.push_job-2.new.jobs c.lower_block.new.jobs c.in_ok-inner.inner c.in_ok-inner.ensures in
-    room c.args.memory.now.word c.args.memory.now.places (count c.args.counter.now 0 c.args.ends.0 c.args.ends.1 body) c.args.at c.args.jobs.now c.requires.ready c.requires.plain body c.push_job-2.new.jobs c.lower_block.new.jobs c.in_ok-inner.inner
+    room c.args.memory.now.word c.args.memory.now.places (count c.args.counting.now.counter.now 0 c.args.counting.now.from c.args.counting.now.to body) c.args.at c.args.jobs.now c.requires.ready c.requires.plain body c.push_job-2.new.jobs c.lower_block.new.jobs c.in_ok-inner.inner
     c.as_slice.result.now (omega arith) b c.as_slice.ensures
 
 pub lower_for-returns : goal.lower_for-returns
@@ -174,7 +174,7 @@ lower_for-returns t c =
     let m : MemoryMap = c.args.memory.now in
     let body = block_stmts c.args.body.now in
     IfOk-weaker c.for_flow.result _ _
-    (λ flow made. for_lowered m (count c.args.counter.now 0 c.args.ends.0 c.args.ends.1 body) c.args.at c.args.jobs.now c.args.counter.now 0 c.args.ends.0 c.args.ends.1 body c.push_job.new.jobs c.push_job-2.new.jobs c.lower_block.new.jobs c.push_job-3.new.jobs
+    (λ flow made. for_lowered m (count c.args.counting.now.counter.now 0 c.args.counting.now.from c.args.counting.now.to body) c.args.at c.args.jobs.now c.args.counting.now.counter.now 0 c.args.counting.now.from c.args.counting.now.to body c.push_job.new.jobs c.push_job-2.new.jobs c.lower_block.new.jobs c.push_job-3.new.jobs
     c.in_ok-start.start c.in_ok-test.test c.in_ok-last.last c.in_ok-tree.tree c.in_ok-step.step c.as_slice.result.now flow refl c.in_ok-start.ensures c.in_ok-test.ensures c.in_ok-last.ensures c.in_ok-tree.ensures.pushed c.in_ok-_test.ensures.pushed
     (subst (AreLowered m body (c.args.at + 2) c.push_job-2.new.jobs c.lower_block.new.jobs) (sym c.as_slice.ensures) c.in_ok-inner.ensures) c.in_ok-step.ensures.pushed c.in_ok-tree.ensures.number c.in_ok-step.ensures.number made)
     c.for_flow.ensures

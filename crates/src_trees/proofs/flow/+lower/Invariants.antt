@@ -17,7 +17,7 @@ abbrev pub decreases-lower_if : goal.decreases-lower_if
 decreases-lower_if l = 3 * (1 + statements_in (stmts_of (map model_of_stmt l.taken.now)))
 
 abbrev pub decreases-lower_else : goal.decreases-lower_else
-decreases-lower_else l = 3 * (1 + statements_in (stmts_of (map model_of_stmt l.taken.now)) + statements_in (stmts_of (map model_of_stmt l.other.now)))
+decreases-lower_else l = 3 * (1 + statements_in (stmts_of (map model_of_stmt l.branches.now.taken.now)) + statements_in (stmts_of (map model_of_stmt l.branches.now.other.now)))
 
 abbrev pub decreases-lower_while : goal.decreases-lower_while
 decreases-lower_while l = 3 * (1 + statements_in (stmts_of (map model_of_stmt l.body.now)))

@@ -9,7 +9,7 @@ use Rattle.form_model.specs.Forms.{models_of_forms}
 use Rattle.src_trees.specs.Jobs.{model_of_job, models_of_jobs}
 use Rattle.src_trees.specs.Lowered.{JobModel}
 use Rattle.transfer_set.proofs.Feeding.{all_at}
-use Rattle.code_gen.specs.Machines.{machine_netlist, machine_patterns}
+use Rattle.code_gen.specs.Machines.{known_netlist, known_patterns}
 use Rattle.code_gen.proofs.Listing.{mapped_get, take_get}
 use Rattle.self_test.specs.Cells.{test_jobs}
 use Rattle.test_code.specs.Codes.{IsCodeOf}
@@ -24,9 +24,9 @@ job_at read jobs index job e lt is = subst (λ (list : List Job). slice_get (mod
 
 pub add_job-requires-clause-job : goal.add_job-requires-clause-job
 add_job-requires-clause-job c =
-    let netlist = machine_netlist c.args.machine.now in
-    let patterns = machine_patterns c.args.machine.now in
-    let rules = models_of_forms c.args.forms.now.list.items in
+    let netlist = known_netlist c.args.known.now in
+    let patterns = known_patterns c.args.known.now in
+    let forms = models_of_forms c.args.forms.now.list.items in
     let tests = c.args.tests.now in
     let jobs = tests.blocks.jobs.items in
     let index = c.loop-job.job-index in
@@ -34,36 +34,36 @@ add_job-requires-clause-job c =
     let at : slice_get (models_of_jobs jobs) index ≡ Some (model_of_job job) = job_at c.deref-job-items.result.now jobs index job c.deref-job-items.ensures.value c.loop-job-test.true c.job-item.is in
     all_at (IsCellJob (memory_width netlist.storages) tests.temps) (models_of_jobs jobs) index (model_of_job job) at
     (subst (AllByRecursion (IsCellJob (memory_width netlist.storages) tests.temps)) (sym c.requires.jobs)
-    (subst (λ (temps : ℕ). AllByRecursion (IsCellJob (memory_width netlist.storages) temps) (test_jobs netlist rules patterns)) (sym c.requires.temps) (test_plain netlist rules patterns)))
+    (subst (λ (temps : ℕ). AllByRecursion (IsCellJob (memory_width netlist.storages) temps) (test_jobs netlist forms patterns)) (sym c.requires.temps) (test_plain netlist forms patterns)))
 
 pub add_job-requires-clause-few : goal.add_job-requires-clause-few
 add_job-requires-clause-few c =
     let tests = c.args.tests.now in
-    let works = models_of_jobs tests.blocks.jobs.items in
+    let jobs = models_of_jobs tests.blocks.jobs.items in
     let index = c.loop-job.job-index in
     let code = c.loop-job.code in
-    let count = code_count (machine_netlist c.args.machine.now) (machine_patterns c.args.machine.now) (stock_with c.args.forms.now.list.items tests.temps c.args.forms.now.file) (take index works) code c.loop-job.invariant.code in
+    let count = code_count (known_netlist c.args.known.now) (known_patterns c.args.known.now) (stock_with c.args.forms.now.list.items tests.temps c.args.forms.now.file) (take index jobs) code c.loop-job.invariant.code in
     let long = length-map tests.blocks.jobs.items model_of_job in
-    let taken = length-take-le index works (omega (arith, long, c.loop-job-test.true)) in
+    let taken = length-take-le index jobs (omega (arith, long, c.loop-job-test.true)) in
     let few : code.tested + code.skipped < 2 ^ 64 - 1 = omega (arith, count, taken, long, tests.blocks.jobs.ok.0, c.loop-job-test.true) in
     few
 
 pub loop-job-preserved : goal.loop-job-preserved
 loop-job-preserved c =
-    let netlist = machine_netlist c.args.machine.now in
-    let patterns = machine_patterns c.args.machine.now in
+    let netlist = known_netlist c.args.known.now in
+    let patterns = known_patterns c.args.known.now in
     let tests = c.args.tests.now in
     let stock = stock_with c.args.forms.now.list.items tests.temps c.args.forms.now.file in
     let jobs = tests.blocks.jobs.items in
-    let works = models_of_jobs jobs in
+    let models = models_of_jobs jobs in
     let index = c.loop-job.job-index in
     let job = c.job-item.result in
-    let at : slice_get works index ≡ Some (model_of_job job) =
+    let at : slice_get models index ≡ Some (model_of_job job) =
     job_at c.deref-job-items.result.now jobs index job c.deref-job-items.ensures.value c.loop-job-test.true c.job-item.is in
     record {
       grows = extends_trans c.args.book.now c.loop-job.book c.add_job.new.book c.loop-job.invariant.grows c.add_job.ensures.grows;
       ready = c.add_job.ensures.ready;
       code =
-          subst (λ (some : List JobModel). IsCodeOf netlist patterns stock some c.add_job.new.code) (sym (take_get works index (model_of_job job) at))
-          (code_more netlist patterns stock (take index works) (model_of_job job) c.loop-job.code c.add_job.new.code c.loop-job.invariant.code c.in_ok-add_job.ensures.added);
+          subst (λ (some : List JobModel). IsCodeOf netlist patterns stock some c.add_job.new.code) (sym (take_get models index (model_of_job job) at))
+          (code_more netlist patterns stock (take index models) (model_of_job job) c.loop-job.code c.add_job.new.code c.loop-job.invariant.code c.in_ok-add_job.ensures.added);
     }

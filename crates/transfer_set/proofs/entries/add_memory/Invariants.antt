@@ -11,7 +11,7 @@ abbrev pub invariant-loop-route : goal.invariant-loop-route
 invariant-loop-route l = record {
   grows : Extends l.initial.book l.book;
   words : HaveWords l.book l.out;
-  moves : (pool : List Node) (id word : ℕ) → transfers_under l.book pool l.out id word ≡ transfers_under l.initial.book pool l.initial.out id word ++ list_if ((l.storage == id) && has_word l.initial.book l.on word) (each (λ (a : ExprModel). each (memory_transfers a) (models_under l.initial.book pool l.values word)) (models_under l.initial.book pool (take l.route-index l.addrs) word));
-  whole : (netlist : Netlist) (pool : List Node) → AreWhole netlist pool l.initial.book l.initial.out → ArePairs netlist pool l.initial.book l.storage l.on l.addrs l.values → AreWhole netlist pool l.book l.out;
+  moves : (pool : List Node) (id word : ℕ) → transfers_under l.book pool l.out id word ≡ transfers_under l.initial.book pool l.initial.out id word ++ list_if ((l.sink.storage == id) && has_word l.initial.book l.sink.on word) (each (λ (a : ExprModel). each (memory_transfers a) (models_under l.initial.book pool l.values word)) (models_under l.initial.book pool (take l.route-index l.addrs) word));
+  whole : (netlist : Netlist) (pool : List Node) → AreWhole netlist pool l.initial.book l.initial.out → ArePairs netlist pool l.initial.book l.sink.storage l.sink.on l.addrs l.values → AreWhole netlist pool l.book l.out;
   known : (size : ℕ) → AreKnown size l.initial.out → AllExprs size l.addrs → AllExprs size l.values → AreKnown size l.out;
 }

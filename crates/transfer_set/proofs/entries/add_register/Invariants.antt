@@ -9,7 +9,7 @@ abbrev pub invariant-loop-route : goal.invariant-loop-route
 invariant-loop-route l = record {
   grows : Extends l.initial.book l.book;
   words : HaveWords l.book l.out;
-  moves : (id word : ℕ) → transfers_under l.book l.pool l.out id word ≡ transfers_under l.initial.book l.pool l.initial.out id word ++ list_if ((l.storage == id) && has_word l.initial.book l.on word) (each (register_transfers l.storage) (models_under l.initial.book l.pool (take l.route-index l.routes) word));
-  whole : (netlist : Netlist) → AreWhole netlist l.pool l.initial.book l.initial.out → AreWrites netlist l.pool l.initial.book l.storage l.on l.routes → AreWhole netlist l.pool l.book l.out;
+  moves : (id word : ℕ) → transfers_under l.book l.pool l.out id word ≡ transfers_under l.initial.book l.pool l.initial.out id word ++ list_if ((l.sink.storage == id) && has_word l.initial.book l.sink.on word) (each (register_transfers l.sink.storage) (models_under l.initial.book l.pool (take l.route-index l.routes) word));
+  whole : (netlist : Netlist) → AreWhole netlist l.pool l.initial.book l.initial.out → AreWrites netlist l.pool l.initial.book l.sink.storage l.sink.on l.routes → AreWhole netlist l.pool l.book l.out;
   known : AreKnown (length l.pool) l.initial.out → AreKnown (length l.pool) l.out;
 }

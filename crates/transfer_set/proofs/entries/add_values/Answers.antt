@@ -9,11 +9,11 @@ use Rattle.sym_expr.specs.Pools.{expr_of_id}
 use Rattle.transfer_set.specs.declared.route.Route.{Route}
 use Rattle.transfer_set.specs.Routes.{models_under}
 use Rattle.transfer_set.specs.Inner.Entries.{memory_transfers, transfers_under}
-use Rattle.transfer_set.proofs.Collecting.{expr_at, set_at, terms_more, turn, words_same}
+use Rattle.transfer_set.proofs.Collecting.{expr_at, set_at, models_more, turn, words_same}
 use Rattle.transfer_set.proofs.entries.add_values.Goals as goal
 
-pub add_entry-requires-clause-b : goal.add_entry-requires-clause-b
-add_entry-requires-clause-b c =
+pub add_entry-requires-clause-set : goal.add_entry-requires-clause-set
+add_entry-requires-clause-set c =
     let at = slice_get-get_or c.args.values.now c.loop-route.route-index (record { expr = 0; set = 0 }) c.loop-route-test.true in
     omega (arith, (set_at c.args.book.now c.args.values.now c.loop-route.route-index _ at c.requires.values).within, c.loop-route.invariant.grows.longer)
 
@@ -23,7 +23,7 @@ loop-route-preserved c =
     let at : slice_get c.args.values.now c.loop-route.route-index ≡ Some route = slice_get-get_or c.args.values.now c.loop-route.route-index (record { expr = 0; set = 0 }) c.loop-route-test.true in
     let within = (set_at c.args.book.now c.args.values.now c.loop-route.route-index route at c.requires.values).within in
     let grows = c.loop-route.invariant.grows in
-    let on = same_words c.args.book.now c.loop-route.book grows c.args.on c.requires.on in
+    let on = same_words c.args.book.now c.loop-route.book grows c.args.sink.on c.requires.on in
     let of_route = same_words c.args.book.now c.loop-route.book grows route.set within in
     record {
       grows = extends_trans c.args.book.now c.loop-route.book c.add_entry.new.book grows c.in_ok-add_entry.ensures.grows;
@@ -32,15 +32,15 @@ loop-route-preserved c =
           turn (memory_transfers (expr_of_id pool c.args.addr)) (expr_of_id pool route.expr)
           (models_under c.args.book.now pool (take c.loop-route.route-index c.args.values.now) word) _
           _ (transfers_under c.loop-route.book pool c.loop-route.out id word) _ (memory_transfers (expr_of_id pool c.args.addr) (expr_of_id pool route.expr))
-          (c.args.storage == id) (has_word c.args.book.now c.args.on word) (has_word c.args.book.now route.set word)
-          (has_word c.loop-route.book c.args.on word) (has_word c.loop-route.book route.set word)
+          (c.args.sink.storage == id) (has_word c.args.book.now c.args.sink.on word) (has_word c.args.book.now route.set word)
+          (has_word c.loop-route.book c.args.sink.on word) (has_word c.loop-route.book route.set word)
           (c.loop-route.invariant.moves pool id word) (on word) (of_route word) refl (c.in_ok-add_entry.ensures.moves pool id word)
-          (terms_more c.args.book.now pool c.args.values.now c.loop-route.route-index route at word);
+          (models_more c.args.book.now pool c.args.values.now c.loop-route.route-index route at word);
       whole = λ netlist pool w h.
           c.in_ok-add_entry.ensures.whole netlist pool (c.loop-route.invariant.whole netlist pool w h)
-          (words_same netlist c.args.book.now.bits c.loop-route.book.bits c.args.storage (write_at (expr_of_id pool c.args.addr) (expr_of_id pool route.expr))
-          (λ word. has_word c.args.book.now c.args.on word && has_word c.args.book.now route.set word)
-          (λ word. has_word c.loop-route.book c.args.on word && has_word c.loop-route.book route.set word)
+          (words_same netlist c.args.book.now.bits c.loop-route.book.bits c.args.sink.storage (write_at (expr_of_id pool c.args.addr) (expr_of_id pool route.expr))
+          (λ word. has_word c.args.book.now c.args.sink.on word && has_word c.args.book.now route.set word)
+          (λ word. has_word c.loop-route.book c.args.sink.on word && has_word c.loop-route.book route.set word)
           grows.bits (λ word. λ j. on word j && of_route word j) (h c.loop-route.route-index route at));
       known = λ size h a v. c.in_ok-add_entry.ensures.known size (c.loop-route.invariant.known size h a v) a (expr_at size c.args.values.now c.loop-route.route-index route at v);
     }

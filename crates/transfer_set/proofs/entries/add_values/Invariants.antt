@@ -11,7 +11,7 @@ abbrev pub invariant-loop-route : goal.invariant-loop-route
 invariant-loop-route l = record {
   grows : Extends l.initial.book l.book;
   words : HaveWords l.book l.out;
-  moves : (pool : List Node) (id word : ℕ) → transfers_under l.book pool l.out id word ≡ transfers_under l.initial.book pool l.initial.out id word ++ list_if ((l.storage == id) && has_word l.initial.book l.on word) (each (memory_transfers (expr_of_id pool l.addr)) (models_under l.initial.book pool (take l.route-index l.values) word));
-  whole : (netlist : Netlist) (pool : List Node) → AreWhole netlist pool l.initial.book l.initial.out → AreValues netlist pool l.initial.book l.storage l.addr l.on l.values → AreWhole netlist pool l.book l.out;
+  moves : (pool : List Node) (id word : ℕ) → transfers_under l.book pool l.out id word ≡ transfers_under l.initial.book pool l.initial.out id word ++ list_if ((l.sink.storage == id) && has_word l.initial.book l.sink.on word) (each (memory_transfers (expr_of_id pool l.addr)) (models_under l.initial.book pool (take l.route-index l.values) word));
+  whole : (netlist : Netlist) (pool : List Node) → AreWhole netlist pool l.initial.book l.initial.out → AreValues netlist pool l.initial.book l.sink.storage l.addr l.sink.on l.values → AreWhole netlist pool l.book l.out;
   known : (size : ℕ) → AreKnown size l.initial.out → l.addr < size → AllExprs size l.values → AreKnown size l.out;
 }

@@ -9,7 +9,7 @@ abbrev pub invariant-loop-id : goal.invariant-loop-id
 invariant-loop-id l = record {
   grows : Extends l.initial.book l.book;
   words : HaveWords l.book l.out;
-  moves : (n word : ℕ) → word < 2 ^ l.initial.book.bits → transfers_under l.book l.pool l.out n word ≡ list_if (nat_lt n l.id && has_word l.initial.book l.controls.legal word) (changes (transfer_at l.checked.netlist word n));
-  whole : AreWhole l.checked.netlist l.pool l.book l.out;
-  known : AreKnown (length l.pool) l.out;
+  moves : (n word : ℕ) → word < 2 ^ l.initial.book.bits → transfers_under l.book l.source.pool.now l.out n word ≡ list_if (nat_lt n l.id && has_word l.initial.book l.source.controls.now.legal word) (changes (transfer_at l.source.checked.now.netlist word n));
+  whole : AreWhole l.source.checked.now.netlist l.source.pool.now l.book l.out;
+  known : AreKnown (length l.source.pool.now) l.out;
 }

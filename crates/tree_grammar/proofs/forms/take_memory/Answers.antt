@@ -9,17 +9,17 @@ returns-in_default-2-clause-at c = λ nodes s old. c.in_ok-x.ensures.at nodes s.
 
 pub returns-in_default-3-clause-at : goal.returns-in_default-3-clause-at
 returns-in_default-3-clause-at c = λ nodes s old.
-    c.in_ok-y.ensures.at nodes (subst (λ n. HoldsSubtrees nodes n (model_of_tree c.args.tree.now)) (sym c.in_ok-after.ensures) s.value) (c.in_ok-x.ensures.at nodes s.address old)
+    c.in_ok-y.ensures.at nodes (subst (λ n. HoldsSubtrees nodes n (model_of_tree c.args.goal.tree.now)) (sym c.in_ok-value_number.ensures) s.value) (c.in_ok-x.ensures.at nodes s.address old)
 
 pub returns-clause-at : goal.returns-clause-at
 returns-clause-at c = λ nodes s old.
-    c.in_ok-y.ensures.at nodes (subst (λ n. HoldsSubtrees nodes n (model_of_tree c.args.tree.now)) (sym c.in_ok-after.ensures) s.value) (c.in_ok-x.ensures.at nodes s.address old)
+    c.in_ok-y.ensures.at nodes (subst (λ n. HoldsSubtrees nodes n (model_of_tree c.args.goal.tree.now)) (sym c.in_ok-value_number.ensures) s.value) (c.in_ok-x.ensures.at nodes s.address old)
 
-pub returns-in_err-after-clause-found : goal.returns-in_err-after-clause-found
-returns-in_err-after-clause-found c = IfOk-from_err c.from_residual.result _ c.from_residual.ensures.0
+pub returns-in_err-value_number-clause-found : goal.returns-in_err-value_number-clause-found
+returns-in_err-value_number-clause-found c = IfOk-from_err c.from_residual.result _ c.from_residual.ensures.0
 
-pub returns-in_err-after-clause-at : goal.returns-in_err-after-clause-at
-returns-in_err-after-clause-at c = IfOk-from_err c.from_residual.result _ c.from_residual.ensures.0
+pub returns-in_err-value_number-clause-at : goal.returns-in_err-value_number-clause-at
+returns-in_err-value_number-clause-at c = IfOk-from_err c.from_residual.result _ c.from_residual.ensures.0
 
 pub returns-in_err-x-clause-found : goal.returns-in_err-x-clause-found
 returns-in_err-x-clause-found c = IfOk-from_err c.from_residual-in_err-x.result _ c.from_residual-in_err-x.ensures.0

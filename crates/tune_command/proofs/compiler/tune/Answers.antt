@@ -1,24 +1,11 @@
 use Rattle.std.proofs.lemmas.Result.{err_from_is_err_and}
-use Rattle.compile_command.proofs.ReadLemmas.{read_few, read_named, read_program, read_rules}
 use Rattle.compile_command.proofs.TaskLemmas.{holds_of_read}
 use Rattle.tune_command.specs.Tuned.{IsTunedCode}
 use Rattle.tune_command.proofs.FaultLemmas.{fault_of_code, fault_of_read}
 use Rattle.tune_command.proofs.compiler.tune.Goals as goal
 
-pub image_for-requires-clause-rules : goal.image_for-requires-clause-rules
-image_for-requires-clause-rules c = read_rules c.args.net.now c.args.src.now c.in_ok-modes.modes c.in_ok-modes.typed c.in_ok-modes.ensures.read
-
-pub image_for-requires-clause-program : goal.image_for-requires-clause-program
-image_for-requires-clause-program c = read_program c.args.net.now c.args.src.now c.in_ok-modes.modes c.in_ok-modes.typed c.in_ok-modes.ensures.read
-
-pub image_for-requires-clause-few : goal.image_for-requires-clause-few
-image_for-requires-clause-few c = read_few c.args.net.now c.args.src.now c.in_ok-modes.modes c.in_ok-modes.typed c.in_ok-modes.ensures.read c.requires.src
-
-pub image_for-requires-clause-named : goal.image_for-requires-clause-named
-image_for-requires-clause-named c = read_named c.args.net.now c.args.src.now c.in_ok-modes.modes c.in_ok-modes.typed c.in_ok-modes.ensures.read
-
 pub text-requires-clause-rules : goal.text-requires-clause-rules
-text-requires-clause-rules c = read_rules c.args.net.now c.args.src.now c.in_ok-modes.modes c.in_ok-modes.typed c.in_ok-modes.ensures.read
+text-requires-clause-rules c = c.in_ok-modes.ensures.checked.rules
 
 pub text-requires-clause-fits : goal.text-requires-clause-fits
 text-requires-clause-fits c = c.in_ok-image.ensures.image.fits

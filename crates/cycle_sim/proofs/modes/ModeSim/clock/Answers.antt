@@ -4,7 +4,7 @@ use Rattle.net_model.specs.Fixed.{mode_in}
 use Rattle.net_model.specs.Widths.{IsState}
 use Rattle.cycle_sim.specs.Clocks.{Clocks}
 use Rattle.cycle_sim.specs.Shown.{Shown}
-use Rattle.cycle_sim.specs.Inner.Moding.{AreSims, shown_by, sim_at, traded}
+use Rattle.cycle_sim.specs.Moding.{AreSims, shown_by, sim_at, traded}
 use Rattle.cycle_sim.proofs.Sims.{IsClocked, clocked_state, next_alike, next_here_alike, read_back, stays, stays_clocks, to_within, trades, trades_clocks, trades_words}
 use Rattle.cycle_sim.proofs.modes.ModeSim.clock.Goals as goal
 use Rattle.cycle_sim.proofs.modes.ModeSim.clock.Goals.{After-clock-clocked, After-mode_of-mode}

@@ -19,8 +19,8 @@ use Rattle.sym_expr.proofs.pool.Pool.intern.Goals as goal
 found : (keys : List Node) (node : Node) (place : ℕ) → (x : Node) × (slice_get keys place ≡ Some x) × (node_eq.eq node x ≡ true) → slice_get keys place ≡ Some node
 found keys node place w = w.1 ∙ ap Some (sym (exact_node node w.0 w.2))
 
-pub returns-in-Some-clause-term : goal.returns-in-Some-clause-term
-returns-in-Some-clause-term c =
+pub returns-in-Some-clause-expr : goal.returns-in-Some-clause-expr
+returns-in-Some-clause-expr c =
     let keys = keys_of c.self.inside.nodes.entries in
     let at = found keys c.args.node c.in-Some.place (position_some (node_eq.eq c.args.node) keys (Word 0) c.in-Some.place (sym c.get_index_of.ensures.index ∙ c.in-Some.is)) in
     rw (← c.self.view_is) (expr_of_id-node keys c.in-Some.place c.args.node at (c.self.invariant.pool.below c.in-Some.place c.args.node at))
@@ -64,5 +64,5 @@ invariant_of-self-2 c =
 pub returns-clause-grows : goal.returns-clause-grows
 returns-clause-grows c = rw (keys c, ← c.self.view_is) (grows_push (keys_of c.self.inside.nodes.entries) c.args.node)
 
-pub returns-clause-term : goal.returns-clause-term
-returns-clause-term c = rw (keys c, ← c.self.view_is) (expr_of_id-push (keys_of c.self.inside.nodes.entries) c.args.node c.in_ok-place.place (place c))
+pub returns-clause-expr : goal.returns-clause-expr
+returns-clause-expr c = rw (keys c, ← c.self.view_is) (expr_of_id-push (keys_of c.self.inside.nodes.entries) c.args.node c.in_ok-place.place (place c))

@@ -17,14 +17,14 @@ within c = subst (λ (l : List Node). c.args.id < length l) (sym c.self.view_is)
 at : (c : goal.After-result-1) → slice_get (keys_of c.self.inside.nodes.entries) c.args.id ≡ Some (slice_index_or (keys_of c.self.inside.nodes.entries) c.args.id (Word 0))
 at c = slice_get-get_or (keys_of c.self.inside.nodes.entries) c.args.id (Word 0) (within c)
 
-term : (c : goal.After-result-1) → expr_of_id (keys_of c.self.inside.nodes.entries) c.args.id ≡ node_expr (slice_index_or (keys_of c.self.inside.nodes.entries) c.args.id (Word 0)) (expr_of_id (keys_of c.self.inside.nodes.entries))
-term c = expr_of_id-node (keys_of c.self.inside.nodes.entries) c.args.id _ (at c) (c.self.invariant.pool.below c.args.id _ (at c))
+expr : (c : goal.After-result-1) → expr_of_id (keys_of c.self.inside.nodes.entries) c.args.id ≡ node_expr (slice_index_or (keys_of c.self.inside.nodes.entries) c.args.id (Word 0)) (expr_of_id (keys_of c.self.inside.nodes.entries))
+expr c = expr_of_id-node (keys_of c.self.inside.nodes.entries) c.args.id _ (at c) (c.self.invariant.pool.below c.args.id _ (at c))
 
-pub returns-clause-term : goal.returns-clause-term
-returns-clause-term c = rw (shown c, ← c.self.view_is) (term c)
+pub returns-clause-expr : goal.returns-clause-expr
+returns-clause-expr c = rw (shown c, ← c.self.view_is) (expr c)
 
 pub returns-clause-below : goal.returns-clause-below
 returns-clause-below c = rw (shown c) (c.self.invariant.pool.below c.args.id _ (at c))
 
 pub returns-clause-fits : goal.returns-clause-fits
-returns-clause-fits c = rw (shown c, ← c.self.view_is) (subst ExprFits (term c) (c.self.invariant.pool.fits c.args.id (within c)))
+returns-clause-fits c = rw (shown c, ← c.self.view_is) (subst ExprFits (expr c) (c.self.invariant.pool.fits c.args.id (within c)))

@@ -10,8 +10,8 @@ join-requires c =
     let rule = c.args.rule.now in
     let trees = c.args.choice.now.classes.items in
     let numbers = c.args.choice.now.numbers.items in
-    let terms = part_exprs (tree_at self trees) (slice_index numbers) rule.parts.now in
+    let exprs = part_exprs (tree_at self trees) (slice_index numbers) rule.parts.now in
     let found = c.in-Some-Some in
     sides_one self rule trees numbers found.from found.to c.requires.law (c.all_hold.ensures c.if-not-all_hold.false)
-    (part_stands self terms c.args.classes.now rule.from found.from c.requires.stand found.ensures.0 found.ensures.1)
-    (part_stands self terms c.args.classes.now rule.to found.to c.requires.stand found.ensures'.0 found.ensures'.1)
+    (part_stands self exprs c.args.classes.now rule.from found.from c.requires.stand found.ensures.0 found.ensures.1)
+    (part_stands self exprs c.args.classes.now rule.to found.to c.requires.stand found.ensures'.0 found.ensures'.1)

@@ -1,0 +1,17 @@
+pub mod SlotLemmas
+pub mod RowLemmas
+pub mod SizeLemmas
+pub mod LowLemmas
+pub mod NodeLemmas
+pub mod LeastLemmas
+pub mod OfferLemmas
+pub mod InputLemmas
+pub mod FewLemmas
+pub mod TableLemmas
+pub mod StartLemmas
+pub mod PartLemmas
+pub mod MatchLemmas
+pub mod FloorLemmas
+pub mod FitLemmas
+pub mod OrderlyLemmas
+pub mod MadeLemmas

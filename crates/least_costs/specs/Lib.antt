@@ -1,0 +1,10 @@
+pub mod Made
+pub mod Subgoals
+pub mod Least
+pub mod Slots
+pub mod Rows
+pub mod Searches
+pub mod Matched
+pub mod Tables
+pub mod Fits
+pub mod Inner

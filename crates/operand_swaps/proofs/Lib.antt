@@ -1,0 +1,3 @@
+pub mod SumSwaps
+pub mod Swapping
+pub mod SwapLaws

@@ -1,0 +1,2 @@
+-- How the code swaps, which no public contract cites.
+pub mod LevelSwaps

@@ -1,8 +1,0 @@
-use Rattle.std.proofs.lemmas.Result.{IfOk-from_err}
-use Rattle.route_trace.proofs.gates.routes_under.Goals as goal
-
-pub returns-in_err-add_all-clause-table : goal.returns-in_err-add_all-clause-table
-returns-in_err-add_all-clause-table c = IfOk-from_err c.from_residual.result _ c.from_residual.ensures.0
-
-pub returns-in_err-add_all-clause-terms : goal.returns-in_err-add_all-clause-terms
-returns-in_err-add_all-clause-terms c = IfOk-from_err c.from_residual.result _ c.from_residual.ensures.0
