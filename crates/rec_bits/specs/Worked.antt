@@ -19,6 +19,9 @@ mul_is_low = refl
 mul_of_64 : apply2_of Mul 64 (2 ^ 63) 3 ≡ 2 ^ 63
 mul_of_64 = refl
 
+mul_past_64 : apply2_of Mul 64 16045690981116495207 65537 ≡ 11357163545046959463
+mul_past_64 = refl
+
 neg_wraps : apply1_of Neg 4 3 ≡ 13
 neg_wraps = refl
 
@@ -93,6 +96,10 @@ range lo hi = record { lo = pos lo; hi = pos hi }
 
 sum_of_ranges : sums_of (range 1 3) (range 10 20) ≡ Some (range 11 23)
 sum_of_ranges = refl
+
+sum_of_bytes : sums_of (record { lo = negsuc 127; hi = pos 127 }) (record { lo = negsuc 127; hi = pos 127 })
+    ≡ Some (record { lo = negsuc 255; hi = pos 254 })
+sum_of_bytes = refl
 
 difference_of_ranges : differences_of (range 1 3) (range 0 20) ≡ Some (record { lo = negsuc 18; hi = pos 3 })
 difference_of_ranges = refl

@@ -16,9 +16,8 @@
 //! - `ranges`: ranges of whole numbers.
 //! - `least`: the lesser of two offsets that may be absent, by which the first fault of a rule is
 //!   found.
-//! - `tests`: what lists, texts of faults and 64-bit operators give.
 //! - `specs/`: `Operators`, `Ranges`, `Faults` and `Counts` are cited by public contracts, here and
-//!   above; `Worked` has operators at small values, computed.
+//!   above; `Worked` has operators and ranges at worked values, computed.
 //! - `proofs/`: laws of these that many crates use: ends of ranges, widths of results, masks, lists
 //!   that grow, and tests of two parts.
 #![tactic(auto)]
@@ -28,8 +27,6 @@ mod least;
 mod list;
 mod operator;
 mod ranges;
-#[cfg(test)]
-mod tests;
 
 pub use fault::{NoMemory, ParseFault};
 pub use least::{lesser_offset, offset_if};

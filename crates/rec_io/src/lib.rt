@@ -19,7 +19,6 @@
 //! - `sink`: the trait `Sink`, its fault, and `put_all`.
 //! - `mem_shelf`: files in memory, some of whose fetches fail.
 //! - `mem_sink`: an output in memory with a greatest piece, a room, and puts that fail.
-//! - `tests`: that the fakes answer where memory is ample, and where `put_all` stops.
 //! - `specs/`: all files are cited by public contracts: `Causes` (counts of faults), `Files`,
 //!   `Shelf`, `Sink`, `Written`, and for the fakes `MemShelf` and `MemSink`.
 //! - `proofs/`: `WrittenLemmas` carries `put_all`; `Examples` has the definitions at small values.
@@ -29,8 +28,6 @@ mod mem_shelf;
 mod mem_sink;
 mod shelf;
 mod sink;
-#[cfg(test)]
-mod tests;
 
 pub use mem_shelf::MemShelf;
 pub use mem_sink::MemSink;

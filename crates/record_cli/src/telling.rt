@@ -1,38 +1,11 @@
 //! What is told on standard error, for somebody who reads it. No fault of it changes anything.
 
-use fault_places::{FORMS, note, offset_in, reason_of, spot_of};
+use fault_places::told_of;
 use rec_io::Shelf;
 use record_core::Status;
 use std::alloc::Global;
 
-// The most bytes of a file that is shown from.
-const FILE_LIMIT: u64 = 1_048_576;
-
-// The name of the file at this place among those that the words name. `make` names none.
-fn file_name(words: &[String], file: usize) -> Option<&str> {
-    match words {
-        [command, names @ ..] if command.as_str() != "make" => Some(names.get(file)?.as_str()),
-        _ => None,
-    }
-}
-
-// What is shown of the place that a status tells of. None where it tells of none, and where the
-// file can't be read again.
-fn note_of<F: Shelf>(
-    alloc: Global,
-    shelf: &mut F,
-    words: &[String],
-    status: Status,
-) -> Option<Vec<u8>> {
-    let (file, spot) = spot_of(status)?;
-    let name = file_name(words, file)?;
-    let text = shelf.fetch(alloc, name, FILE_LIMIT).ok()?;
-    let at = offset_in(alloc, &text, spot).ok()??;
-    note(alloc, name, &text, at, reason_of(status)).ok()
-}
-
-/// Tells of a call with these words that ended so: the forms of words where they have none, and the
-/// place in a file that a refusal is about.
+/// Tells of a call with these words that ended so, where there is something to tell.
 pub fn tell<F: Shelf, P: Print>(
     alloc: Global,
     shelf: &mut F,
@@ -40,9 +13,7 @@ pub fn tell<F: Shelf, P: Print>(
     status: Status,
     to: &P,
 ) {
-    if status == Status::Usage {
-        let _ = to.write_all(FORMS.as_bytes());
-    } else if let Some(note) = note_of(alloc, shelf, words, status) {
-        let _ = to.write_all(&note);
+    if let Some(text) = told_of(alloc, shelf, words, status) {
+        let _ = to.write_all(&text);
     }
 }

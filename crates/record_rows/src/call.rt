@@ -2,6 +2,7 @@
 
 use crate::fault::Fault;
 use crate::row::number;
+use fault_places::told_of;
 use rec_io::{MemShelf, MemSink};
 use record_core::record_call;
 use row_texts::put;
@@ -21,6 +22,7 @@ pub struct Call {
     step: usize,
     room: usize,
     ends: Option<usize>,
+    tells: bool,
 }
 
 impl Call {
@@ -35,6 +37,7 @@ impl Call {
             step: ROOM,
             room: ROOM,
             ends: None,
+            tells: false,
         })
     }
 
@@ -97,6 +100,7 @@ impl Call {
             "room" => self.room = number(rest)? as usize,
             "ends" => self.ends = Some(number(rest)? as usize),
             "fail" => self.fail(rest)?,
+            "told" => self.tells = true,
             _ => return Err(Fault::Line),
         }
         Ok(())
@@ -111,7 +115,8 @@ impl Call {
         Ok(())
     }
 
-    /// Makes the call. The text has the row's name, what the sink took, and the status.
+    /// Makes the call. The text has the row's name, what the sink took, what is told of it where
+    /// the row asks for that, and the status.
     pub fn found(self, alloc: Global) -> Result<String, Fault> {
         let Call {
             name,
@@ -122,35 +127,44 @@ impl Call {
             step,
             room,
             ends,
+            tells,
         } = self;
         let mut sink = MemSink::new(alloc, step.max(1), room, put_fails)?;
         let mut shelf = MemShelf::new(files, fetch_fails);
         let status = record_call(alloc, &words, &mut shelf, &mut sink);
+        let note = if tells {
+            told_of(alloc, &mut shelf, &words, status)
+        } else {
+            None
+        };
         drop(words);
         drop(shelf);
-        Ok(answer(alloc, &name, sink.bytes(), ends, status.code())?)
+        let mut text = answer(alloc, &name, sink.bytes(), ends)?;
+        if let Some(bytes) = note {
+            put_text(&mut text, String::from_utf8_lossy(alloc, &bytes)?.as_str())?;
+        }
+        put_status(&mut text, status.code())?;
+        Ok(text)
     }
 }
 
-// The lines that tell of a call: all that the sink took, or so many lines of both ends.
+// The lines for all that a sink took, or for so many lines of both ends.
 fn answer(
     alloc: Global,
     name: &str,
     bytes: &[u8],
     ends: Option<usize>,
-    code: u8,
 ) -> Result<String, AllocError> {
     let taken = String::from_utf8_lossy(alloc, bytes)?;
-    told(alloc, name, taken.as_str(), ends, code)
+    headed(alloc, name, taken.as_str(), ends)
 }
 
-// The lines that tell of a call.
-fn told(
+// The row's name, and the lines of a text below it.
+fn headed(
     alloc: Global,
     name: &str,
     text: &str,
     ends: Option<usize>,
-    code: u8,
 ) -> Result<String, AllocError> {
     let mut told = String::from_str(alloc, "row ")?;
     put_name(&mut told, name)?;
@@ -158,7 +172,6 @@ fn told(
         None => put_text(&mut told, text)?,
         Some(count) => put_ends(&mut told, text, count)?,
     }
-    put_status(&mut told, code)?;
     Ok(told)
 }
 

@@ -16,6 +16,7 @@
 //! step N            a put takes at most N bytes
 //! room N            all puts together take at most N bytes
 //! ends N            only the first N lines and the last N are printed
+//! told              what is told of a refusal is printed, too
 //! run
 //! ```
 //!

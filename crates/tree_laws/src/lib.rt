@@ -46,8 +46,6 @@
 mod classes;
 mod laws;
 mod rules;
-#[cfg(test)]
-mod tests;
 mod trees;
 
 pub use classes::{Class, Classes};
