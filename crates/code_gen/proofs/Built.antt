@@ -17,7 +17,7 @@ use Rattle.code_model.specs.declared.image.Places.{Places}
 use Rattle.code_model.specs.declared.image.Word.{Word}
 use Rattle.code_model.specs.ImageFits.{CostFits, IsFitting, PlaceFits, limits_of}
 use Rattle.code_model.specs.Places.{words_of}
-use Rattle.block_words.specs.Laws.{operation_in}
+use Rattle.compaction.specs.Laws.{operation_in}
 use Rattle.form_model.specs.Covers.{StockModel}
 use Rattle.form_model.specs.Live.{Regs, regs_of}
 use Rattle.form_model.specs.Forms.{FormModel, models_of_forms}

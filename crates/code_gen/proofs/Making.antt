@@ -10,7 +10,7 @@ use Rattle.form_model.specs.declared.flow.Flow.{Flow}
 use Rattle.form_model.specs.declared.flow.Flow.TheVariants.{Assign, Test as Tested, Jump as Jumped, End as Ended}
 use Rattle.src_trees.specs.Blocks.{IsAssignBlock, continues, jobs_at}
 use Rattle.src_trees.specs.Lowered.{JobModel}
-use Rattle.block_words.specs.Laws.{operation_in}
+use Rattle.compaction.specs.Laws.{operation_in}
 use Rattle.branch_fix.specs.declared.outline.Branch.{Branch}
 use Rattle.branch_fix.specs.declared.laid.Item.{Item}
 use Rattle.branch_fix.specs.declared.laid.Item.TheVariants.{Group, Jump as Turn}

@@ -10,8 +10,8 @@ use Rattle.transfer_set.specs.declared.machine.Machine.{Machine}
 use Rattle.transfer_set.specs.Machines.{machine_netlist, machine_patterns}
 use Rattle.word_fit.specs.Fits.{fits_over}
 use Rattle.word_fit.specs.Groups.{AllHaveWords}
-use Rattle.block_words.specs.Laws.{operation_in}
-use Rattle.block_words.specs.Words.{HaveWords}
+use Rattle.compaction.specs.Laws.{operation_in}
+use Rattle.compaction.specs.Words.{HaveWords}
 use Rattle.code_model.specs.declared.image.Word.{Word}
 use Rattle.code_model.specs.ImageFits.{AscendFrom}
 use Rattle.form_model.specs.declared.forms.Step.{Step}

@@ -15,8 +15,8 @@ use Rattle.form_model.specs.Steps.{branch_setting, cover_steps}
 use Rattle.form_model.specs.declared.flow.Flow.{Flow}
 use Rattle.form_model.specs.declared.forms.Forms.{Forms}
 use Rattle.form_model.specs.declared.forms.Step.{Step}
-use Rattle.block_words.specs.Laws.{operation_in}
-use Rattle.block_words.specs.Words.{HaveWords}
+use Rattle.compaction.specs.Laws.{operation_in}
+use Rattle.compaction.specs.Words.{HaveWords}
 use Rattle.compaction.specs.Lists.{EachHasPatternsOnce, HasPatternsOnce}
 use Rattle.compaction.specs.Tables.{KnowsReads}
 use Rattle.emit_seq.specs.Emits.{IsEmitted, branch_of}

@@ -9,7 +9,7 @@ ghost use Rattle.form_model.specs.Live.{regs_of, singles};
 ghost use Rattle.form_model.specs.Forms.{FormModel, models_of_forms};
 ghost use Rattle.live_sets.specs.Listed.{AreListed};
 ghost use Rattle.compaction.specs.Tables.{KnowsReads};
-ghost use Rattle.block_words.specs.Words.{HaveWords};
+ghost use Rattle.compaction.specs.Words.{HaveWords};
 ghost use Rattle.src_trees.specs.Blocks.{continues, is_assign};
 ghost use Rattle.src_trees.specs.Jobs.{model_of_job};
 ghost use Rattle.transfer_set.specs.Machines.{IsReadyFor};

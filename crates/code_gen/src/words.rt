@@ -3,7 +3,7 @@
 ghost use Rattle.std.specs.Prelude.{◌≡◌, ℕ, [], IfOk, slice_index};
 ghost use Rattle.std.specs.List.{AllByRecursion, slice_index_or};
 ghost use Rattle.bit_bdd.specs.Diagrams.{Extends};
-ghost use Rattle.block_words.specs.Laws.{operation_in};
+ghost use Rattle.compaction.specs.Laws.{operation_in};
 ghost use Rattle.form_model.specs.Live.{regs_of};
 ghost use Rattle.transfer_set.specs.Machines.{IsReadyFor};
 ghost use Rattle.word_fit.specs.Fits.{FitsTurning, IsLeastFit};

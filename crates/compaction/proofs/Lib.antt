@@ -15,3 +15,4 @@ pub mod Choice
 pub mod WorkedPacking
 pub mod Found
 pub mod Listed
+pub mod Worded

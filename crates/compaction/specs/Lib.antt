@@ -3,6 +3,9 @@ pub mod Meant
 pub mod Chosen
 pub mod Lists
 pub mod Machines
+pub mod Words
+pub mod Formed
+pub mod Laws
 pub mod Tables
 pub mod Worked
 pub mod Inner

@@ -13,12 +13,12 @@ use Rattle.compaction.specs.declared.machine.KnownMachine.{KnownMachine}
 -- ---- a machine of which it is known what its expressions read
 
 -- what its steps do
-abbrev pub operation_in : KnownMachine → Step → Operation
-operation_in known = machine_operation known.machine
+abbrev pub known_operation : KnownMachine → Step → Operation
+known_operation known = machine_operation known.machine
 
 -- which words fit a group of them
-abbrev pub fits_in : KnownMachine → ℕ → List Step → Regs → Type 0
-fits_in known = machine_fits known.machine
+abbrev pub known_fits : KnownMachine → ℕ → List Step → Regs → Type 0
+known_fits known = machine_fits known.machine
 
 -- ---- the result
 

@@ -6,7 +6,7 @@ ghost use Rattle.form_model.specs.declared.forms.Step.{Step as TheStep};
 ghost use Rattle.form_model.specs.Live.{regs_of};
 ghost use Rattle.word_fit.specs.Fits.{IsLeastFit};
 ghost use Rattle.transfer_set.specs.Machines.{IsReadyFor};
-ghost use Rattle.compaction.specs.Machines.{fits_in, operation_in};
+ghost use Rattle.compaction.specs.Machines.{known_fits, known_operation};
 ghost use Rattle.compaction.specs.Inner.Machines.{AreWordsOf, CanMerge, CanMove, Changes, HasTables, HasWord, IsFitted, IsPairFitted, Moves};
 ghost use Rattle.compaction.specs.Packing.{IsFree};
 
@@ -64,7 +64,7 @@ fn word_in(
     ensures ready { IsReadyFor known.now.machine book.new }
     ensures word { IfOk result (λ found. MatchOption found
         (HasWord known.now group.now (regs_of live) → ⊥)
-        (IsLeastFit (λ word. fits_in known.now word group.now (regs_of live)))) }
+        (IsLeastFit (λ word. known_fits known.now word group.now (regs_of live)))) }
 {
     word_for(alloc, &known.machine, book, group, live)
 }
@@ -110,8 +110,8 @@ fn is_free(
 ) -> Result<bool, NoMemory>
     requires { HasTables known.now }
     ensures { IfOk result (λ free. MatchBool free
-        (IsFree (operation_in known.now) first.now parted.entry.step (parted.entry.front.now ++ parted.entry.back.now))
-        (IsFree (operation_in known.now) first.now parted.entry.step (parted.entry.front.now ++ parted.entry.back.now) → ⊥)) }
+        (IsFree (known_operation known.now) first.now parted.entry.step (parted.entry.front.now ++ parted.entry.back.now))
+        (IsFree (known_operation known.now) first.now parted.entry.step (parted.entry.front.now ++ parted.entry.back.now) → ⊥)) }
 {
     let Parted { front, step, back } = parted;
     if front.is_empty() && back.is_empty() {

@@ -3,7 +3,7 @@
 ghost use Rattle.std.specs.Prelude.{◌≡◌, ◌++◌, IfOk};
 ghost use Rattle.form_model.specs.Effects.{location_of, reads};
 ghost use Rattle.compaction.specs.Packing.{all_differ, is_read_by, reads_across, reads_from, shares_destination};
-ghost use Rattle.compaction.specs.Machines.{operation_in};
+ghost use Rattle.compaction.specs.Machines.{known_operation};
 ghost use Rattle.compaction.specs.Inner.Machines.{HasTables};
 
 use crate::machine::{KnownMachine, reads_memory};
@@ -22,7 +22,7 @@ fn touches(
 ) -> Result<bool, NoMemory>
     requires { HasTables known.now }
     ensures { IfOk result (λ read. read
-        ≡ reads (operation_in known.now reader) (location_of (operation_in known.now writer))) }
+        ≡ reads (known_operation known.now reader) (location_of (known_operation known.now writer))) }
 {
     if stores_cells(known.machine.patterns, writer) && !reads_memory(known, reader) {
         return Ok(false);
@@ -39,7 +39,7 @@ pub(crate) fn reads_from(
 ) -> Result<bool, NoMemory>
     requires { HasTables known.now }
     ensures { IfOk result (λ read.
-        read ≡ reads_from (operation_in known.now) (operation_in known.now step) group.now) }
+        read ≡ reads_from (known_operation known.now) (known_operation known.now step) group.now) }
 {
     match group {
         [] => Ok(false),
@@ -61,7 +61,7 @@ pub(crate) fn reads_across(
     readers: &[Step],
 ) -> Result<bool, NoMemory>
     requires { HasTables known.now }
-    ensures { IfOk result (λ read. read ≡ reads_across (operation_in known.now) group.now readers.now) }
+    ensures { IfOk result (λ read. read ≡ reads_across (known_operation known.now) group.now readers.now) }
 {
     match readers {
         [] => Ok(false),
@@ -84,7 +84,7 @@ fn is_read_by(
 ) -> Result<bool, NoMemory>
     requires { HasTables known.now }
     ensures { IfOk result (λ read.
-        read ≡ is_read_by (operation_in known.now) (operation_in known.now step) group.now) }
+        read ≡ is_read_by (known_operation known.now) (known_operation known.now step) group.now) }
 {
     match group {
         [] => Ok(false),
@@ -108,7 +108,7 @@ pub(crate) fn is_read_by_either(
 ) -> Result<bool, NoMemory>
     requires { HasTables known.now }
     ensures { IfOk result (λ read. read
-        ≡ is_read_by (operation_in known.now) (operation_in known.now step) (first.now ++ second.now)) }
+        ≡ is_read_by (known_operation known.now) (known_operation known.now step) (first.now ++ second.now)) }
 {
     let in_first = is_read_by(alloc, known, step, first)?;
     let in_second = is_read_by(alloc, known, step, second)?;
@@ -118,7 +118,7 @@ pub(crate) fn is_read_by_either(
 /// Whether a step of the group has the step's destination.
 pub(crate) fn shares_destination(known: &KnownMachine<'_>, step: Step, group: &[Step]) -> bool
     requires { HasTables known.now }
-    ensures { result ≡ shares_destination (operation_in known.now) (operation_in known.now step) group.now }
+    ensures { result ≡ shares_destination (known_operation known.now) (known_operation known.now step) group.now }
 {
     match group {
         [] => false,
@@ -132,7 +132,7 @@ pub(crate) fn shares_destination(known: &KnownMachine<'_>, step: Step, group: &[
 fn shares_either(known: &KnownMachine<'_>, step: Step, first: &[Step], second: &[Step]) -> bool
     requires { HasTables known.now }
     ensures { result
-        ≡ shares_destination (operation_in known.now) (operation_in known.now step) (first.now ++ second.now) }
+        ≡ shares_destination (known_operation known.now) (known_operation known.now step) (first.now ++ second.now) }
 {
     shares_destination(known, step, first) || shares_destination(known, step, second)
 }
@@ -140,7 +140,7 @@ fn shares_either(known: &KnownMachine<'_>, step: Step, first: &[Step], second: &
 /// Whether the destinations of two groups all differ.
 pub(crate) fn all_differ(known: &KnownMachine<'_>, first: &[Step], second: &[Step]) -> bool
     requires { HasTables known.now }
-    ensures { result ≡ all_differ (operation_in known.now) (first.now ++ second.now) }
+    ensures { result ≡ all_differ (known_operation known.now) (first.now ++ second.now) }
 {
     match first {
         [] => differ(known, second),
@@ -153,7 +153,7 @@ pub(crate) fn all_differ(known: &KnownMachine<'_>, first: &[Step], second: &[Ste
 // Whether the destinations of a group all differ.
 fn differ(known: &KnownMachine<'_>, group: &[Step]) -> bool
     requires { HasTables known.now }
-    ensures { result ≡ all_differ (operation_in known.now) group.now }
+    ensures { result ≡ all_differ (known_operation known.now) group.now }
 {
     match group {
         [] => true,

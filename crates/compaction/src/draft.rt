@@ -3,7 +3,7 @@
 ghost use Rattle.std.specs.Prelude.{◌≡◌, map, replicate, IfOk, None};
 ghost use Rattle.form_model.specs.Live.{regs_of, singles};
 ghost use Rattle.word_fit.specs.Groups.{lives_of};
-ghost use Rattle.compaction.specs.Machines.{operation_in};
+ghost use Rattle.compaction.specs.Machines.{known_operation};
 ghost use Rattle.compaction.specs.Inner.Machines.{HasTables, IsDraft, PackedTo};
 
 use crate::copies::singles;
@@ -33,7 +33,7 @@ fn live_behind(
 ) -> Result<Vec<RegSet>, NoMemory>
     requires { HasTables known.now }
     ensures { IfOk result (λ lives.
-        map regs_of lives.items ≡ lives_of (operation_in known.now) groups.now (regs_of after)) }
+        map regs_of lives.items ≡ lives_of (known_operation known.now) groups.now (regs_of after)) }
 {
     let lives = live_with(alloc, &known.machine, known.registers, groups, after)?;
     Ok(lives.into_vec())

@@ -1,4 +1,5 @@
-//! Packing of a block's steps into groups, each of which one word does at one clock edge.
+//! Packing of a block's steps into groups, each of which one word does at one clock edge, and the
+//! least words of groups.
 //!
 //! Promise: `pack` gives groups that hold the steps, each as often (`steps`), with differing
 //! destinations and patterns (`differ`, `once`), each with a word that fits it (`words`); any words
@@ -7,7 +8,11 @@
 //! is, is settled (`chosen`: `IsWritten`, `law_of_choice`). `pack_with` gives each of the same
 //! groups with its word, the least that fits it (`least`: `AreLeast`), by a `KnownMachine`, of
 //! which it is known what its expressions read; `tables_of` tells that once for all blocks
-//! (`AreTables`). `pattern_list` gives the numbers of a group's patterns, ascending.
+//! (`AreTables`). `pattern_list` gives the numbers of a group's patterns, ascending. `least_word`
+//! gives for a group that has a word the least that fits it with the registers that are live behind
+//! it (`IsLeastFit`). `law_of_forms`: steps of plain forms whose clobbers spare what is still needed
+//! have words that fit, one step in each group (`StepsHaveWords`); `law_of_jumps`: a jump or branch
+//! has a word for every setting (`JumpsHaveWords`).
 //!
 //! Invariant: before each turn of `settled` the pairs before the current one are settled, `lives`
 //! has the registers that are live behind each group, and `found` the words that changes were made
@@ -30,13 +35,16 @@
 //! - `draft`: the groups of a block while they are packed, with what is known of each.
 //! - `packer`: from pair to pair, `pack_with` and `pack`.
 //! - `words`: the words of the groups, of which those that were found are taken over.
+//! - `least_words`: the least word of a group.
 //! - `list`: the list of a word's patterns.
-//! - `laws`: `law_of_choice`.
+//! - `laws`, `word_laws`: `law_of_choice`; `law_of_forms` and `law_of_jumps`.
 //! - `specs/`, cited by public contracts: `Packing` (what may be merged or moved), `Meant`,
-//!   `Chosen`, `Lists`, `Machines`, `Tables`; `Worked` is computed. `specs/Inner/`: `Machines`,
+//!   `Chosen`, `Lists`, `Machines`, `Tables`, `Words` (groups that have words, by a machine),
+//!   `Formed`, `Laws`; `Worked` is computed. `specs/Inner/`: `Machines`,
 //!   `Turns` and `Found`, which go with the packer.
 //! - `proofs/`: `Effects`, `Leaving`, `Lives` for one change, `Turns`, `Packed` and `Found` for the
-//!   loop, `Listed` for the list of words, `Meaning`, `Choice`, `Ascending`, `Patterns`.
+//!   loop, `Listed` for the list of words, `Meaning`, `Choice`, `Ascending`, `Patterns`; `Worded`
+//!   for the laws of words.
 #![tactic(auto)]
 
 mod change;
@@ -44,14 +52,18 @@ mod copies;
 mod depends;
 mod draft;
 mod laws;
+mod least_words;
 mod list;
 mod machine;
 mod packer;
 mod tables;
+mod word_laws;
 mod words;
 
 pub use laws::law_of_choice;
+pub use least_words::least_word;
 pub use list::pattern_list;
 pub use machine::KnownMachine;
 pub use packer::{PackedBlock, pack, pack_with};
 pub use tables::{Tables, tables_of};
+pub use word_laws::{law_of_forms, law_of_jumps};

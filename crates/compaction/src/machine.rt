@@ -2,7 +2,7 @@
 
 ghost use Rattle.std.specs.Prelude.{◌≡◌};
 ghost use Rattle.net_model.specs.Occurs.{transfer_has_read};
-ghost use Rattle.compaction.specs.Machines.{operation_in};
+ghost use Rattle.compaction.specs.Machines.{known_operation};
 ghost use Rattle.compaction.specs.Inner.Machines.{HasTables};
 
 use form_model::{RegSet, Step};
@@ -22,7 +22,7 @@ pub struct KnownMachine<'a> {
 /// Whether a step reads the memory or the file.
 pub(crate) fn reads_memory(known: &KnownMachine<'_>, step: Step) -> bool
     requires { HasTables known.now }
-    ensures { result ≡ transfer_has_read (operation_in known.now step).move }
+    ensures { result ≡ transfer_has_read (known_operation known.now step).move }
 {
     match known.machine.patterns.expr_of(step.pattern) {
         None => false,

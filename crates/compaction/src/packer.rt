@@ -5,11 +5,11 @@ ghost use Rattle.bit_bdd.specs.Diagrams.{Extends};
 ghost use Rattle.form_model.specs.Live.{Regs, regs_of, singles};
 ghost use Rattle.word_fit.specs.Groups.{AllHaveWords, AreLeast};
 ghost use Rattle.word_fit.specs.Machines.{machine_operation};
-ghost use Rattle.block_words.specs.Words.{HaveWords};
+ghost use Rattle.compaction.specs.Words.{HaveWords};
 ghost use Rattle.compaction.specs.Chosen.{Packs};
 ghost use Rattle.compaction.specs.Lists.{EachHasPatternsOnce};
 ghost use Rattle.transfer_set.specs.Machines.{IsReadyFor, machine_netlist};
-ghost use Rattle.compaction.specs.Machines.{ArePacked, IsWritten, fits_in, operation_in};
+ghost use Rattle.compaction.specs.Machines.{ArePacked, IsWritten, known_fits, known_operation};
 ghost use Rattle.compaction.specs.Inner.Machines.{HasTables, IsDraft, PackedTo, Packing, Turns};
 ghost use Rattle.compaction.specs.Meant.{MeansSteps};
 ghost use Rattle.compaction.specs.Packing.{EachDiffers, IsPacked, all_steps};
@@ -131,8 +131,8 @@ fn packed(
     ensures ready { IsReadyFor known.now.machine book.new }
     ensures packing { IfOk result (λ block.
         Packing known.now (regs_of after) (singles steps.now) block.groups) }
-    ensures least { IfOk result (λ block. AreLeast (operation_in known.now)
-        (fits_in known.now) block.words block.groups (regs_of after)) }
+    ensures least { IfOk result (λ block. AreLeast (known_operation known.now)
+        (known_fits known.now) block.words block.groups (regs_of after)) }
 {
     let draft = settled(alloc, known, book, steps, after)?;
     let words = group_words(alloc, known, book, &draft)?;
@@ -147,7 +147,7 @@ fn packed(
 /// live behind the block: bit `r` stands for the register of number `r`. From the front two
 /// neighbours are merged where they may be, or else the first movable step of the second moves to
 /// the first; after a change it goes on one group back. Each step has to have a word of its own
-/// that fits it, as `law_of_forms` of `block_words` says of the steps of forms. The book grows, and
+/// that fits it, as `law_of_forms` says of the steps of forms. The book grows, and
 /// what it held means what it meant. Want of memory is the only refusal.
 pub fn pack_with(
     alloc: Global,
@@ -158,28 +158,28 @@ pub fn pack_with(
 ) -> Result<PackedBlock, NoMemory>
     requires ready { IsReadyFor known.now.machine book.old }
     requires tables { KnowsReads known.now }
-    requires words { AllHaveWords (operation_in known.now) (fits_in known.now) (singles steps.now) (regs_of after) }
+    requires words { AllHaveWords (known_operation known.now) (known_fits known.now) (singles steps.now) (regs_of after) }
     ensures grows { Extends book.old book.new }
     ensures ready { IsReadyFor known.now.machine book.new }
 
     // the groups hold the same steps, each as often, and each group has differing destinations, and
     // so differing patterns
     ensures steps { IfOk result (λ block. IsPermutation steps.now (all_steps block.groups)) }
-    ensures differ { IfOk result (λ block. EachDiffers (operation_in known.now) block.groups) }
+    ensures differ { IfOk result (λ block. EachDiffers (known_operation known.now) block.groups) }
     ensures once { IfOk result (λ block. EachHasPatternsOnce block.groups) }
 
     // each has a word that fits it, and comes with the least
     ensures words { IfOk result (λ block.
-        AllHaveWords (operation_in known.now) (fits_in known.now) block.groups (regs_of after)) }
-    ensures least { IfOk result (λ block. AreLeast (operation_in known.now)
-        (fits_in known.now) block.words block.groups (regs_of after)) }
+        AllHaveWords (known_operation known.now) (known_fits known.now) block.groups (regs_of after)) }
+    ensures least { IfOk result (λ block. AreLeast (known_operation known.now)
+        (known_fits known.now) block.words block.groups (regs_of after)) }
 
     ensures meaning { IfOk result (λ block. MeansSteps known.now.machine.checked.now.netlist
-        (operation_in known.now) (regs_of after) steps.now block.groups) }
+        (known_operation known.now) (regs_of after) steps.now block.groups) }
     ensures packed { IfOk result (λ block.
-        IsPacked (operation_in known.now) (fits_in known.now) (regs_of after) block.groups) }
-    ensures chosen { IfOk result (λ block. Packs (operation_in known.now)
-        (fits_in known.now) (regs_of after) 0 (singles steps.now) block.groups) }
+        IsPacked (known_operation known.now) (known_fits known.now) (regs_of after) block.groups) }
+    ensures chosen { IfOk result (λ block. Packs (known_operation known.now)
+        (known_fits known.now) (regs_of after) 0 (singles steps.now) block.groups) }
 {
     // the netlist is read for what it keeps
     let _netlist = known.machine.checked.netlist();

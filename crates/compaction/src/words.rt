@@ -6,13 +6,13 @@ ghost use Rattle.form_model.specs.Live.{Regs, regs_of};
 ghost use Rattle.word_fit.specs.Fits.{IsLeastFit};
 ghost use Rattle.word_fit.specs.Groups.{AreLeast};
 ghost use Rattle.transfer_set.specs.Machines.{IsReadyFor};
-ghost use Rattle.compaction.specs.Machines.{fits_in, operation_in};
+ghost use Rattle.compaction.specs.Machines.{known_fits, known_operation};
 ghost use Rattle.compaction.specs.Inner.Machines.{HasWord, IsDraft};
 
 use crate::draft::Draft;
+use crate::least_words::least_word;
 use crate::machine::KnownMachine;
 use bit_bdd::Book;
-use block_words::least_word;
 use form_model::{RegSet, Step};
 use rec_bits::{Items, NoMemory};
 use std::alloc::Global;
@@ -28,10 +28,10 @@ fn word_of(
 ) -> Result<u64, NoMemory>
     requires ready { IsReadyFor known.now.machine book.old }
     requires word { HasWord known.now group.now (regs_of live) }
-    requires found { IfSome found (IsLeastFit (λ word. fits_in known.now word group.now (regs_of live))) }
+    requires found { IfSome found (IsLeastFit (λ word. known_fits known.now word group.now (regs_of live))) }
     ensures grows { Extends book.old book.new }
     ensures ready { IsReadyFor known.now.machine book.new }
-    ensures least { IfOk result (IsLeastFit (λ word. fits_in known.now word group.now (regs_of live))) }
+    ensures least { IfOk result (IsLeastFit (λ word. known_fits known.now word group.now (regs_of live))) }
 {
     match found {
         Some(word) => Ok(word),
@@ -51,7 +51,7 @@ pub(crate) fn group_words(
     ensures grows { Extends book.old book.new }
     ensures ready { IsReadyFor known.now.machine book.new }
     ensures least { IfOk result (λ words. (after : Regs) → IsDraft known.now after 0 draft.now →
-        AreLeast (operation_in known.now) (fits_in known.now) words draft.now.groups.items after) }
+        AreLeast (known_operation known.now) (known_fits known.now) words draft.now.groups.items after) }
 {
     let groups = draft.groups.as_slice();
     let lives = draft.lives.as_slice();

@@ -1,5 +1,6 @@
 //! The rules N5 to N9 and N14 of a netlist: it is accepted with an order of its nets, or refused
-//! with the first rule that it breaks.
+//! with the first rule that it breaks; what a netlist with a mode register is in each of its modes,
+//! and the rules there.
 //!
 //! Promise: `check` accepts a netlist that keeps N1 to N4 and N11 (`IsWellFormed`) as it is, with
 //! an order of its nets in which it keeps every rule, or refuses it with the first of N5 to N9 and
@@ -7,7 +8,11 @@
 //! `KeepsRules`) and refuses exactly where one is broken (`refused`: `FaultOf`), but for want of
 //! memory. `check_modes` does the same of what a netlist is in each of its modes
 //! (`AreModesOfNetlist`, `KeepsModes`, `ModeFaultOf`), where each rule is tried in all modes before
-//! the next.
+//! the next. In a mode a netlist is one of its own, in which the register's output is a constant
+//! (`net_model/specs/Fixed`: `in_mode`); while the mode register holds a number, a clock of the
+//! netlist is one of what it is in the mode of that number (`net_model::law_of_modes`), which has no
+//! mode and is of the first edition. So each stage behind the check takes the netlist of a mode and
+//! knows of no mode.
 //!
 //! Invariant: the walk that orders the nets keeps its own path, of which each open net names the
 //! next, and every placed net stands behind all that it names (`specs/Inner/Walk`). The search for
@@ -24,6 +29,7 @@
 //!   edition.
 //! - `control`: N7 to N9, on the nets in control places, and N14, on the addresses of a file.
 //! - `rules`: the rules in their order, and `check`.
+//! - `fixing`: the netlist of a mode, and how many modes there are.
 //! - `modes`: `check_modes`.
 //! - `specs/Inner/`: `Walk`, `Components`, `Graphs`, `Roles` and `Control`, which go with the
 //!   loops. Public contracts cite no file here, since the rules are `net_model/specs/CheckedRules`
@@ -34,6 +40,7 @@
 
 mod control;
 mod cycle;
+mod fixing;
 mod graph;
 mod modes;
 mod role;

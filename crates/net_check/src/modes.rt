@@ -7,9 +7,9 @@ ghost use Rattle.net_model.specs.CheckedRules.{IsWellFormed};
 ghost use Rattle.net_model.specs.ModeRules.{AcceptsModes, AreModesOfNetlist, KeepsModes, ModeFaultOf, RefusesModes};
 ghost use Rattle.net_model.specs.NetFaults.{IsFaultOrMemory};
 
+use crate::fixing::{fixed, modes_in};
 use crate::rules::check;
 use net_model::{CheckFault, Checked, Modes, Netlist};
-use net_modes::{fixed, modes_in};
 use rec_bits::Items;
 use std::alloc::Global;
 

@@ -22,7 +22,7 @@ use Rattle.std.proofs.lemmas.Bool.{and_from}
 use Rattle.form_model.specs.Shapes.{Sum, field_setting, less_by, plain_setting, shape_setting, sum_of, sum_setting, sum_with, summands}
 use Rattle.form_model.proofs.SumNumbers.{sum_is_with}
 use Rattle.form_model.specs.Forms.{FormModel, TargetModel}
-use Rattle.block_words.specs.Laws.{operation_in}
+use Rattle.compaction.specs.Laws.{operation_in}
 use Rattle.form_model.specs.Effects.{space_in, operation_or_none}
 use Rattle.word_fit.specs.Fits.{FitsJump}
 use Rattle.net_model.proofs.Masks.{masked_self, both_left, both_right}

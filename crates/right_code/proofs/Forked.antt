@@ -16,7 +16,7 @@ use Rattle.form_model.specs.Trees.{is_tree}
 use Rattle.form_model.specs.Forms.{TargetModel, tested}
 use Rattle.form_model.specs.CoverModels.{CoverModel, use_form}
 use Rattle.form_model.specs.Covers.{StockModel, JobCoverModel, IsOrderly}
-use Rattle.block_words.specs.Laws.{operation_in}
+use Rattle.compaction.specs.Laws.{operation_in}
 use Rattle.form_model.specs.Effects.{steps_effect}
 use Rattle.form_model.specs.Steps.{branch_setting}
 use Rattle.emit_seq.specs.Formed.{AreFormed}

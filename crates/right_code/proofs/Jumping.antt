@@ -10,7 +10,7 @@ use Rattle.net_model.specs.Exprs.{ExprModel, keep, select}
 use Rattle.form_model.specs.declared.flow.Flow.{Flow}
 use Rattle.form_model.specs.declared.forms.Step.{Step}
 use Rattle.form_model.specs.Covers.{IsOrderly, StockModel}
-use Rattle.block_words.specs.Laws.{operation_in}
+use Rattle.compaction.specs.Laws.{operation_in}
 use Rattle.form_model.specs.CoverModels.{CoverModel}
 use Rattle.form_model.specs.Forms.{FormModel, tested}
 use Rattle.form_model.specs.Shapes.{shape_setting}
@@ -18,7 +18,7 @@ use Rattle.form_model.specs.Steps.{branch_setting}
 use Rattle.form_set.specs.Listing.{greatest_reach}
 use Rattle.form_set.specs.Promises.{is_control_goal}
 use Rattle.form_set.specs.Words.{ForEachSetting, IsSetting}
-use Rattle.block_words.proofs.Worded.{jump_fits}
+use Rattle.compaction.proofs.Worded.{jump_fits}
 use Rattle.branch_fix.specs.Inner.Flowing.{IsFlow}
 use Rattle.branch_fix.specs.Items.{behind, branch_step, groups, items_from, jump_form, jump_step, part_items}
 use Rattle.branch_fix.specs.Parts.{address, room, starts}

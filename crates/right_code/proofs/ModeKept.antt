@@ -17,7 +17,7 @@ use Rattle.emit_seq.specs.Formed.{AreFormed, IsFormed, IsIntoReg}
 use Rattle.emit_seq.specs.Settles.{IsStepping}
 use Rattle.emit_seq.specs.Spares.{AreApart, AreShared, AreSpare, ReadsCounter}
 use Rattle.emit_seq.proofs.Spared.{steps_spare}
-use Rattle.block_words.specs.Laws.{operation_in}
+use Rattle.compaction.specs.Laws.{operation_in}
 use Rattle.word_fit.specs.Fits.{fits_over}
 use Rattle.word_fit.specs.Groups.{GroupsFit}
 use Rattle.word_fit.proofs.Least.{all_fit}

@@ -13,7 +13,7 @@ use Rattle.form_model.specs.declared.flow.Flow.{Flow}
 use Rattle.form_model.specs.Shapes.{shape_setting}
 use Rattle.form_model.specs.Forms.{FormModel}
 use Rattle.form_model.specs.Covers.{StockModel}
-use Rattle.block_words.specs.Laws.{operation_in}
+use Rattle.compaction.specs.Laws.{operation_in}
 use Rattle.form_model.specs.Steps.{branch_setting}
 use Rattle.word_fit.specs.Fits.{fits_over, FitsJump}
 use Rattle.word_fit.proofs.Least.{all_fit}

@@ -16,7 +16,7 @@ use Rattle.form_model.specs.Forms.{FormModel, tested}
 use Rattle.form_model.specs.declared.forms.Step.{Step}
 use Rattle.form_model.specs.Live.{Regs, no_regs, singles}
 use Rattle.form_model.specs.Steps.{branch_setting}
-use Rattle.block_words.specs.Laws.{operation_in}
+use Rattle.compaction.specs.Laws.{operation_in}
 use Rattle.emit_seq.specs.Spares.{wanted}
 use Rattle.word_fit.specs.Fits.{fits_over}
 use Rattle.word_fit.specs.Groups.{AllHaveWords}

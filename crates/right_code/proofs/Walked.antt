@@ -20,7 +20,7 @@ use Rattle.code_model.specs.Places.{words_of}
 use Rattle.code_model.specs.Machine.{IsAt}
 use Rattle.code_model.proofs.Fixed.{fixed_is}
 use Rattle.form_model.specs.Covers.{StockModel}
-use Rattle.block_words.specs.Laws.{operation_in}
+use Rattle.compaction.specs.Laws.{operation_in}
 use Rattle.form_model.specs.Effects.{Operation, steps_effect}
 use Rattle.form_model.specs.Live.{Regs, live_before}
 use Rattle.word_fit.specs.Fits.{fits_over, FitsGroup}

@@ -17,7 +17,7 @@ use Rattle.net_model.specs.Exprs.{ExprModel, TransferModel, keep, write, write_a
 use Rattle.form_model.specs.declared.forms.Step.{Step}
 use Rattle.form_model.specs.Forms.{GoalModel, FormModel, tested}
 use Rattle.form_model.specs.Covers.{StockModel, JobCoverModel}
-use Rattle.block_words.specs.Laws.{operation_in}
+use Rattle.compaction.specs.Laws.{operation_in}
 use Rattle.form_model.specs.Steps.{cover_steps}
 use Rattle.form_set.specs.Listing.{AreFormModels, sides_of}
 use Rattle.form_set.specs.Promises.{IsFormOf, of_branch, of_jump, of_plain}
@@ -29,8 +29,8 @@ use Rattle.emit_seq.proofs.Spared.{clobbers_at, steps_spare}
 use Rattle.src_trees.specs.Lowered.{JobModel}
 use Rattle.word_fit.specs.Fits.{fits_over}
 use Rattle.word_fit.specs.Groups.{AllHaveWords}
-use Rattle.block_words.specs.Formed.{AreWorded, IsWorded}
-use Rattle.block_words.proofs.Worded.{have_words}
+use Rattle.compaction.specs.Formed.{AreWorded, IsWorded}
+use Rattle.compaction.proofs.Worded.{have_words}
 use Rattle.right_code.specs.Inner.Forks.{test_of}
 use Rattle.right_code.specs.Jobs.{tree_or_none, tree_used, job_steps, jobs_steps, IsCovered}
 use Rattle.right_code.specs.Inner.Jobs.{AreCovered}

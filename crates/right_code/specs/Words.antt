@@ -1,6 +1,6 @@
 -- The groups and the words of blocks, and the words that stand in an image in the order of its
 -- layout.
-use Rattle.block_words.specs.Laws.{operation_in}
+use Rattle.compaction.specs.Laws.{operation_in}
 use Rattle.std.specs.Prelude.{ℕ, ◌+◌, ◌≤◌, ◌≡◌, List, [], ◌∷◌, length, Option, slice_index, IsPermutation}
 use Rattle.mode_set.specs.Words.{FitsTurn}
 use Rattle.std.specs.List.{AllByRecursion, slice_index_or}

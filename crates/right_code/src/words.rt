@@ -2,7 +2,7 @@
 
 ghost use Rattle.std.specs.Prelude.{ℕ, ◌≡◌, true, List, Some, slice_get};
 ghost use Rattle.form_model.specs.declared.forms.Step.{Step};
-ghost use Rattle.block_words.specs.Laws.{operation_in};
+ghost use Rattle.compaction.specs.Laws.{operation_in};
 ghost use Rattle.form_model.specs.Live.{Regs, no_regs, singles};
 ghost use Rattle.form_model.specs.Forms.{tested};
 ghost use Rattle.form_set.specs.Listing.{greatest_reach};

@@ -13,7 +13,7 @@ use Rattle.net_model.specs.Widths.{WordFits}
 use Rattle.net_model.proofs.WordWidths.{has_bits}
 use Rattle.form_model.specs.Covers.{JobCoverModel, IsChosen, StockModel}
 use Rattle.form_model.specs.declared.forms.Step.{Step}
-use Rattle.block_words.specs.Laws.{operation_in}
+use Rattle.compaction.specs.Laws.{operation_in}
 use Rattle.form_model.specs.Live.{Regs, regs_of, singles}
 use Rattle.form_model.specs.Forms.{FormModel}
 use Rattle.form_set.specs.Listing.{AreForms}

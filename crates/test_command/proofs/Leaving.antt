@@ -9,7 +9,7 @@ use Rattle.net_model.specs.Patterns.{Pattern}
 use Rattle.net_model.specs.Widths.{IsState}
 use Rattle.emit_seq.specs.Formed.{AreFormed}
 use Rattle.form_model.specs.Covers.{JobCoverModel, StockModel}
-use Rattle.block_words.specs.Laws.{operation_in}
+use Rattle.compaction.specs.Laws.{operation_in}
 use Rattle.form_model.specs.Effects.{steps_effect}
 use Rattle.form_model.specs.Live.{no_regs}
 use Rattle.src_trees.specs.Doing.{AllLie, all_done, done}

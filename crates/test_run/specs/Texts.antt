@@ -5,7 +5,7 @@ use Rattle.net_model.specs.declared.states.State.{State}
 use Rattle.net_model.specs.Clock.{Run}
 use Rattle.net_model.specs.Nets.{word_width}
 use Rattle.fault_sim.specs.Reports.{cells_after, findings}
-use Rattle.test_text.specs.Text.{report_text}
+use Rattle.test_run.specs.Text.{report_text}
 use Rattle.test_run.specs.Starts.{test_start}
 
 -- of what words show of each fault from a state, where the run without a fault leaves `good` in the

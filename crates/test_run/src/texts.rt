@@ -11,11 +11,11 @@ ghost use Rattle.test_run.specs.Texts.{text_of};
 
 use crate::good::good_cells;
 use crate::starting::{copied, start};
+use crate::writing::write;
 use fault_sim::{Fault, FaultSim, Finding, findings};
 use net_model::{Checked, State};
 use rec_bits::{Items, NoMemory};
 use std::alloc::Global;
-use test_text::write;
 
 // What the words show of each fault, from a state, where the run without a fault leaves `good` in
 // the memory.

@@ -14,7 +14,7 @@ use Rattle.word_fit.specs.Fits.{fits_over, FitsTurning, IsLeastFit}
 use Rattle.word_fit.specs.Groups.{AllHaveWords}
 use Rattle.std.specs.Prelude.{ℕ, ◌-◌, ◌<◌, ◌≡◌, List, [], ◌∷◌, ◌++◌, Some, length, slice_get, slice_index_or, slice_index}
 use Rattle.code_model.specs.declared.image.Word.{Word}
-use Rattle.block_words.specs.Laws.{operation_in}
+use Rattle.compaction.specs.Laws.{operation_in}
 use Rattle.branch_fix.specs.declared.outline.Branch.{Branch}
 use Rattle.branch_fix.specs.declared.laid.Item.{Item}
 use Rattle.branch_fix.specs.declared.laid.Item.TheVariants.{Group, Jump}

@@ -5,7 +5,7 @@ use Rattle.form_model.specs.Live.{Regs, live_before, regs_of}
 use Rattle.word_fit.specs.Fits.{IsLeastFit}
 use Rattle.word_fit.specs.Groups.{lives_of}
 use Rattle.live_sets.specs.Listed.{AreListed}
-use Rattle.compaction.specs.Machines.{fits_in, operation_in}
+use Rattle.compaction.specs.Machines.{known_fits, known_operation}
 use Rattle.compaction.specs.Tables.{KnowsReads}
 use Rattle.compaction.specs.Packing.{Mergeable, Movable}
 use Rattle.compaction.specs.Inner.Turns.{IsChange, IsMoved, IsMovedAt, IsPackedTo, IsPacking, IsTurn}
@@ -28,16 +28,16 @@ pub record HasTables (known : KnownMachine) : Type 0 where
 
 -- some word fits the group, where these registers are live behind it
 abbrev pub HasWord : KnownMachine → List Step → Regs → Type 0
-HasWord known g live = (w : ℕ) × fits_in known w g live
+HasWord known g live = (w : ℕ) × known_fits known w g live
 
 -- the word of a group is the least that fits it there
 abbrev pub IsFitted : KnownMachine → Regs → Fitted → Type 0
-IsFitted known live fitted = IsLeastFit (λ word. fits_in known word fitted.group live) fitted.word
+IsFitted known live fitted = IsLeastFit (λ word. known_fits known word fitted.group live) fitted.word
 
 -- so it is for two neighbours, where these registers are live behind the second
 abbrev pub AreFitted : KnownMachine → Regs → Fitted → Fitted → Type 0
 AreFitted known live first second =
-    IsFitted known (live_before (operation_in known) (second.group ∷ []) live) first × IsFitted known live second
+    IsFitted known (live_before (known_operation known) (second.group ∷ []) live) first × IsFitted known live second
 
 abbrev pub IsPairFitted : KnownMachine → Regs → Pair → Type 0
 IsPairFitted known live pair = AreFitted known live pair.first pair.second
@@ -49,37 +49,37 @@ AreWordsOf known live (Moved first second) = AreFitted known live first second
 AreWordsOf known live Settled = Unit {0}
 
 abbrev pub CanMerge : KnownMachine → List Step → List Step → Regs → Type 0
-CanMerge known g h live = Mergeable (operation_in known) (fits_in known) g h live
+CanMerge known g h live = Mergeable (known_operation known) (known_fits known) g h live
 
 abbrev pub CanMove : KnownMachine → List Step → Step → List Step → Regs → Type 0
-CanMove known g x rest live = Movable (operation_in known) (fits_in known) g x rest live
+CanMove known g x rest live = Movable (known_operation known) (known_fits known) g x rest live
 
 abbrev pub MovesAt : KnownMachine → List Step → List Step → Regs → ℕ → List Step → List Step → Type 0
 MovesAt known g h live index first second =
-    IsMovedAt (operation_in known) (fits_in known) g h live index first second
+    IsMovedAt (known_operation known) (known_fits known) g h live index first second
 
 abbrev pub Moves : KnownMachine → List Step → List Step → Regs → List Step → List Step → Type 0
-Moves known g h live first second = IsMoved (operation_in known) (fits_in known) g h live first second
+Moves known g h live first second = IsMoved (known_operation known) (known_fits known) g h live first second
 
 abbrev pub Changes : KnownMachine → List Step → List Step → Regs → Change → Type 0
-Changes known g h live change = IsChange (operation_in known) (fits_in known) g h live change
+Changes known g h live change = IsChange (known_operation known) (known_fits known) g h live change
 
 abbrev pub PackedTo : KnownMachine → Regs → ℕ → List (List Step) → Type 0
-PackedTo known after k gs = IsPackedTo (operation_in known) (fits_in known) after k gs
+PackedTo known after k gs = IsPackedTo (known_operation known) (known_fits known) after k gs
 
 abbrev pub Turns : KnownMachine → Regs → List (List Step) → List (List Step) → ℕ → ℕ → Type 0
-Turns known after old new k next = IsTurn (operation_in known) (fits_in known) after old new k next
+Turns known after old new k next = IsTurn (known_operation known) (known_fits known) after old new k next
 
 abbrev pub Packing : KnownMachine → Regs → List (List Step) → List (List Step) → Type 0
-Packing known after old new = IsPacking (operation_in known) (fits_in known) after old new
+Packing known after old new = IsPacking (known_operation known) (known_fits known) after old new
 
 -- the words that were found for groups are the least that fit them
 abbrev pub HaveFound : KnownMachine → List (Option ℕ) → List (List Step) → Regs → Type 0
-HaveFound known found gs after = AreFound (operation_in known) (fits_in known) found gs after
+HaveFound known found gs after = AreFound (known_operation known) (known_fits known) found gs after
 
 -- a draft of a block behind which these registers are live, of which the first k pairs are settled:
 -- it has the registers that are live behind each group, and the words that were found
 pub record IsDraft (known : KnownMachine) (after : Regs) (k : ℕ) (draft : Draft) : Type 0 where
-  pub lives : map regs_of draft.lives.items ≡ lives_of (operation_in known) draft.groups.items after
+  pub lives : map regs_of draft.lives.items ≡ lives_of (known_operation known) draft.groups.items after
   pub found : HaveFound known draft.found.items draft.groups.items after
   pub packed : PackedTo known after k draft.groups.items

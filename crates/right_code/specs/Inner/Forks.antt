@@ -13,7 +13,7 @@ use Rattle.net_model.specs.Fields.{fields}
 use Rattle.form_model.specs.Shapes.{is_shape, shape_setting}
 use Rattle.form_model.specs.Forms.{FormModel, TargetModel, absolute, relative, branches, tested}
 use Rattle.form_model.specs.Covers.{StockModel, JobCoverModel}
-use Rattle.block_words.specs.Laws.{operation_in}
+use Rattle.compaction.specs.Laws.{operation_in}
 use Rattle.form_model.specs.declared.forms.Step.{Step}
 use Rattle.form_model.specs.Live.{Regs}
 use Rattle.form_model.specs.Steps.{branch_setting}

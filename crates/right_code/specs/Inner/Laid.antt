@@ -11,7 +11,7 @@ use Rattle.form_model.specs.Shapes.{shows}
 use Rattle.form_model.specs.Forms.{FormModel, TargetModel, absolute, relative, branches, tested}
 use Rattle.form_model.specs.Covers.{StockModel, JobCoverModel}
 use Rattle.form_model.specs.declared.forms.Step.{Step}
-use Rattle.block_words.specs.Laws.{operation_in}
+use Rattle.compaction.specs.Laws.{operation_in}
 use Rattle.form_model.specs.Live.{Regs}
 use Rattle.form_model.specs.Steps.{branch_setting}
 use Rattle.emit_seq.specs.Spares.{wanted}

@@ -4,7 +4,7 @@ use Rattle.form_model.specs.Live.{Regs, regs_of, live_before}
 use Rattle.word_fit.specs.Fits.{IsLeastFit}
 use Rattle.form_model.specs.declared.forms.Step.{Step}
 use Rattle.compaction.specs.declared.change.Change.TheVariants.{Merged, Moved}
-use Rattle.compaction.specs.Machines.{fits_in, operation_in}
+use Rattle.compaction.specs.Machines.{known_fits, known_operation}
 use Rattle.compaction.specs.Inner.Machines.{AreWordsOf, Changes, Turns}
 use Rattle.compaction.proofs.Found.{merged_found, moved_found}
 use Rattle.compaction.proofs.LiveLists.{second_set, merged_sets, moved_sets}
@@ -14,8 +14,8 @@ use Rattle.compaction.proofs.packer.turn.Goals as goal
 pub returns-in-Merged-clause-turn : goal.returns-in-Merged-clause-turn
 returns-in-Merged-clause-turn c = λ after d.
     let known = c.args.known.now in
-    let m = operation_in known in
-    let f0 = fits_in known in
+    let m = known_operation known in
+    let f0 = known_fits known in
     let k = c.args.pair in
     let old = c.args.draft.now in
     let gs = old.groups.items in
@@ -48,8 +48,8 @@ returns-in-Merged-clause-turn c = λ after d.
 pub returns-in-Moved-clause-turn : goal.returns-in-Moved-clause-turn
 returns-in-Moved-clause-turn c = λ after d.
     let known = c.args.known.now in
-    let m = operation_in known in
-    let f0 = fits_in known in
+    let m = known_operation known in
+    let f0 = known_fits known in
     let k = c.args.pair in
     let old = c.args.draft.now in
     let gs = old.groups.items in
@@ -91,8 +91,8 @@ returns-in-Moved-clause-turn c = λ after d.
 pub returns-in-Settled-clause-turn : goal.returns-in-Settled-clause-turn
 returns-in-Settled-clause-turn c = λ after d.
     let known = c.args.known.now in
-    let m = operation_in known in
-    let f0 = fits_in known in
+    let m = known_operation known in
+    let f0 = known_fits known in
     let k = c.args.pair in
     let old = c.args.draft.now in
     let gs = old.groups.items in

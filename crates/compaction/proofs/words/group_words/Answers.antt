@@ -5,7 +5,7 @@ use Rattle.bit_bdd.proofs.CallerLemmas.{extends_trans}
 use Rattle.form_model.specs.declared.forms.Step.{Step}
 use Rattle.form_model.specs.Live.{Regs, regs_of}
 use Rattle.word_fit.specs.Fits.{IsLeastFit}
-use Rattle.compaction.specs.Machines.{fits_in, operation_in}
+use Rattle.compaction.specs.Machines.{known_fits, known_operation}
 use Rattle.compaction.specs.Inner.Machines.{HaveFound}
 use Rattle.compaction.proofs.Found.{found_long}
 use Rattle.compaction.proofs.LiveLists.{sets_long}
@@ -19,17 +19,17 @@ as_long xs ys e = ap (λ z. length z) e
 pub bounds-lives-index : goal.bounds-lives-index
 bounds-lives-index c =
     let draft = c.args.draft.now in
-    omega (arith, sets_long (operation_in c.args.known.now) c.requires.draft.0 draft.groups.items draft.lives.items c.requires.draft.1.lives, as_long _ _ c.as_slice-lives.ensures.value, as_long _ _ c.as_slice-groups.ensures.value, c.loop-index-test.true)
+    omega (arith, sets_long (known_operation c.args.known.now) c.requires.draft.0 draft.groups.items draft.lives.items c.requires.draft.1.lives, as_long _ _ c.as_slice-lives.ensures.value, as_long _ _ c.as_slice-groups.ensures.value, c.loop-index-test.true)
 
 pub bounds-found-index : goal.bounds-found-index
 bounds-found-index c =
     let draft = c.args.draft.now in
-    omega (arith, found_long (operation_in c.args.known.now) (fits_in c.args.known.now) c.requires.draft.0 draft.found.items draft.groups.items c.requires.draft.1.found, as_long _ _ c.as_slice-found.ensures.value, as_long _ _ c.as_slice-groups.ensures.value, c.loop-index-test.true)
+    omega (arith, found_long (known_operation c.args.known.now) (known_fits c.args.known.now) c.requires.draft.0 draft.found.items draft.groups.items c.requires.draft.1.found, as_long _ _ c.as_slice-found.ensures.value, as_long _ _ c.as_slice-groups.ensures.value, c.loop-index-test.true)
 
 pub word_of-requires-clause-word : goal.word_of-requires-clause-word
 word_of-requires-clause-word c =
-    let m = operation_in c.args.known.now in
-    let f = fits_in c.args.known.now in
+    let m = known_operation c.args.known.now in
+    let f = known_fits c.args.known.now in
     let after = c.requires.draft.0 in
     let d = c.requires.draft.1 in
     let k = c.loop-index.index in
@@ -47,8 +47,8 @@ word_of-requires-clause-word c =
 pub word_of-requires-clause-found : goal.word_of-requires-clause-found
 word_of-requires-clause-found c =
     let known = c.args.known.now in
-    let m = operation_in known in
-    let f = fits_in known in
+    let m = known_operation known in
+    let f = known_fits known in
     let after = c.requires.draft.0 in
     let d = c.requires.draft.1 in
     let k = c.loop-index.index in
@@ -66,8 +66,8 @@ word_of-requires-clause-found c =
 
 pub loop-index-preserved : goal.loop-index-preserved
 loop-index-preserved c =
-    let m = operation_in c.args.known.now in
-    let f = fits_in c.args.known.now in
+    let m = known_operation c.args.known.now in
+    let f = known_fits c.args.known.now in
     let k = c.loop-index.index in
     let groups = c.as_slice-groups.result.now in
     let lives = c.as_slice-lives.result.now in
@@ -84,8 +84,8 @@ loop-index-preserved c =
 
 pub returns-clause-least : goal.returns-clause-least
 returns-clause-least c = λ after d.
-    let m = operation_in c.args.known.now in
-    let f = fits_in c.args.known.now in
+    let m = known_operation c.args.known.now in
+    let f = known_fits c.args.known.now in
     let draft = c.args.draft.now in
     let gs = draft.groups.items in
     let lives = c.as_slice-lives.result.now in

@@ -1,6 +1,6 @@
 use Rattle.std.proofs.Common.{◌≡◌, ◌∙◌, List, ap, subst, sym}
 use Rattle.std.proofs.lemmas.Result.{IfOk-from_err}
-use Rattle.block_words.specs.Laws.{operation_in}
+use Rattle.compaction.specs.Laws.{operation_in}
 use Rattle.cover.specs.Best.{model_of_job_cover}
 use Rattle.form_model.specs.Covers.{stock_with}
 use Rattle.form_model.specs.declared.forms.Step.{Step}

@@ -1,5 +1,0 @@
-use Rattle.block_words.proofs.Worded.{have_words}
-use Rattle.block_words.proofs.laws.law_of_forms.Goals as goal
-
-pub returns : goal.returns
-returns c = λ netlist patterns clobbers steps after f s. have_words netlist patterns clobbers steps after f s

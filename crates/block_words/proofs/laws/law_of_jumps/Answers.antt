@@ -1,5 +1,0 @@
-use Rattle.block_words.proofs.Worded.{jump_has_word}
-use Rattle.block_words.proofs.laws.law_of_jumps.Goals as goal
-
-pub returns : goal.returns
-returns c = λ netlist patterns step h. jump_has_word netlist patterns step h
