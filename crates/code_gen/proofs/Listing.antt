@@ -6,10 +6,10 @@ use Rattle.std.proofs.lemmas.Option.{slice_get-map, slice_get_read}
 use Rattle.net_model.specs.declared.hardware.Netlist.{Netlist}
 use Rattle.net_model.specs.Patterns.{Pattern}
 use Rattle.code_model.specs.declared.image.Word.{Word}
-use Rattle.form_model.specs.Covers.{StockModel, job_cost}
+use Rattle.form_model.specs.Covers.{StockModel}
 use Rattle.form_model.specs.Live.{Regs}
 use Rattle.mode_set.specs.declared.plans.Plan.{Plan}
-use Rattle.mode_set.specs.Costs.{IsPlanned, PlanModel, mode_cost, mode_words}
+use Rattle.mode_set.specs.Costs.{IsPlanned, PlanModel, mode_cost}
 use Rattle.mode_set.specs.Plans.{model_of_plan}
 use Rattle.branch_fix.specs.declared.laid.Item.{Item}
 use Rattle.src_trees.specs.Lowered.{JobModel}
@@ -81,12 +81,12 @@ module _ (stock : ℕ → StockModel) (Usable : ℕ → Type 0) where
         subst (λ ws. AllPlanned stock Usable ws (map model_of_plan new)) (sym jobs_taken)
         (subst (AllPlanned stock Usable (take number jobs ++ job ∷ [])) (sym plans_made) (planned_more (take number jobs) (map model_of_plan old) job (model_of_plan plan) all is))
 
-    pub prices_more : plan.cover.cost ≡ job_cost job.destination (model_of_plan plan).choice.cover → told_costs old ≡ plan_costs (take number jobs) (map model_of_plan old)
+    pub prices_more : plan.cost ≡ mode_cost plan.mode job.destination (model_of_plan plan).choice.cover → told_costs old ≡ plan_costs (take number jobs) (map model_of_plan old)
         → told_costs new ≡ plan_costs (take (number + 1) jobs) (map model_of_plan new)
     prices_more price before =
         ap told_costs more
-        ∙ map-append (λ (p : Plan). p.cover.cost + mode_words p.mode) old (plan ∷ [])
-        ∙ (λ i. before i ++ (price i + mode_words plan.mode) ∷ [])
+        ∙ map-append (λ (p : Plan). p.cost) old (plan ∷ [])
+        ∙ (λ i. before i ++ price i ∷ [])
         ∙ sym (costs_more (take number jobs) (map model_of_plan old) job (model_of_plan plan) all)
         ∙ (λ i. plan_costs (sym jobs_taken i) (sym plans_made i))
 

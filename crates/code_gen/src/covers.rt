@@ -6,7 +6,7 @@ ghost use Rattle.code_model.specs.ImageFits.{CostFits};
 ghost use Rattle.cover.specs.Best.{model_of_job_cover};
 ghost use Rattle.form_model.specs.Covers.{stock_with, job_cost};
 ghost use Rattle.src_trees.specs.Jobs.{model_of_job, models_of_jobs};
-ghost use Rattle.mode_set.specs.Costs.{IsPlanned, mode_words};
+ghost use Rattle.mode_set.specs.Costs.{IsPlanned, mode_cost};
 ghost use Rattle.mode_set.specs.Plans.{UsableAt, model_of_plan, stock_at};
 ghost use Rattle.right_code.specs.Covered.{AllPlanned, numbered, plan_costs};
 ghost use Rattle.code_gen.specs.Inner.Planning.{told_costs};
@@ -52,7 +52,8 @@ fn plan_one(
     requires { length usable.now ≡ length forms.now }
     ensures planned { IfOk result (λ plan. IsPlanned (stock_at forms.now temps) (UsableAt usable.now)
         (model_of_job job.now).destination (model_of_job job.now).trees (model_of_plan plan)) }
-    ensures cost { IfOk result (λ plan. plan.cover.cost ≡ job_cost (model_of_job job.now).destination (model_of_plan plan).choice.cover) }
+    ensures cost { IfOk result (λ plan.
+        plan.cost ≡ mode_cost plan.mode (model_of_job job.now).destination (model_of_plan plan).choice.cover) }
     ensures refused { IfErr result (IsOneBare (stock_at forms.now temps) (UsableAt usable.now) (model_of_job job.now) number) }
 {
     match plan_job(alloc, forms, usable, job, temps) {
@@ -98,26 +99,13 @@ fn narrow(number: u64) -> Result<u32, NoMemory>
     }
 }
 
-// The cost of a job in its mode: 2 more than its cover's in a mode other than 0.
-fn plan_cost(plan: &Plan) -> Result<u32, NoMemory>
-    ensures { IfOk result (λ cost. cost ≡ plan.now.cover.cost + mode_words plan.now.mode) }
-{
-    if plan.mode == 0 {
-        return narrow(plan.cover.cost);
-    }
-    match plan.cover.cost.checked_add(2) {
-        Some(cost) => narrow(cost),
-        None => Err(NoMemory),
-    }
-}
-
 /// The costs of jobs in their modes. Want of memory stands for a cost past 32 bits, too.
 pub(crate) fn costs_of(alloc: Global, plans: &[Plan]) -> Result<Items<u32>, NoMemory>
     ensures { IfOk result (λ costs. costs ≡ told_costs plans.now) }
 {
     let mut costs = Items::new(alloc);
     for plan in plans {
-        costs.push(plan_cost(plan)?)?;
+        costs.push(narrow(plan.cost)?)?;
     }
     Ok(costs)
 }

@@ -2,11 +2,11 @@
 //!
 //! Promise: `keeping` gives exactly the forms of a mode that keep it, in their order, with their
 //! greatest reach (`kept`: `AreKeeping`, `reach`); `plan_job` the least mode of least cost of a job
-//! and its chosen cover there, with that cover's cost, or that it has none (`planned`: `IsPlanned`,
-//! `cost`: `job_cost`, `none`: `HasNoPlan`); `mode_jump_word` the least word of a jump or branch
-//! that keeps the mode, or that there is none (`word`: `FitsTurn`). `can_put` tells whether a form
-//! puts a number into the mode (`CanPut`), and `mode_word` gives the least word that does, with its
-//! pattern, or that there is none (`word`: `IsLeastModeWord`).
+//! and its chosen cover there, with what the job costs in that mode, or that it has none
+//! (`planned`: `IsPlanned`, `cost`: `mode_cost`, `none`: `HasNoPlan`); `mode_jump_word` the least
+//! word of a jump or branch that keeps the mode, or that there is none (`word`: `FitsTurn`).
+//! `can_put` tells whether a form puts a number into the mode (`CanPut`), and `mode_word` gives the
+//! least word that does, with its pattern, or that there is none (`word`: `IsLeastModeWord`).
 //!
 //! Files:
 //!

@@ -4,7 +4,7 @@ ghost use Rattle.std.specs.Prelude.{◌≡◌, ◌+◌, ◌<◌, ◌↔◌, Err,
 ghost use Rattle.cover.specs.Jobs.{trees_of};
 ghost use Rattle.form_model.specs.Covers.{job_cost, stock_with};
 ghost use Rattle.form_model.specs.Forms.{aim_destination};
-ghost use Rattle.mode_set.specs.Costs.{HasNoPlan, IsPlanned, MayRunIn, mode_words};
+ghost use Rattle.mode_set.specs.Costs.{HasNoPlan, IsPlanned, MayRunIn, mode_cost, mode_words};
 ghost use Rattle.mode_set.specs.Inner.Best.{IsBestBelow, IsPlanIn, IsPriceBy, better_of};
 ghost use Rattle.mode_set.specs.Plans.{UsableAt, model_of_plan, stock_at};
 
@@ -13,18 +13,13 @@ use form_model::{Aim, Forms, Job};
 use rec_bits::NoMemory;
 use std::alloc::Global;
 
-/// The mode of a job, and the cover that is chosen for it by the forms of that mode.
+/// The mode of a job, the cover that is chosen for it by the forms of that mode, and what it costs
+/// there: 2 more than its cover in a mode other than 0, its mode words.
 #[derive(Drop)]
 pub struct Plan {
     pub mode: u64,
     pub cover: JobCover,
-}
-
-// A plan with its cost: that of its cover, and 2 for mode words in a mode other than 0.
-#[derive(Drop)]
-pub(crate) struct Priced {
-    pub(crate) plan: Plan,
-    pub(crate) cost: u64,
+    pub cost: u64,
 }
 
 // Whether a job may run in a mode; a test runs in mode 0.
@@ -60,25 +55,25 @@ fn with_mode_words(mode: usize, cost: u64) -> Result<u64, NoMemory>
     }
 }
 
-// The chosen cover of a job by the forms of a mode, with its cost there, if it has a cover.
+// The plan of a job by the forms of a mode, if it has a cover by them.
 fn priced_in(
     alloc: Global,
     forms: &Forms,
     job: &Job,
     temps: u32,
     mode: usize,
-) -> Result<Option<Priced>, NoMemory>
+) -> Result<Option<Plan>, NoMemory>
     ensures { IfOk result (IsPriceBy (stock_with forms.now.list.items temps forms.now.file)
         (aim_destination job.now.aim) (trees_of job.now.trees.items) mode) }
 {
     match cover(alloc, forms, job, temps) {
         Ok(chosen) => {
             let cost = with_mode_words(mode, chosen.cost)?;
-            let plan = Plan {
+            Ok(Some(Plan {
                 mode: mode as u64,
                 cover: chosen,
-            };
-            Ok(Some(Priced { plan, cost }))
+                cost,
+            }))
         }
         Err(CoverFault::NoCover) => Ok(None),
         Err(CoverFault::Memory) => Err(NoMemory),
@@ -93,7 +88,7 @@ fn plan_in(
     job: &Job,
     temps: u32,
     mode: usize,
-) -> Result<Option<Priced>, NoMemory>
+) -> Result<Option<Plan>, NoMemory>
     requires { mode < length forms.now }
     ensures { IfOk result (IsPlanIn (stock_at forms.now temps) (UsableAt usable.now)
         (aim_destination job.now.aim) (trees_of job.now.trees.items) mode) }
@@ -108,7 +103,7 @@ fn plan_in(
 }
 
 // The plan that is known, or that of a later mode where it is cheaper.
-fn better(best: Option<Priced>, next: Option<Priced>) -> Option<Priced>
+fn better(best: Option<Plan>, next: Option<Plan>) -> Option<Plan>
     ensures { result ≡ better_of best next }
 {
     let Some(later) = next else {
@@ -129,7 +124,7 @@ fn best_of(
     usable: &[bool],
     job: &Job,
     temps: u32,
-) -> Result<Option<Priced>, NoMemory>
+) -> Result<Option<Plan>, NoMemory>
     ensures { IfOk result (IsBestBelow (stock_at forms.now temps) (UsableAt usable.now)
         (aim_destination job.now.aim) (trees_of job.now.trees.items) (length forms.now)) }
 {
@@ -157,12 +152,14 @@ pub fn plan_job(
     ensures planned { IfOk result (λ plan. IsPlanned (stock_at forms.now temps) (UsableAt usable.now)
         (aim_destination job.now.aim) (trees_of job.now.trees.items) (model_of_plan plan)) }
     ensures cost { IfOk result (λ plan.
+        plan.cost ≡ mode_cost plan.mode (aim_destination job.now.aim) (model_of_plan plan).choice.cover) }
+    ensures cover { IfOk result (λ plan.
         plan.cover.cost ≡ job_cost (aim_destination job.now.aim) (model_of_plan plan).choice.cover) }
     ensures none { result ≡ Err CoverFault.NoCover → HasNoPlan (stock_at forms.now temps)
         (UsableAt usable.now) (aim_destination job.now.aim) (trees_of job.now.trees.items) }
 {
     match best_of(alloc, forms, usable, job, temps) {
-        Ok(Some(best)) => Ok(best.plan),
+        Ok(Some(best)) => Ok(best),
         Ok(None) => Err(CoverFault::NoCover),
         Err(_) => Err(CoverFault::Memory),
     }

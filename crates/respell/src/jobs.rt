@@ -5,7 +5,6 @@ ghost use Rattle.rec_bits.specs.Operators.{IsWidth};
 ghost use Rattle.form_model.specs.Forms.{aim_destination};
 ghost use Rattle.form_model.specs.Trees.{model_of_tree};
 ghost use Rattle.cover.specs.Jobs.{trees_of};
-ghost use Rattle.mode_set.specs.Costs.{mode_words};
 ghost use Rattle.mode_set.specs.Plans.{UsableAt, stock_at};
 ghost use Rattle.src_trees.specs.Jobs.{model_of_job};
 ghost use Rattle.src_trees.specs.Measures.{IsSmall};
@@ -24,11 +23,10 @@ use crate::search::Search;
 use crate::survey::Survey;
 use cover::CoverFault;
 use form_model::{Aim, Form, Forms, Job, Tree};
-use mode_set::{Plan, plan_job};
+use mode_set::plan_job;
 use rec_bits::{NoMemory, Op1};
 use std::alloc::Global;
 use sym_expr::Node;
-use tree_grammar::plus;
 use tree_laws::{Classes, NoTree};
 
 /// How a job is spelled.
@@ -163,7 +161,7 @@ impl<'a> Speller<'a> {
             (model_of_job job.now)) }
     {
         match plan_job(alloc, self.forms, self.usable, job, self.limits.temps) {
-            Ok(plan) => Ok(Some(cost_of(&plan)?)),
+            Ok(plan) => Ok(Some(plan.cost)),
             Err(CoverFault::NoCover) => Ok(None),
             Err(CoverFault::Memory) => Err(NoMemory),
         }
@@ -355,16 +353,6 @@ impl<'a> Speller<'a> {
             _ => Ok(None),
         }
     }
-}
-
-// The cost of a plan: that of its cover, and 2 more in a mode other than 0.
-fn cost_of(plan: &Plan) -> Result<u64, NoMemory>
-    ensures { IfOk result (λ cost. cost ≡ plan.now.cover.cost + mode_words plan.now.mode) }
-{
-    if plan.mode == 0 {
-        return Ok(plan.cover.cost);
-    }
-    plus(plan.cover.cost, 2)
 }
 
 // Whether a cost is less than another, or the first one.

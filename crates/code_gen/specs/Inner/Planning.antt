@@ -15,7 +15,7 @@ use Rattle.form_model.specs.Forms.{FormModel, models_of_forms}
 use Rattle.net_model.specs.CheckedRules.{Ordered}
 use Rattle.net_model.specs.ModeRules.{base_at, modes_in}
 use Rattle.mode_set.specs.declared.plans.Plan.{Plan}
-use Rattle.mode_set.specs.Costs.{mode_words, PlanModel}
+use Rattle.mode_set.specs.Costs.{PlanModel}
 use Rattle.form_set.specs.Listing.{AreForms, greatest_reach}
 use Rattle.mode_set.specs.Keeping.{AreKeeping, CanPut, CanUse, Isas, IsUsable}
 use Rattle.mode_set.specs.ModeWords.{IsModeWord}
@@ -189,7 +189,7 @@ plans_in program = map (λ (plan : Plan). model_of_plan plan) program.plans.now
 
 -- what the jobs cost in their modes, as their plans tell it
 abbrev pub told_costs : List Plan → List ℕ
-told_costs plans = map (λ (plan : Plan). plan.cover.cost + mode_words plan.mode) plans
+told_costs plans = map (λ (plan : Plan). plan.cost) plans
 
 abbrev pub costs_in : PlannedProgram → List ℕ
 costs_in program = told_costs program.plans.now

@@ -1,8 +1,8 @@
 use Rattle.std.proofs.lemmas.Result.{IfOk-from_err}
 use Rattle.code_gen.proofs.covers.costs_of.Goals as goal
 
-pub returns-in_err-plan_cost : goal.returns-in_err-plan_cost
-returns-in_err-plan_cost c = IfOk-from_err c.from_residual.result _ c.from_residual.ensures.0
+pub returns-in_err-narrow : goal.returns-in_err-narrow
+returns-in_err-narrow c = IfOk-from_err c.from_residual.result _ c.from_residual.ensures.0
 
 pub returns-in_err-push : goal.returns-in_err-push
 returns-in_err-push c = IfOk-from_err c.from_residual-in_err-push.result _ c.from_residual-in_err-push.ensures.0

@@ -3,7 +3,6 @@ use Rattle.std.proofs.lemmas.List.{length-map}
 use Rattle.std.proofs.lemmas.Option.{slice_get-get_or}
 use Rattle.branch_fix.specs.Bounds.{bound_of}
 use Rattle.mode_set.specs.declared.plans.Plan.{Plan}
-use Rattle.mode_set.specs.Costs.{mode_words}
 use Rattle.net_model.specs.CheckedRules.{code_size}
 use Rattle.net_model.specs.declared.hardware.Netlist.{Netlist}
 use Rattle.net_model.proofs.ModeFaults.{some_modes}
@@ -26,7 +25,7 @@ bounds-modes-0-2 c =
 -- there are as many costs as plans
 pub laid_image-requires-clause-few : goal.laid_image-requires-clause-few
 laid_image-requires-clause-few c =
-    let long = length-map c.args.program.now.plans.now (λ (plan : Plan). plan.cover.cost + mode_words plan.mode) in
+    let long = length-map c.args.program.now.plans.now (λ (plan : Plan). plan.cost) in
     let are = ap length (c.as_slice-2.ensures ∙ c.in_ok-costs.ensures) in
     omega (arith, long, are, c.requires.few)
 
