@@ -45,6 +45,15 @@ abbrev pub Among : ℕ → List ℕ → Type 0
 Among n [] = ⊥
 Among n (x ∷ xs) = (n ≡ x) ⊎ Among n xs
 
+pub among_front : (n m : ℕ) (xs : List ℕ) → Among n xs → Among n (xs ++ m ∷ [])
+among_front n m [] h = absurd h
+among_front n m (x ∷ xs) (inl e) = inl e
+among_front n m (x ∷ xs) (inr h) = inr (among_front n m xs h)
+
+pub among_last : (n : ℕ) (xs : List ℕ) → Among n (xs ++ n ∷ [])
+among_last n [] = inl refl
+among_last n (x ∷ xs) = inr (among_last n xs)
+
 pub least_none : (xs : List ℕ) → least xs ≡ None → xs ≡ []
 least_none [] h = refl
 least_none (x ∷ xs) h = absurd (never (least xs) h)

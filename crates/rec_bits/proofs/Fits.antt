@@ -1,16 +1,13 @@
 -- The results of the operators fit their widths.
-use Rattle.std.proofs.Common.{lit<, ◌≡◌, ℕ, ◌+◌, ◌-◌, ◌*◌, ◌/◌, ◌^◌, ◌<◌, ◌≤◌, sym, ◌∙◌, ap, arith, subst, Bool, true, false, cond, nat_lt}
+use Rattle.std.proofs.Common.{lit<, ◌≡◌, ℕ, ◌+◌, ◌-◌, ◌*◌, ◌/◌, ◌^◌, ◌<◌, ◌≤◌, sym, ◌∙◌, ap, arith, subst, nat_lt}
 use Rattle.std.proofs.lemmas.Nat.{pow_pos, or_lt, xor_lt, and_le_l, shr_le, mod_below, mul-add-lt, pow-add}
 use Rattle.std.proofs.Math.Nat.{pow-le-pow_right}
+pub use Rattle.rec_bits.proofs.Booleans.{cond_below}
 use Rattle.rec_bits.specs.Operators.{apply1_of, apply2_of, cat_of, sext_of, shr_of, is_negative_of, result_width}
 use Rattle.rec_bits.specs.declared.operator.Op1.{Op1}
 use Rattle.rec_bits.specs.declared.operator.Op1.TheVariants.{Not, Neg}
 use Rattle.rec_bits.specs.declared.operator.Op2.{Op2}
 use Rattle.rec_bits.specs.declared.operator.Op2.TheVariants.{Add, Sub, Mul, And, Or, Xor, Shl, Shr, Sar, Eq, Ltu, Lts}
-
-pub cond_below : (t : Bool) (x y n : ℕ) → x < n → y < n → cond t x y < n
-cond_below true x y n h k = h
-cond_below false x y n h k = k
 
 shr_fits : (w a b : ℕ) → a < 2 ^ w → shr_of w a b < 2 ^ w
 shr_fits w a b h = cond_below (nat_lt b w) (a / 2 ^ b) 0 (2 ^ w) (omega (arith, shr_le a b)) (pow_pos w)

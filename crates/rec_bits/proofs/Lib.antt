@@ -3,4 +3,7 @@ pub mod Fits
 pub mod Masks
 pub mod Faults
 pub mod Booleans
+pub mod Options
+pub mod Equality
+pub mod Bits
 pub mod Lists
