@@ -7,9 +7,9 @@ use Rattle.code_model.proofs.Tracing.{Enough, Told, told, first_agree, paced_agr
 use Rattle.src_model.proofs.WayLemmas.{IsWhole, Whole, Steady, front}
 use Rattle.src_model.specs.Ways.{Passed, Onward}
 use Rattle.code_model.specs.Places.{words_of}
-use Rattle.code_model.specs.Machine.{store_in, TraceEntry}
-use Rattle.code_model.specs.Right.{IsPaced, ShowsSource}
-use Rattle.code_model.specs.Inner.Flow.{Follows}
+use Rattle.code_model.specs.Machine.{TraceEntry}
+use Rattle.code_model.specs.Right.{IsPaced, ShowsBy}
+use Rattle.code_model.specs.Inner.Flow.{FollowsBy}
 
 pub enough_of : (n m : ℕ) (ps : List Passed) → n < m → IsWhole m ps → Enough n ps
 enough_of n m ps lt (inl e) = inl (omega arith)
@@ -19,14 +19,14 @@ paced_more : (clocks a b : ℕ) (es : List TraceEntry) → a ≤ b → IsPaced c
 paced_more clocks a b [] le p = tt
 paced_more clocks a b (e ∷ es) le p = (let q : e.cycle ≤ a = p.0 in omega arith, p.1)
 
-pub shows_of : (netlist : Netlist) (image : Image) (good : State → Type 0) (way : Onward) (s : State) (l : ℕ) → length (words_of image) ≡ l + 1 → ((m : ℕ) → Whole m way) → ((m : ℕ) → Steady m way) →
-    ((m : ℕ) → Follows netlist image good l l s (way m (store_in image s))) → (m : ℕ) → ShowsSource netlist image (λ cells j. way j cells) s m
-shows_of netlist image good way s l long wholes steady follows m =
+pub shows_of : (store : State → List ℕ) (netlist : Netlist) (image : Image) (good : State → Type 0) (way : Onward) (s : State) (l : ℕ) → length (words_of image) ≡ l + 1 → ((m : ℕ) → Whole m way) → ((m : ℕ) → Steady m way) →
+    ((m : ℕ) → FollowsBy store netlist image good l l s (way m (store s))) → (m : ℕ) → ShowsBy store netlist image (λ cells j. way j cells) s m
+shows_of store netlist image good way s l long wholes steady follows m =
     let n : ℕ = m * length (words_of image) in
-    let cells : List ℕ = store_in image s in
+    let cells : List ℕ = store s in
     let far : ℕ = m + (m * length (words_of image) + 1) in
     let whole : IsWhole far (way far cells) = wholes far far (omega arith) cells in
-    let h : Told netlist image l l s 0 n (way far cells) = told netlist image good l (way far cells) l s 0 n (follows far) (enough_of n far (way far cells) (omega arith) whole) in
+    let h : Told store netlist image l l s 0 n (way far cells) = told store netlist image good l (way far cells) l s 0 n (follows far) (enough_of n far (way far cells) (omega arith) whole) in
     record {
       entries = h.entries;
       traced = h.traced;

@@ -6,3 +6,5 @@ pub mod Tracing
 pub mod Marks
 pub mod Traces
 pub mod Bases
+pub mod Masking
+pub mod Unviewed

@@ -9,11 +9,11 @@ use Rattle.code_model.specs.declared.image.Image.{Image}
 use Rattle.net_model.specs.Clock.{clock, Next}
 use Rattle.src_model.specs.Ways.{Passed}
 use Rattle.code_model.specs.Places.{words_of}
-use Rattle.code_model.specs.Machine.{label_in, store_in, TraceEntry, Shows, mtrace}
+use Rattle.code_model.specs.Machine.{label_in, TraceEntry, Shows, trace_of}
 use Rattle.code_model.specs.Right.{passed_of, IsPaced}
 use Rattle.src_model.proofs.WayLemmas.{has_end}
 use Rattle.code_model.specs.Flow.{Reaches}
-use Rattle.code_model.specs.Inner.Flow.{Then, Follows}
+use Rattle.code_model.specs.Inner.Flow.{Then, FollowsBy}
 
 -- ---- what a trace over some clocks has to do with the checkpoints that follow
 
@@ -35,17 +35,17 @@ Agrees l deadline stop (p ∷ ps) (e ∷ es) =
 abbrev pub Enough : ℕ → List Passed → Type 0
 Enough n ps = (n < length ps) ⊎ (has_end ps ≡ true)
 
-pub record Told (netlist : Netlist) (image : Image) (l d : ℕ) (s : State) (c n : ℕ) (ps : List Passed) : Type 0 where
+pub record Told (store : State → List ℕ) (netlist : Netlist) (image : Image) (l d : ℕ) (s : State) (c n : ℕ) (ps : List Passed) : Type 0 where
   pub entries : List TraceEntry
-  pub traced : mtrace netlist image s c n ≡ Shows entries
+  pub traced : trace_of store netlist image s c n ≡ Shows entries
   pub agrees : Agrees l (c + d) (c + n) ps entries
 
-module _ (netlist : Netlist) (image : Image) where
-  step_trace : (s u : State) (c n : ℕ) → label_in netlist image s ≡ None → clock netlist (words_of image) s ≡ Next u → mtrace netlist image s c (suc n) ≡ mtrace netlist image u (c + 1) n
+module _ (store : State → List ℕ) (netlist : Netlist) (image : Image) where
+  step_trace : (s u : State) (c n : ℕ) → label_in netlist image s ≡ None → clock netlist (words_of image) s ≡ Next u → trace_of store netlist image s c (suc n) ≡ trace_of store netlist image u (c + 1) n
   step_trace s u c n e k = rw (e, k) refl
 
   -- clocks between marks show nothing
-  reach_trace : (n : ℕ) (s t : State) (c k : ℕ) → Reaches netlist image s n t → (N C : ℕ) → N ≡ n + k → C ≡ c + n → mtrace netlist image s c N ≡ mtrace netlist image t C k
+  reach_trace : (n : ℕ) (s t : State) (c k : ℕ) → Reaches netlist image s n t → (N C : ℕ) → N ≡ n + k → C ≡ c + n → trace_of store netlist image s c N ≡ trace_of store netlist image t C k
   reach_trace zero s t c k r N C p q =
       let e : N ≡ k = omega arith in
       let f : C ≡ c = omega arith in
@@ -55,20 +55,20 @@ module _ (netlist : Netlist) (image : Image) where
       step_trace s r.0 c N r.1 r.2 ∙ reach_trace n r.0 t (c + 1) k r.3 N C (omega arith) (omega arith)
 
   -- too few clocks for the next mark show nothing
-  short_trace : (n : ℕ) (s t : State) (c N : ℕ) → Reaches netlist image s n t → N < n → mtrace netlist image s c N ≡ Shows []
+  short_trace : (n : ℕ) (s t : State) (c N : ℕ) → Reaches netlist image s n t → N < n → trace_of store netlist image s c N ≡ Shows []
   short_trace zero s t c N r p = absurd (omega arith)
   short_trace (suc n) s t c zero r p = rw r.1 refl
   short_trace (suc n) s t c (suc N) r p = step_trace s r.0 c N r.1 r.2 ∙ short_trace n r.0 t (c + 1) N r.3 (omega arith)
 
-  end_trace : (t : State) (c k : ℕ) (cells : List ℕ) → label_in netlist image t ≡ Some End → store_in image t ≡ cells → mtrace netlist image t c k ≡ Shows (record { cycle = c; passed = record { label = End; cells = cells } } ∷ [])
+  end_trace : (t : State) (c k : ℕ) (cells : List ℕ) → label_in netlist image t ≡ Some End → store t ≡ cells → trace_of store netlist image t c k ≡ Shows (record { cycle = c; passed = record { label = End; cells = cells } } ∷ [])
   end_trace t c zero cells e s = rw (e, s) refl
   end_trace t c (suc k) cells e s = rw (e, s) refl
 
-  last_trace : (t : State) (c tree : ℕ) (cells : List ℕ) → label_in netlist image t ≡ Some (At tree) → store_in image t ≡ cells → mtrace netlist image t c 0 ≡ Shows (record { cycle = c; passed = record { label = At tree; cells = cells } } ∷ [])
+  last_trace : (t : State) (c tree : ℕ) (cells : List ℕ) → label_in netlist image t ≡ Some (At tree) → store t ≡ cells → trace_of store netlist image t c 0 ≡ Shows (record { cycle = c; passed = record { label = At tree; cells = cells } } ∷ [])
   last_trace t c tree cells e s = rw (e, s) refl
 
-  test_trace : (t u : State) (c tree k : ℕ) (cells : List ℕ) (es : List TraceEntry) → label_in netlist image t ≡ Some (At tree) → store_in image t ≡ cells → clock netlist (words_of image) t ≡ Next u →
-      mtrace netlist image u (c + 1) k ≡ Shows es → mtrace netlist image t c (suc k) ≡ Shows (record { cycle = c; passed = record { label = At tree; cells = cells } } ∷ es)
+  test_trace : (t u : State) (c tree k : ℕ) (cells : List ℕ) (es : List TraceEntry) → label_in netlist image t ≡ Some (At tree) → store t ≡ cells → clock netlist (words_of image) t ≡ Next u →
+      trace_of store netlist image u (c + 1) k ≡ Shows es → trace_of store netlist image t c (suc k) ≡ Shows (record { cycle = c; passed = record { label = At tree; cells = cells } } ∷ es)
   test_trace t u c tree k cells es e s clk later = rw (e, s, clk, later) refl
 
   pub enough_later : (k tree : ℕ) (cells : List ℕ) (ps : List Passed) → Enough (suc k) (record { label = At tree; cells = cells } ∷ ps) → Enough k ps
@@ -86,12 +86,12 @@ module _ (netlist : Netlist) (image : Image) where
     -- the trace from a mark on
     pub record ToldAt (t : State) (c k deadline : ℕ) (ps : List Passed) : Type 0 where
       pub entries : List TraceEntry
-      pub traced : mtrace netlist image t c k ≡ Shows entries
+      pub traced : trace_of store netlist image t c k ≡ Shows entries
       pub agrees : Agrees l deadline (c + k) ps entries
 
-    told_at : (label : Checkpoint) (cells : List ℕ) (ps : List Passed) (t : State) (c k deadline : ℕ) → label_in netlist image t ≡ Some label → store_in image t ≡ cells → c ≤ deadline →
-        Then label ps ((u : State) × (clock netlist (words_of image) t ≡ Next u) × Follows netlist image good l l u ps) → Enough k (record { label = label; cells = cells } ∷ ps) →
-        ((u : State) (c n : ℕ) → Follows netlist image good l l u ps → Enough n ps → Told netlist image l l u c n ps) → ToldAt t c k deadline (record { label = label; cells = cells } ∷ ps)
+    told_at : (label : Checkpoint) (cells : List ℕ) (ps : List Passed) (t : State) (c k deadline : ℕ) → label_in netlist image t ≡ Some label → store t ≡ cells → c ≤ deadline →
+        Then label ps ((u : State) × (clock netlist (words_of image) t ≡ Next u) × FollowsBy store netlist image good l l u ps) → Enough k (record { label = label; cells = cells } ∷ ps) →
+        ((u : State) (c n : ℕ) → FollowsBy store netlist image good l l u ps → Enough n ps → Told store netlist image l l u c n ps) → ToldAt t c k deadline (record { label = label; cells = cells } ∷ ps)
     told_at End cells ps t c k deadline e s le then enough ih = record {
       entries = record { cycle = c; passed = record { label = End; cells = cells } } ∷ [];
       traced = end_trace t c k cells e s;
@@ -107,15 +107,15 @@ module _ (netlist : Netlist) (image : Image) where
         stops [] = omega arith
         stops (p ∷ ps) = omega arith
     told_at (At tree) cells ps t c (suc k) deadline e s le then enough ih =
-        let h : Told netlist image l l then.0 (c + 1) k ps = ih then.0 (c + 1) k then.2 (enough_later k tree cells ps enough) in
+        let h : Told store netlist image l l then.0 (c + 1) k ps = ih then.0 (c + 1) k then.2 (enough_later k tree cells ps enough) in
         record {
           entries = record { cycle = c; passed = record { label = At tree; cells = cells } } ∷ h.entries;
           traced = test_trace t then.0 c tree k cells h.entries e s then.1 h.traced;
           agrees = (refl, le, agrees_at l (c + 1 + l) (c + (l + 1)) (c + 1 + k) (c + suc k) ps h.entries (omega arith) (omega arith) h.agrees);
         }
 
-    told_from : (p : Passed) (ps : List Passed) (d : ℕ) (s : State) (c n : ℕ) → (f : Follows netlist image good l d s (p ∷ ps)) → Enough n (p ∷ ps) →
-        ((u : State) (c n : ℕ) → Follows netlist image good l l u ps → Enough n ps → Told netlist image l l u c n ps) → (n < f.0) ⊎ (f.0 ≤ n) → Told netlist image l d s c n (p ∷ ps)
+    told_from : (p : Passed) (ps : List Passed) (d : ℕ) (s : State) (c n : ℕ) → (f : FollowsBy store netlist image good l d s (p ∷ ps)) → Enough n (p ∷ ps) →
+        ((u : State) (c n : ℕ) → FollowsBy store netlist image good l l u ps → Enough n ps → Told store netlist image l l u c n ps) → (n < f.0) ⊎ (f.0 ≤ n) → Told store netlist image l d s c n (p ∷ ps)
     told_from p ps d s c n f enough ih (inl lt) = record {
       entries = [];
       traced = short_trace f.0 s f.1 c n f.3 lt;
@@ -133,7 +133,7 @@ module _ (netlist : Netlist) (image : Image) where
         }
 
     -- where checkpoints follow, the trace shows as many of them as its clocks allow
-    pub told : (ps : List Passed) (d : ℕ) (s : State) (c n : ℕ) → Follows netlist image good l d s ps → Enough n ps → Told netlist image l d s c n ps
+    pub told : (ps : List Passed) (d : ℕ) (s : State) (c n : ℕ) → FollowsBy store netlist image good l d s ps → Enough n ps → Told store netlist image l d s c n ps
     told [] d s c n f (inl lt) = absurd (omega arith)
     told [] d s c n f (inr e) = absurd (cc)
     told (p ∷ ps) d s c n f enough = told_from p ps d s c n f enough (λ u c n. told ps l u c n) (cases_lt n f.0)

@@ -2,6 +2,8 @@ pub mod Places
 pub mod Layout
 pub mod Machine
 pub mod Right
+pub mod Views
+pub mod WorkedViews
 pub mod Words
 pub mod Flow
 pub mod ImageText

@@ -515,7 +515,7 @@ some_pow : (n : ℕ) → 0 < 2 ^ n
 some_pow zero = omega arith
 some_pow (suc n) = let h = some_pow n in omega (arith, h)
 
-start_fits : (netlist : Netlist) (image : Image) (m : MemoryMap) (temps : ℕ) (vars : List Declared) (s : State) → memory_width netlist.storages ≡ m.word → HoldsVars temps vars m → HasCellRoom temps m (memory_size netlist.storages) → image.places ≡ m.places
+pub start_fits : (netlist : Netlist) (image : Image) (m : MemoryMap) (temps : ℕ) (vars : List Declared) (s : State) → memory_width netlist.storages ≡ m.word → HoldsVars temps vars m → HasCellRoom temps m (memory_size netlist.storages) → image.places ≡ m.places
     → IsState netlist s → FitsStore m.word vars (store_in image s)
 start_fits netlist image m temps vars s wide held room places h =
     subst (λ ps. FitsStore m.word vars (cells_at ps s.cells)) (sym places)

@@ -1,4 +1,6 @@
--- How clocks lead from checkpoint to checkpoint, where something holds of each state at a mark.
+-- How clocks lead from checkpoint to checkpoint, where something holds of each state at a mark. What
+-- is said of the store is said over a function that finds it in a state (`FollowsBy`, `RestsBy`), and
+-- then of the store at the places.
 use Rattle.std.specs.Prelude.{ℕ, Bool, true, false, List, [], ◌∷◌, ◌≡◌, ◌≤◌, Some}
 use Rattle.net_model.specs.declared.hardware.Netlist.{Netlist}
 use Rattle.net_model.specs.declared.states.State.{State}
@@ -18,12 +20,15 @@ Then End ps Later = ps ≡ []
 
 -- from s the machine shows these checkpoints: the first within d clocks, each later one within l
 -- clocks of the clock that leaves the one before; and each state at a mark is good
-abbrev pub Follows : Netlist → Image → (State → Type 0) → ℕ → ℕ → State → List Passed → Type 0
-Follows netlist image good l d s [] = Unit {0}
-Follows netlist image good l d s (p ∷ ps) =
+abbrev pub FollowsBy : (State → List ℕ) → Netlist → Image → (State → Type 0) → ℕ → ℕ → State → List Passed → Type 0
+FollowsBy store netlist image good l d s [] = Unit {0}
+FollowsBy store netlist image good l d s (p ∷ ps) =
     (n : ℕ) × (t : State) × (n ≤ d) × Reaches netlist image s n t
-    × (label_in netlist image t ≡ Some p.label) × (store_in image t ≡ p.cells) × good t
-    × Then p.label ps ((u : State) × (clock netlist (words_of image) t ≡ Next u) × Follows netlist image good l l u ps)
+    × (label_in netlist image t ≡ Some p.label) × (store t ≡ p.cells) × good t
+    × Then p.label ps ((u : State) × (clock netlist (words_of image) t ≡ Next u) × FollowsBy store netlist image good l l u ps)
+
+abbrev pub Follows : Netlist → Image → (State → Type 0) → ℕ → ℕ → State → List Passed → Type 0
+Follows netlist image good l d s ps = FollowsBy (store_in image) netlist image good l d s ps
 
 -- from each of these states the machine shows the checkpoints of a way on, up to m of them, the
 -- first within d clocks
@@ -52,9 +57,13 @@ pub record Tests (netlist : Netlist) (image : Image) (tree : ℕ) (test : List �
   pub on_false : test (store_in image s) ≡ false → Leads netlist image R (store_in image s) clocks next
 
 -- at a good state at the end's mark a clock leads to another one, and leaves the store
-pub record Rests (netlist : Netlist) (image : Image) (good : State → Type 0) (s : State) : Type 0 where
+pub record RestsBy (store : State → List ℕ) (netlist : Netlist) (image : Image) (good : State → Type 0)
+    (s : State) : Type 0 where
   pub next : State
   pub clocked : clock netlist (words_of image) s ≡ Next next
   pub label : label_in netlist image next ≡ Some End
   pub holds : good next
-  pub same : store_in image next ≡ store_in image s
+  pub same : store next ≡ store s
+
+abbrev pub Rests : Netlist → Image → (State → Type 0) → State → Type 0
+Rests netlist image good s = RestsBy (store_in image) netlist image good s
