@@ -23,7 +23,7 @@
 //! Files:
 //!
 //! - `values`: the values of all nets, each evaluated once, in the order of the checked netlist, as
-//!   `row_texts` asks for them.
+//!   `word_moves` asks for them.
 //! - `operation`: what inlets and instructions are, and a run of many.
 //! - `decode`: gates, storages and buses turned into operations over places of one array.
 //! - `program`: the instructions of a netlist, in the order of its nets.

@@ -1,6 +1,1 @@
-mod Evaluated
-mod Moved
-mod Targets
-mod Traced
-mod Wide
 mod WordCounts

@@ -9,10 +9,9 @@
 //! fills, or that there is no cover.
 //!
 //! These texts promise nothing but safety and an end, so that what is printed can change without a
-//! proof: the rows of `record_rows` say what it is. What a word does by itself is exact by its
-//! definition (`word_moves`: `IsWordMoves`): the symbolic value of every net, the transfer of every
-//! storage, and the first bus that clashes. The program itself extracts by sets of words; the rows
-//! hold these against each word by itself.
+//! proof: the rows of `record_rows` say what it is. What a word does by itself is exact
+//! (`word_moves`). The program itself extracts by sets of words; the rows hold these against each
+//! word by itself.
 //!
 //! What owns a netlist with its diagrams, its forms or a program lends it to a function that owns
 //! none of these, and lets it go before the next `?`: each way out that lets one go is proved by
@@ -26,27 +25,15 @@
 //!   patterns.
 //! - `expr_text`, `form_text`: expressions and forms.
 //! - `cover_text`: the covers of a program's jobs.
-//! - `evaluate`: the values of all nets in a blank state, by which control is decided; `choices`: the
-//!   net whose value a case or a bus takes; `gates`: the symbolic value of a gate, from the ids of
-//!   the nets that it names; `trace`: the ids of all nets, in their order; `moves`: what each storage
-//!   does, the first clash, and `word_moves`.
-//! - `specs/`: `Moves`, cited by `word_moves`. `specs/Inner/`: `Choices` and `Gates`, which go with
-//!   the loops.
-//! - `proofs/`: `WordCounts` for `words`; `Traced` and `Moved` for nets and storages under a word,
-//!   `Evaluated`, `Targets` and `Wide` for what they ask.
+//! - `proofs/`: `WordCounts` for `words`.
 #![tactic(auto)]
 
-mod choices;
 mod cover_text;
-mod evaluate;
 mod expr_text;
 mod fault;
 mod form_text;
-mod gates;
-mod moves;
 mod netlist;
 mod text;
-mod trace;
 mod words;
 
 pub use cover_text::cover_lines;

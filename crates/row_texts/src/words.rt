@@ -7,7 +7,6 @@ ghost use Rattle.net_model.specs.Widths.{WordFits};
 ghost use Rattle.row_texts.specs.declared.words.TheConstants.{MOST_BITS};
 ghost use Rattle.transfer_set.specs.Tables.{AreSets};
 
-use crate::moves::{StorageMove, word_moves};
 use bit_bdd::{Book, SetId};
 use isa_extract::Isa;
 use net_model::Checked;
@@ -15,6 +14,7 @@ use rec_bits::NoMemory;
 use std::alloc::Global;
 use sym_expr::Pool;
 use transfer_set::Patterns;
+use word_moves::{StorageMove, word_moves};
 
 // The most bits of the words that are gone through.
 const MOST_BITS: u8 = 16;

@@ -1,6 +1,0 @@
-use Rattle.std.proofs.Common.{◌≡◌, drop, slice_index}
-use Rattle.row_texts.specs.Inner.Choices.{driver_target}
-use Rattle.row_texts.proofs.choices.driver_of.Given as goal
-
-abbrev pub invariant-loop-driver : goal.invariant-loop-driver
-invariant-loop-driver l = driver_target (slice_index l.values) l.drivers ≡ driver_target (slice_index l.values) (drop l.driver-index l.drivers)

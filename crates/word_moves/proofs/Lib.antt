@@ -1,0 +1,5 @@
+mod Evaluated
+mod Moved
+mod Targets
+mod Traced
+mod Wide
