@@ -12,6 +12,7 @@ use Rattle.rec_bits.specs.declared.operator.Op1.{Op1}
 use Rattle.rec_bits.specs.declared.operator.Op1.TheVariants.{Not, Neg}
 use Rattle.rec_bits.specs.declared.operator.Op2.{Op2}
 use Rattle.rec_bits.specs.declared.operator.Op2.TheVariants.{Add, Sub, Mul, And, Or, Xor, Shl, Shr, Sar, Eq, Ltu, Lts}
+use Rattle.rec_bits.proofs.Booleans.{or_parts}
 use Rattle.net_model.specs.declared.hardware.Netlist.{Netlist}
 use Rattle.net_model.specs.Nets.{place_in}
 use Rattle.net_model.specs.Exprs.{ExprModel, word, reg, const, read, un, bin, slice, cat, zext, sext, select, TransferModel, keep, write, write_at}
@@ -153,18 +154,14 @@ module _ (netlist : Netlist) (names : HasSpelledNames netlist) where
 
 -- ---- the storage that a text names
 
-none_of : (x y : Bool) → (x || y) ≡ false → (x ≡ false) × (y ≡ false)
-none_of false y e = (refl, e)
-none_of true y e = absurd (true≢false e)
-
 abbrev goes : ℕ → Bool
 goes b = not ((b == 32) || (b == 91))
 
 goes_on : (b : ℕ) → is_mark b ≡ false → goes b ≡ true
 goes_on b h =
-    let open_marks = (none_of (is_close b) (((b == 35) || (b == 40)) || (b == 91) || (b == 32)) h).1 in
-    let last = none_of (((b == 35) || (b == 40)) || (b == 91)) (b == 32) open_marks in
-    let square = none_of ((b == 35) || (b == 40)) (b == 91) last.0 in
+    let open_marks = (or_parts (is_close b) (((b == 35) || (b == 40)) || (b == 91) || (b == 32)) h).1 in
+    let last = or_parts (((b == 35) || (b == 40)) || (b == 91)) (b == 32) open_marks in
+    let square = or_parts ((b == 35) || (b == 40)) (b == 91) last.0 in
     (λ k. not (last.1 k || square.1 k))
 
 stops_at : (name : List ℕ) (c : ℕ) (rest : List ℕ) → Plain name → goes c ≡ false → storage_in (name ++ (c ∷ rest)) ≡ name

@@ -4,6 +4,7 @@ use Rattle.std.proofs.lemmas.Bool.{eqb-true, true≢false}
 use Rattle.std.proofs.lemmas.List.{append-nil, take_all, take_more}
 use Rattle.std.proofs.lemmas.Grind.{flat_map-append}
 use Rattle.std.specs.List.{filter, flat_map}
+use Rattle.rec_bits.proofs.Booleans.{or-false, or_assoc}
 use Rattle.asm_words.specs.Slices.{is_other, once, same_slice}
 use Rattle.asm_words.specs.Inner.Given.{has_slice, with_slice, with_slices}
 use Rattle.asm_words.specs.declared.slices.Slice.{Slice}
@@ -29,16 +30,8 @@ same_parts a b e = by (a.hi == b.hi) (a.lo == b.lo) refl refl e
     by false q u v e = absurd (true≢false (sym e))
 
 has-append : (found : List Slice) (s y : Slice) → has_slice (found ++ (s ∷ [])) y ≡ (has_slice found y || same_slice s y)
-has-append [] s y = or_false (same_slice s y)
-  where
-    or_false : (b : Bool) → (b || false) ≡ b
-    or_false true = refl
-    or_false false = refl
-has-append (x ∷ xs) s y = ap (λ (b : Bool). same_slice x y || b) (has-append xs s y) ∙ assoc (same_slice x y) (has_slice xs y) (same_slice s y)
-  where
-    assoc : (a b c : Bool) → (a || (b || c)) ≡ ((a || b) || c)
-    assoc true b c = refl
-    assoc false b c = refl
+has-append [] s y = or-false (same_slice s y)
+has-append (x ∷ xs) s y = ap (λ (b : Bool). same_slice x y || b) (has-append xs s y) ∙ sym (or_assoc (same_slice x y) (has_slice xs y) (same_slice s y))
 
 module _ (found : List Slice) (s : Slice) where
   -- where the slice was found, those that equal it are left out anyway

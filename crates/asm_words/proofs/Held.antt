@@ -3,6 +3,7 @@ use Rattle.std.proofs.Common.{◌≡◌, inl, inr, ℕ, zero, suc, ◌+◌, ◌^
 use Rattle.std.proofs.lemmas.Bool.{and_from, and_parts, cases_lt, true≢false}
 use Rattle.std.proofs.lemmas.Option.{slice_get-map}
 use Rattle.std.specs.List.{AllByRecursion}
+use Rattle.rec_bits.proofs.Lists.{none_within}
 use Rattle.bit_bdd.specs.Diagrams.{Diagrams, has_word}
 use Rattle.net_model.specs.declared.hardware.Netlist.{Netlist}
 use Rattle.net_model.specs.Patterns.{Pattern}
@@ -17,12 +18,6 @@ use Rattle.nop_synth.specs.Wanted.{all_hold, option_list, row_set}
 use Rattle.nop_synth.proofs.HeldSteps.{hold_both, hold_parts}
 use Rattle.asm_words.specs.Asked.{Gives, is_named, is_of}
 use Rattle.asm_words.specs.Inner.Wanted.{is_row_of, kept_set, kept_sets, line_sets, number_set, row_named}
-
--- what stands within a list is there
-pub some_at : {X : Type 0} (xs : List X) (i : ℕ) → i < length xs → slice_get xs i ≡ None → ⊥
-some_at [] i lt e = absurd (omega (arith, lt))
-some_at (x ∷ xs) zero lt e = cc
-some_at (x ∷ xs) (suc i) lt e = some_at xs i (omega (arith, lt)) e
 
 module _ (netlist : Netlist) (book : Diagrams) (pool : List Node) (table : PatternTable) (ready : IsReady netlist book pool table) (empty : (word : ℕ) → has_word book 0 word ≡ false) where
   abbrev patterns : List Pattern
@@ -68,7 +63,7 @@ module _ (netlist : Netlist) (book : Diagrams) (pool : List Node) (table : Patte
   -- ---- the storages that are to keep
 
   kept_by : (storage word : ℕ) (o : Option ℕ) → slice_get table.keeps storage ≡ o → word < 2 ^ book.bits → storage < length table.keeps → all_hold book (option_list o) word ≡ true → Keeps netlist storage word
-  kept_by storage word None e lt n h = absurd (some_at table.keeps storage n e)
+  kept_by storage word None e lt n h = absurd (none_within table.keeps storage n e)
   kept_by storage word (Some set) e lt n h =
       (let p : (has_word book set word ≡ true) × (true ≡ true) = and_parts _ _ h in
       ((keep_set_at netlist book pool table ready storage set e).words word lt).0 p.0)

@@ -2,6 +2,7 @@
 use Rattle.std.proofs.Common.{◌≡◌, ◌==◌, ◌||◌, ℕ, zero, suc, ◌<◌, Bool, true, false, List, [], ◌∷◌, map, length, slice_get, slice_index_or, Option, None, Some, refl, sym, ap, subst, ◌∙◌, arith}
 use Rattle.std.proofs.lemmas.Bool.{eq-eqb, eqb-true, true≢false}
 use Rattle.std.specs.List.{AllByRecursion}
+use Rattle.rec_bits.proofs.Booleans.{or_left, or_right}
 use Rattle.net_model.specs.declared.hardware.Netlist.{Netlist}
 use Rattle.net_model.specs.Patterns.{IsPattern, Pattern}
 use Rattle.net_model.specs.Exprs.{TransferModel, keep, write, write_at}
@@ -20,18 +21,10 @@ at_place [] k p lt e = absurd (omega arith)
 at_place (x ∷ xs) zero p lt e = ap Some e
 at_place (x ∷ xs) (suc k) p lt e = at_place xs k p (omega arith) e
 
-or_first : (a b : Bool) → a ≡ true → (a || b) ≡ true
-or_first true b e = refl
-or_first false b e = absurd (true≢false (sym e))
-
-or_second : (a b : Bool) → b ≡ true → (a || b) ≡ true
-or_second true b e = refl
-or_second false b e = e
-
 named_at : (patterns : List Pattern) (numbers : List ℕ) (id k n : ℕ) → k < length numbers → slice_index_or numbers k n ≡ n → is_of id (slice_get patterns n) ≡ true → is_named patterns numbers id ≡ true
 named_at patterns [] id k n lt e h = absurd (omega arith)
-named_at patterns (m ∷ ms) id zero n lt e h = or_first _ _ (subst (λ (i : ℕ). is_of id (slice_get patterns i) ≡ true) (sym e) h)
-named_at patterns (m ∷ ms) id (suc k) n lt e h = or_second _ _ (named_at patterns ms id k n (omega arith) e h)
+named_at patterns (m ∷ ms) id zero n lt e h = or_left _ _ (subst (λ (i : ℕ). is_of id (slice_get patterns i) ≡ true) (sym e) h)
+named_at patterns (m ∷ ms) id (suc k) n lt e h = or_right _ _ (named_at patterns ms id k n (omega arith) e h)
 
 module _ (netlist : Netlist) (patterns : List Pattern) (all : HasAll netlist patterns) (word : ℕ) (numbers : List ℕ) (items : List Item) (shown : ShowsLine netlist patterns word numbers items) where
   -- a storage that the line doesn't name keeps

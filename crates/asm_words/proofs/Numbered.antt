@@ -4,6 +4,7 @@ use Rattle.std.proofs.lemmas.Bool.{true≢false}
 use Rattle.std.proofs.lemmas.List.{append-nil, drop_all}
 use Rattle.std.proofs.lemmas.Option.{get_or_from_slice_get, slice_get-map, slice_get_within}
 use Rattle.rec_bits.proofs.Faults.{drop_item}
+use Rattle.rec_bits.proofs.Lists.{none_within}
 use Rattle.std.proofs.lemmas.List.Elements.{All-weaker}
 use Rattle.std.proofs.lemmas.List.Kept.{AllPairs-cons}
 use Rattle.std.specs.List.{All, AllByRecursion, AllPairs, Contains, flat_map}
@@ -21,7 +22,6 @@ use Rattle.asm_text.specs.declared.line.Item.{Item}
 use Rattle.asm_words.specs.Asked.{Gives}
 use Rattle.asm_words.specs.Shown.{ShowsLine, item_of}
 use Rattle.asm_words.specs.Slices.{line_slices, once, pattern_slices}
-use Rattle.asm_words.proofs.Held.{some_at}
 use Rattle.asm_words.specs.Inner.Given.{numbers_in, row_holds, row_slices}
 use Rattle.asm_words.specs.declared.slices.Slice.{Slice}
 
@@ -135,7 +135,7 @@ pub numbers_more : (book : Diagrams) (rows : List Row) (word i : ℕ) (found mor
 numbers_more book rows word i found more lt e holds h f = by (slice_get rows i) refl (f ∙ ap (λ (b : Bool). if b then found ++ i ∷ [] else found) h)
   where
     by : (o : Option Row) → slice_get rows i ≡ o → more ≡ (if row_holds book word o then found ++ i ∷ [] else found) → numbers_in book rows 0 word ≡ more ++ numbers_in book (drop (i + 1) rows) (i + 1) word
-    by None at f = absurd (some_at rows i lt at)
+    by None at f = absurd (none_within rows i lt at)
     by (Some row) at f =
         e ∙ ap (λ (rs : List Row). found ++ numbers_in book rs i word) (drop_at rows i row at)
         ∙ sides (has_word book row.set word) f

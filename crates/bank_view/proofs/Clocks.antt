@@ -4,6 +4,7 @@ use Rattle.std.specs.Prelude.{bit_or, position}
 use Rattle.std.specs.List.{remove, flat_map, AllByRecursion, position_from}
 use Rattle.std.proofs.lemmas.Iterator.Adapters.{position_from-zero}
 use Rattle.std.proofs.lemmas.List.{set-append_left, set-append_right}
+use Rattle.rec_bits.proofs.Lists.{all_at, all_by_place}
 use Rattle.net_model.specs.declared.hardware.Cells.{Cells}
 use Rattle.net_model.specs.declared.hardware.Net.{Net}
 use Rattle.net_model.specs.declared.hardware.Netlist.{Netlist}
@@ -29,7 +30,7 @@ use Rattle.bank_view.specs.Views.{access_nets, enable_nets, enable_count, enable
 use Rattle.bank_view.specs.Clocks.{WritesBoth, IsViewed, IsClash}
 use Rattle.bank_view.proofs.Arrays.{there_in}
 use Rattle.bank_view.proofs.Beside.{banks_of, beside_of, long_cells, typed_beside}
-use Rattle.bank_view.proofs.Lists.{Holds, all_at, all_by_place, all_removed}
+use Rattle.bank_view.proofs.Lists.{Holds, all_removed}
 use Rattle.bank_view.proofs.Places.{all_view, bank_enable_there, bank_there, join_there, memory_access_there, memory_enable_there, net_there}
 use Rattle.bank_view.proofs.Values.{same_value, view_net, access_value, same_count}
 

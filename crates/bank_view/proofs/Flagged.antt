@@ -3,7 +3,7 @@ use Rattle.std.proofs.Common.{◌≡◌, ℕ, zero, suc, ◌+◌, ◌<◌, ◌�
 use Rattle.std.specs.Prelude.{option_to_list}
 use Rattle.std.specs.List.{AllByRecursion}
 use Rattle.std.proofs.lemmas.Option.{slice_get_cases, slice_get_within}
-use Rattle.rec_bits.proofs.Lists.{all_append, all_weaker}
+use Rattle.rec_bits.proofs.Lists.{all_append, all_weaker, all_at}
 use Rattle.rec_bits.specs.Faults.{gather}
 use Rattle.rec_bits.specs.declared.operator.Op1.{Op1}
 use Rattle.rec_bits.specs.declared.operator.Op1.TheVariants.{Neg, Not}
@@ -34,7 +34,7 @@ use Rattle.bank_view.specs.Views.{access_end, access_nets, bank_enable, enable_c
 use Rattle.bank_view.specs.Inner.Banked.{IsBeside}
 use Rattle.bank_view.proofs.Beside.{banks_of, beside_of}
 use Rattle.bank_view.proofs.Clocks.{bank_fits, memory_fits}
-use Rattle.bank_view.proofs.Lists.{Holds, all_at, all_removed}
+use Rattle.bank_view.proofs.Lists.{Holds, all_removed}
 use Rattle.bank_view.proofs.Places.{all_view, bank_enable_there, before_within, join_there, memory_enable_there, net_there, number_within, view_width}
 use Rattle.bank_view.proofs.Values.{view_space}
 

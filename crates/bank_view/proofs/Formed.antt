@@ -5,7 +5,8 @@ use Rattle.std.specs.Cmp.Lexicographic.{pointwise}
 use Rattle.std.proofs.lemmas.List.{length-map}
 use Rattle.std.proofs.lemmas.Nat.{pow_pos}
 use Rattle.std.proofs.lemmas.Option.{slice_get-map}
-use Rattle.rec_bits.proofs.Lists.{all_append}
+use Rattle.std.proofs.lemmas.Grind.{pow_more}
+use Rattle.rec_bits.proofs.Lists.{all_append, all_at, all_by_place}
 use Rattle.rec_bits.specs.Operators.{IsWidth, result_width}
 use Rattle.rec_bits.specs.declared.operator.Op2.{Op2}
 use Rattle.net_model.specs.declared.hardware.Cells.{Cells}
@@ -30,8 +31,8 @@ use Rattle.bank_view.specs.Views.{Numbering, access_end, access_nets, added_nets
 use Rattle.bank_view.proofs.Arrays.{other_array, other_memory, others_no_file, read_addr, read_width, there_in}
 use Rattle.bank_view.proofs.Beside.{beside_of}
 use Rattle.bank_view.proofs.Clocks.{PortFits, bank_fits, memory_fits}
-use Rattle.bank_view.proofs.Kept.{register_there, register_wide, twice, view_limits}
-use Rattle.bank_view.proofs.Lists.{Holds, all_at, all_by_place, all_flat, all_removed}
+use Rattle.bank_view.proofs.Kept.{register_there, register_wide, view_limits}
+use Rattle.bank_view.proofs.Lists.{Holds, all_flat, all_removed}
 use Rattle.bank_view.proofs.Places.{added_there, bank_enable_there, bank_there, join_there, memory_access_there, memory_enable_there, number_wide, standing, view_width}
 use Rattle.bank_view.proofs.Starts.{code_same}
 
@@ -134,7 +135,7 @@ module _ (d : Netlist) (h : HasBanks d) where
       let one : HasWidth (view_of d) at (addr_bits d + 1) = standing d at _ there.0 in
       let second : suc at ≡ at + 1 = omega arith in
       let two : HasWidth (view_of d) (at + 1) (addr_bits d + 1) = subst (λ n. HasWidth (view_of d) n (addr_bits d + 1)) second (standing d (suc at) _ there.1.0) in
-      let fits : 2 ^ addr_bits d < 2 ^ (addr_bits d + 1) = omega (arith, twice (addr_bits d), pow_pos (addr_bits d)) in
+      let fits : 2 ^ addr_bits d < 2 ^ (addr_bits d + 1) = omega (arith, pow_more 2 (addr_bits d), pow_pos (addr_bits d)) in
       ((wide, (a.0, omega (arith, a.1))), ((wide, fits), ((wide, (one.0, (two.0, two.1 ∙ sym one.1), one.1)), tt)))
 
   -- ---- the nets of the netlist

@@ -1,10 +1,10 @@
 -- The view of a netlist that keeps its rules has its roles and keeps the limits.
 use Rattle.std.proofs.Common.{lit<, ◌≡◌, ℕ, zero, suc, ◌+◌, ◌-◌, ◌*◌, ◌^◌, ◌<◌, ◌≤◌, nat_lt, if◌then◌else◌, Bool, true, false, cond, List, [], ◌∷◌, ◌++◌, length, map, option_map, slice_get, slice_index, Option, Some, None, refl, ap, sym, ◌∙◌, subst, arith}
 use Rattle.std.specs.List.{remove, flat_map, AllByRecursion}
-use Rattle.std.proofs.Math.Nat.{pow-suc, pow-le-pow_right}
-use Rattle.std.proofs.Math.Numerals.{add-one}
+use Rattle.std.proofs.Math.Nat.{pow-le-pow_right}
 use Rattle.std.proofs.lemmas.List.{length-append, length-map}
 use Rattle.std.proofs.lemmas.Option.{slice_get-map}
+use Rattle.std.proofs.lemmas.Grind.{pow_more}
 use Rattle.net_model.specs.declared.hardware.Cells.{Cells}
 use Rattle.net_model.specs.declared.hardware.Code.{Code}
 use Rattle.net_model.specs.declared.hardware.Net.{Net}
@@ -97,9 +97,6 @@ same_size : (d : Netlist) (codes : List Code) → code_size (map (renamed_code d
 same_size d [] = refl
 same_size d (code ∷ codes) = refl
 
-pub twice : (k : ℕ) → 2 ^ (k + 1) ≡ 2 ^ k * 2
-twice k = ap (λ n. 2 ^ n) (add-one k) ∙ pow-suc 2 k
-
 module _ (d : Netlist) (h : HasBanks d) where
   beside : IsBeside d
   beside = beside_of d h
@@ -129,7 +126,7 @@ module _ (d : Netlist) (h : HasBanks d) where
   view_roles =
       let size : memory_size (view_of d).storages ≡ 2 ^ addr_bits d + (bank_port d).size = joined_size d (others d) beside.one in
       let bits : memory_addr_width (view_of d).storages ≡ addr_bits d + 1 = joined_addr d (others d) beside.one in
-      let two : 2 ^ (addr_bits d + 1) ≡ 2 ^ addr_bits d * 2 = twice (addr_bits d) in
+      let two : 2 ^ (addr_bits d + 1) ≡ 2 ^ addr_bits d * 2 = pow_more 2 (addr_bits d) in
       let words : code_size (view_of d).codes ≡ code_size d.codes = same_size d d.codes in
       let cells : memory_size (view_of d).storages ≤ 2 ^ (addr_bits d + 1) = omega (arith, size, two, beside.size.1) in
       record {

@@ -70,15 +70,6 @@ module _ {X : Type 0} where
   all_removed P (x ∷ xs) zero h = h.1
   all_removed P (x ∷ xs) (suc b) h = (h.0, all_removed P xs b h.1)
 
-  pub all_at : (P : X → Type 0) (xs : List X) (i : ℕ) (x : X) → AllByRecursion P xs → slice_get xs i ≡ Some x → P x
-  all_at P [] i x h e = absurd (cc)
-  all_at P (y ∷ ys) zero x h e = let q : y ≡ x = cc in subst P q h.0
-  all_at P (y ∷ ys) (suc i) x h e = all_at P ys i x h.1 e
-
-  pub all_by_place : (P : X → Type 0) (xs : List X) → ((i : ℕ) (x : X) → slice_get xs i ≡ Some x → P x) → AllByRecursion P xs
-  all_by_place P [] h = tt
-  all_by_place P (x ∷ xs) h = (h 0 x refl, all_by_place P xs (λ i y e. h (suc i) y e))
-
 -- what holds of all that each item gives
 pub all_flat : {X Y : Type 0} (P : Y → Type 0) (f : X → List Y) → ((x : X) → AllByRecursion P (f x)) → (xs : List X) → AllByRecursion P (flat_map f xs)
 all_flat P f h [] = tt
@@ -94,9 +85,3 @@ index_is (x ∷ xs) [] (suc i) j e = index_is xs [] i j e
 index_is (x ∷ xs) (y ∷ ys) zero zero e = cc
 index_is (x ∷ xs) (y ∷ ys) zero (suc j) e = index_is (x ∷ xs) ys zero j e
 index_is (x ∷ xs) (y ∷ ys) (suc i) j e = index_is xs (y ∷ ys) i j e
-
--- the numbers in two lists are below a bound
-pub append_below : (xs ys : List ℕ) (n : ℕ) → ((a : ℕ) → slice_index xs a < n) → ((a : ℕ) → slice_index ys a < n) → (a : ℕ) → slice_index (xs ++ ys) a < n
-append_below [] ys n h k a = k a
-append_below (x ∷ xs) ys n h k zero = h 0
-append_below (x ∷ xs) ys n h k (suc a) = append_below xs ys n (λ b. h (suc b)) k a

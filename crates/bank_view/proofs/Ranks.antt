@@ -4,7 +4,7 @@ use Rattle.std.proofs.Common.{◌≡◌, ℕ, zero, suc, ◌+◌, ◌-◌, ◌*�
 use Rattle.std.specs.List.{AllByRecursion, flat_map}
 use Rattle.std.proofs.lemmas.Bool.{cases_lt, le-ltb, lt-ltb}
 use Rattle.std.proofs.lemmas.Option.{slice_get_within}
-use Rattle.rec_bits.proofs.Lists.{all_weaker, get_left}
+use Rattle.rec_bits.proofs.Lists.{all_weaker, get_left, none_within}
 use Rattle.net_model.specs.declared.hardware.Net.{Net}
 use Rattle.net_model.specs.declared.hardware.Netlist.{Netlist}
 use Rattle.net_model.specs.declared.hardware.Gate.{Gate}
@@ -37,11 +37,6 @@ get_right : {X : Type 0} (xs ys : List X) (i : ℕ) → length xs ≤ i → slic
 get_right [] ys i h = let e : i ≡ i - 0 = omega arith in ap (slice_get ys) e
 get_right (x ∷ xs) ys zero h = absurd (omega arith)
 get_right (x ∷ xs) ys (suc i) h = let e : i - length xs ≡ suc i - suc (length xs) = omega arith in get_right xs ys i (omega arith) ∙ ap (slice_get ys) e
-
-none_within : {X : Type 0} (xs : List X) (i : ℕ) → i < length xs → slice_get xs i ≡ None → ⊥
-none_within [] i h e = omega (arith, h)
-none_within (x ∷ xs) zero h e = cc
-none_within (x ∷ xs) (suc i) h e = none_within xs i (omega arith) e
 
 -- ---- ranks
 

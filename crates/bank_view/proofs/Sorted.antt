@@ -1,9 +1,9 @@
 -- Nets sorted by a rank that is lower at the nets that they name are in an order.
-use Rattle.std.proofs.Common.{◌≡◌, ℕ, zero, suc, ◌+◌, ◌<◌, ◌≤◌, ◌==◌, nat_lt, if◌then◌else◌, Bool, true, false, cond, List, [], ◌∷◌, length, slice_get, slice_index, Option, Some, None, refl, ap, sym, ◌∙◌, subst, arith, inl, inr, eq-eqb}
+use Rattle.std.proofs.Common.{◌≡◌, ℕ, zero, suc, ◌+◌, ◌<◌, ◌≤◌, ◌==◌, nat_lt, if◌then◌else◌, Bool, true, false, cond, List, [], ◌∷◌, length, slice_get, Option, Some, None, refl, ap, sym, ◌∙◌, subst, arith, inl, inr, eq-eqb}
 use Rattle.std.specs.List.{AllByRecursion}
 use Rattle.std.proofs.lemmas.Bool.{cases_eq, cases_lt, le-ltb, lt-ltb, ne_eqb}
 use Rattle.std.proofs.lemmas.Option.{slice_get_within}
-use Rattle.rec_bits.proofs.Lists.{all_weaker}
+use Rattle.rec_bits.proofs.Lists.{all_weaker, all_index}
 use Rattle.net_model.specs.declared.hardware.Net.{Net}
 use Rattle.net_model.specs.declared.hardware.Netlist.{Netlist}
 use Rattle.net_model.specs.Nets.{gate_nets, nets_of}
@@ -34,13 +34,8 @@ has_behind x m xs h = by (x == m)
 has_rest : (x m : ℕ) (xs : List ℕ) → (x ≡ m → ⊥) → Has (x ∷ xs) m → Has xs m
 has_rest x m xs ne h = let q = place_behind x m xs ne in omega (arith, q, h)
 
-at_index : (P : ℕ → Type 0) (xs : List ℕ) (i : ℕ) → AllByRecursion P xs → i < length xs → P (slice_index xs i)
-at_index P [] i h lt = absurd (omega arith)
-at_index P (x ∷ xs) zero h lt = h.0
-at_index P (x ∷ xs) (suc i) h lt = at_index P xs i h.1 (omega arith)
-
 at_number : (P : ℕ → Type 0) (xs : List ℕ) (m : ℕ) → AllByRecursion P xs → Has xs m → P m
-at_number P xs m h has = subst P (at_place xs m has) (at_index P xs (position_of xs m) h has)
+at_number P xs m h has = subst P (at_place xs m has) (all_index P xs (position_of xs m) h has)
 
 module _ (rank : ℕ → ℕ) where
   -- ---- a sort by rank
@@ -158,7 +153,7 @@ module _ (rank : ℕ → ℕ) where
   ranked netlist low =
       record {
         long = sorted_length (length netlist.nets);
-        nets = λ i lt. at_index (λ m. m < length netlist.nets) (sorted (length netlist.nets)) i (sorted_below (length netlist.nets)) lt;
+        nets = λ i lt. all_index (λ m. m < length netlist.nets) (sorted (length netlist.nets)) i (sorted_below (length netlist.nets)) lt;
         places = λ n lt. sorted_has (length netlist.nets) n lt;
         falls = λ n. by n (slice_get netlist.nets n) refl;
       }

@@ -5,6 +5,7 @@ use Rattle.std.proofs.lemmas.Bool.{cases_lt}
 use Rattle.std.proofs.lemmas.List.{length-append, length-map}
 use Rattle.std.proofs.lemmas.Nat.{pow_pos}
 use Rattle.std.proofs.lemmas.Option.{slice_get-map}
+use Rattle.rec_bits.proofs.Lists.{append_below}
 use Rattle.net_model.specs.declared.hardware.Cells.{Cells}
 use Rattle.net_model.specs.declared.hardware.Code.{Code}
 use Rattle.net_model.specs.declared.hardware.Netlist.{Netlist}
@@ -21,7 +22,7 @@ use Rattle.bank_view.specs.Inner.Banked.{IsBeside}
 use Rattle.bank_view.specs.Views.{join_state, joined, numbering_of, renamed_code, view_of}
 use Rattle.bank_view.proofs.Arrays.{other_memory}
 use Rattle.bank_view.proofs.Beside.{long_cells, port_size, port_width}
-use Rattle.bank_view.proofs.Lists.{append_below, index_is, remove_before, remove_from}
+use Rattle.bank_view.proofs.Lists.{index_is, remove_before, remove_from}
 
 removed_long : {A B : Type 0} (xs : List A) (ys : List B) (b : ℕ) → length xs ≡ length ys → length (remove xs b) ≡ length (remove ys b)
 removed_long [] [] zero e = refl
@@ -71,7 +72,7 @@ module _ (d : Netlist) (h : IsBeside d) where
   cells_fit : (s : State) → IsState d s → (space : Space) (a : ℕ) → slice_index (held (join_state d s) space) a < 2 ^ width_in space (view_of d).storages
   cells_fit s is InMemory a =
       subst (λ n. slice_index (s.cells ++ s.file) a < 2 ^ n) (sym (view_wide d))
-      (append_below s.cells s.file (2 ^ memory_width d.storages) (is.fits.cells InMemory)
+      (append_below (2 ^ memory_width d.storages) s.cells s.file (is.fits.cells InMemory)
       (λ b. subst (λ n. slice_index s.file b < 2 ^ n) same_file_width (is.fits.cells InFile b)) a)
   cells_fit s is InFile a = pow_pos (width_in InFile (view_of d).storages)
 

@@ -1,7 +1,8 @@
 -- The derived `==` of nodes and of operations tells all values apart.
-use Rattle.std.proofs.Common.{◌≡◌, ℕ, true, false, ◌&&◌, true≢false, refl, sym, nat_eq}
-use Rattle.std.proofs.lemmas.Bool.{eqb-true, eq-eqb}
+use Rattle.std.proofs.Common.{◌≡◌, true, false, ◌&&◌, true≢false, refl, sym, nat_eq}
+use Rattle.std.proofs.lemmas.Bool.{eqb-true}
 use Rattle.rec_bits.proofs.Booleans.{both}
+use Rattle.rec_bits.proofs.Equality.{number_self}
 use Rattle.bit_bdd.specs.declared.Node.{Node}
 use Rattle.bit_bdd.specs.declared.Node.TheVariants.{Never, Always, Ask}
 use Rattle.bit_bdd.specs.contracts.NodePartialEq.TheImpl.{ghosts as node_eq}
@@ -27,14 +28,11 @@ exact_node (Ask b z o) (Ask b' z' o') h =
     let eo : o ≡ o' = eqb-true o o' q.1 in
     (λ j. Ask (eb j) (ez j) (eo j))
 
-same_number : (n : ℕ) → nat_eq n n ≡ true
-same_number n = eq-eqb n n refl
-
 -- a node is equal to itself
 pub alike_node : (a : Node) → node_eq.eq a a ≡ true
 alike_node Never = refl
 alike_node Always = refl
-alike_node (Ask b z o) = (λ j. same_number b j && (same_number z j && same_number o j))
+alike_node (Ask b z o) = (λ j. number_self b j && (number_self z j && number_self o j))
 
 -- equal operations are the same
 pub exact_operation : (a b : Operation) → operation_eq.eq a b ≡ true → a ≡ b

@@ -4,7 +4,8 @@ use Rattle.std.specs.Int.{bit_at}
 use Rattle.std.specs.Prelude.{bit_or, bit_xor}
 use Rattle.std.specs.Cmp.{both_ways}
 use Rattle.std.proofs.lemmas.Bool.{eqb-true, eqb-false, eq-eqb, cases_lt}
-use Rattle.std.proofs.lemmas.Nat.Bits.{bit_at-lt, bit_at_above, bit_at_or, bit_at_xor, bit_at-pow_same, bit_at-pow_other}
+use Rattle.std.proofs.lemmas.Nat.Bits.{bit_at-lt, bit_at_above, bit_at_xor, bit_at-pow_same, bit_at-pow_other}
+use Rattle.rec_bits.proofs.Bits.{set_same, set_other}
 use Rattle.bit_bdd.specs.Diagrams.{Diagrams, Point, PointSet, bits_of, branch, set_of, CanReach, with_bit}
 use Rattle.bit_bdd.specs.Shape.{choice, SameOutside, IsProjection, IsReducedBook}
 use Rattle.bit_bdd.proofs.Points.{put, put_same, put_other, word_of, word_of-lt, bits_of-word_of}
@@ -87,13 +88,6 @@ module _ (bit : ℕ) (small : bit < 64) (value : Bool) (set : PointSet) where
 
       here : set (put f bit value) ≡ true → both (put f bit value) ≡ true
       here h = value_is (put f bit value) ∙ ap (λ b. if b then set (put f bit value) else false) (at_literal bit value (put f bit value) (put_same f bit value)) ∙ h
-
--- the bits of a word with one bit set
-set_same : (w b : ℕ) → bit_at (bit_or w (2 ^ b)) b ≡ 1
-set_same w b = let e = bit_at_or w (2 ^ b) b in let p = bit_at-pow_same b in let less = bit_at-lt w b in omega (arith, e, p, less)
-
-set_other : (w b k : ℕ) → k ≢ b → bit_at (bit_or w (2 ^ b)) k ≡ bit_at w k
-set_other w b k apart = let e = bit_at_or w (2 ^ b) k in let p = bit_at-pow_other b k apart in omega (arith, e, p)
 
 clear_same : (w b : ℕ) → bit_at (bit_xor (bit_or w (2 ^ b)) (2 ^ b)) b ≡ 0
 clear_same w b = bit_at_xor (bit_or w (2 ^ b)) (2 ^ b) b ∙ (λ j. (set_same w b j + bit_at-pow_same b j) % 2)

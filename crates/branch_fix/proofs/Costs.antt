@@ -1,5 +1,6 @@
 -- The bound of a program's words is one of its blocks' words.
 use Rattle.std.proofs.Common.{ℕ, zero, suc, ◌≡◌, ◌≤◌, ◌+◌, Bool, true, false, if◌then◌else◌, List, [], ◌∷◌, ◌++◌, length, refl, sym, ◌∙◌, ap, subst, arith, slice_index}
+use Rattle.rec_bits.proofs.Lists.{index_seam}
 use Rattle.src_model.specs.declared.program.Cmp.{Cmp}
 use Rattle.src_model.specs.declared.program.Cmp.TheVariants.{Ne}
 use Rattle.src_model.specs.Written.{StmtModel, assign, choice, while, count, StmtsModel, no_acts, act, ElseModel, without, otherwise, ProgramModel, stmts_of}
@@ -124,15 +125,11 @@ mutual
 span_all : (before costs : List ℕ) (N : ℕ) → N ≡ length before → span (before ++ costs) N (length costs) ≡ sum_of costs
 span_all before [] N e = refl
 span_all before (c ∷ costs) N e =
-    let here : slice_index (before ++ c ∷ costs) N ≡ c = ap (slice_index (before ++ c ∷ costs)) e ∙ behind before c costs in
+    let here : slice_index (before ++ c ∷ costs) N ≡ c = ap (slice_index (before ++ c ∷ costs)) e ∙ index_seam before c costs (length before) refl in
     let h = span_all (before ++ c ∷ []) costs (N + 1) (let l = long before c in omega (arith, l)) in
     let g = ap (λ xs. span xs (N + 1) (length costs)) (more before c costs) in
     omega (arith, here, h, g)
   where
-    behind : (before : List ℕ) (c : ℕ) (costs : List ℕ) → slice_index (before ++ c ∷ costs) (length before) ≡ c
-    behind [] c costs = refl
-    behind (b ∷ before) c costs = behind before c costs
-
     long : (before : List ℕ) (c : ℕ) → length (before ++ c ∷ []) ≡ length before + 1
     long [] c = refl
     long (b ∷ before) c = let h = long before c in omega (arith, h)

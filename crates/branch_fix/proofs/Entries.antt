@@ -3,6 +3,8 @@ use Rattle.std.proofs.Common.{ℕ, zero, suc, ◌≡◌, ◌<◌, ◌==◌, Bool
 use Rattle.std.proofs.lemmas.List.{length-replicate}
 use Rattle.std.proofs.Math.ListN.{length-set}
 use Rattle.std.proofs.lemmas.List.FromFn.{fill_by_all, get_or-map-range_with_len, length-map-range_with_len}
+use Rattle.std.proofs.lemmas.Option.{get_or_from_slice_get}
+use Rattle.rec_bits.proofs.Booleans.{or-false}
 use Rattle.form_model.specs.declared.flow.Flow.{Flow}
 use Rattle.form_model.specs.declared.flow.Flow.TheVariants.{Assign, Test, Jump, End}
 use Rattle.src_trees.specs.Blocks.{is_entered}
@@ -66,15 +68,6 @@ replicate_get zero k lt = absurd (omega arith)
 replicate_get (suc n) zero lt = refl
 replicate_get (suc n) (suc k) lt = replicate_get n k (omega arith)
 
-or_false : (b : Bool) → (b || false) ≡ b
-or_false true = refl
-or_false false = refl
-
-get_is : (xs : List Bool) (k : ℕ) (x d : Bool) → slice_get xs k ≡ Some x → get_or xs k d ≡ x
-get_is [] k x d h = absurd (cc h)
-get_is (y ∷ xs) zero x d h = cc h
-get_is (y ∷ xs) (suc k) x d h = get_is xs k x d h
-
 marked_length : (flow : List Flow) (e : List Bool) → length (marked flow e) ≡ length e
 marked_length [] e = refl
 marked_length (Assign tree ∷ rest) e = marked_length rest e
@@ -85,8 +78,8 @@ marked_length (End ∷ rest) e = marked_length rest e
 -- all of them are set in the end
 pub marked_all : (flow : List Flow) → marked flow (replicate (length flow) false) ≡ entered_places flow
 marked_all flow = fill_by_all (is_entered flow) (marked flow (replicate (length flow) false)) (length flow) false (marked_length flow (replicate (length flow) false) ∙ length-replicate (length flow) false)
-    (λ k lt. get_is (marked flow (replicate (length flow) false)) k (is_entered flow k) false
-    (marked_get flow (replicate (length flow) false) k false (replicate_get (length flow) k lt) ∙ ap (λ y. Some y) (or_false (is_entered flow k))))
+    (λ k lt. get_or_from_slice_get (marked flow (replicate (length flow) false)) k (is_entered flow k) false
+    (marked_get flow (replicate (length flow) false) k false (replicate_get (length flow) k lt) ∙ ap (λ y. Some y) (or-false (is_entered flow k))))
 
 -- a place of the flow
 pub was_some : (flow : List Flow) (entered : List Bool) (k : ℕ) (x : Bool) → k < length flow → entered ≡ entered_places flow

@@ -1,6 +1,8 @@
 -- Rounds: each makes more tests three words, or changes nothing.
 use Rattle.std.proofs.Common.{ℕ, zero, suc, ◌≡◌, ◌≤◌, ◌<◌, ◌+◌, ◌-◌, Bool, true, false, ◌||◌, not, if◌then◌else◌, List, [], ◌∷◌, length, refl, ◌∙◌, ap, arith, slice_get, slice_index, nat_le, sym, subst, Some}
 use Rattle.std.proofs.lemmas.Bool.Decides.{nat_tests}
+use Rattle.rec_bits.proofs.Options.{same_Some}
+use Rattle.rec_bits.proofs.Booleans.{bit_within}
 use Rattle.form_model.specs.Forms.{FormModel}
 use Rattle.branch_fix.specs.declared.part.BranchedTest.{BranchedTest}
 use Rattle.branch_fix.specs.declared.part.LayoutPart.{LayoutPart}
@@ -66,11 +68,7 @@ widened_length forms addresses at (p ∷ parts) = let h = widened_length forms a
 
 pub long_few : (parts : List LayoutPart) → long_tests parts ≤ length parts
 long_few [] = omega arith
-long_few (p ∷ parts) = let h = long_few parts in let k = one (is_long p) in omega (arith, h, k)
-  where
-    one : (b : Bool) → (if b then 1 else 0) ≤ 1
-    one true = omega arith
-    one false = omega arith
+long_few (p ∷ parts) = let h = long_few parts in let k = bit_within (is_long p) in omega (arith, h, k)
 
 round_last : (forms : List FormModel) (n : ℕ) (first : List LayoutPart) → round forms (rounds forms n first) ≡ rounds forms n (round forms first)
 round_last forms zero first = refl
@@ -110,10 +108,7 @@ widened_at : (forms : List FormModel) (addresses : List ℕ) (at : ℕ) (parts :
 widened_at forms addresses at [] k p n e z = absurd (cc e)
 widened_at forms addresses at (q ∷ parts) zero p n e z =
     let same : at ≡ n = omega (arith, z) in
-    subst (λ a. Some (widened_part forms addresses at q) ≡ Some (widened_part forms addresses a p)) same (ap (λ r. Some (widened_part forms addresses at r)) (one q p e))
-  where
-    one : (q p : LayoutPart) → Some q ≡ Some p → q ≡ p
-    one q p e = cc
+    subst (λ a. Some (widened_part forms addresses at q) ≡ Some (widened_part forms addresses a p)) same (ap (λ r. Some (widened_part forms addresses at r)) (same_Some q p e))
 widened_at forms addresses at (q ∷ parts) (suc k) p n e z = widened_at forms addresses (at + room q) parts k p n e (omega (arith, z))
 
 -- a test that is not three words, and stays so, shows its distance

@@ -1,28 +1,12 @@
 -- Changes of one cell after the other, and of one variable's cells after the other's.
-use Rattle.std.proofs.Common.{◌≡◌, ℕ, zero, suc, ◌+◌, ◌<◌, ◌≤◌, true, false, List, [], ◌∷◌, ◌++◌, length, take, drop, get_or, unwrap_or, refl, sym, ap, ◌∙◌, append_assoc, length-append, drop-cons, add-one, arith}
-use Rattle.std.proofs.lemmas.List.{drop-drop, drop-take, get_or-drop, get_or-take, length-drop, length-take, length-take-le, take-take}
-use Rattle.std.specs.Prelude.{slice_get}
+use Rattle.std.proofs.Common.{◌≡◌, ℕ, suc, ◌+◌, ◌<◌, ◌≤◌, List, [], ◌∷◌, ◌++◌, length, take, drop, get_or, sym, ap, ◌∙◌, drop-cons, add-one, arith}
+use Rattle.std.proofs.lemmas.List.{drop-drop, drop-take, get_or-drop, get_or-take, length-take-le, take-take}
+use Rattle.rec_bits.proofs.Lists.{part_length}
 use Rattle.src_model.specs.declared.program.Var.{Var as Declared}
 use Rattle.src_model.specs.Meaning.{cells_in, cell_count}
 use Rattle.checkpoint_watch.specs.Texts.{change, changes, changes_from, store_from}
 
 -- ---- lists
-
-pub value_or_zero : (xs : List ℕ) (i : ℕ) → unwrap_or (slice_get xs i) 0 ≡ get_or xs i 0
-value_or_zero [] zero = refl
-value_or_zero [] (suc i) = refl
-value_or_zero (x ∷ xs) zero = refl
-value_or_zero (x ∷ xs) (suc i) = value_or_zero xs i
-
--- what is written and what is left are the whole
-pub goes_first : (out new initial first more left all : List ℕ) → out ++ left ≡ initial ++ all → left ≡ first ++ more → new ≡ out ++ first → new ++ more ≡ initial ++ all
-goes_first out new initial first more left all e f g = ap (λ (n : List ℕ). n ++ more) g ∙ append_assoc out first more ∙ ap (λ (r : List ℕ). out ++ r) (sym f) ∙ e
-
-pub fits_first : (out initial first more left all : List ℕ) (room : ℕ) → out ++ left ≡ initial ++ all → left ≡ first ++ more → length initial + length all ≤ room → length out + length first ≤ room
-fits_first out initial first more left all room e f h = omega (arith, ap length e, ap length f, length-append out left, length-append initial all, length-append first more)
-
-pub impossible : {P : Type 0} → false ≡ true → P
-impossible e = absurd cc
 
 -- ---- a variable's cells
 
@@ -37,15 +21,12 @@ next_change var i olds news p q =
 in_memory : (n address i : ℕ) (cells : List ℕ) → i < n → get_or (take n (drop address cells)) i 0 ≡ get_or cells (address + i) 0
 in_memory n address i cells lt = get_or-take n (drop address cells) i 0 lt ∙ get_or-drop address cells i 0
 
-as_long : (n address : ℕ) (cells : List ℕ) → address + n ≤ length cells → length (take n (drop address cells)) ≡ n
-as_long n address cells le = omega (arith, length-take n (drop address cells), length-drop address cells)
-
 pub next_in_memory : (var : Declared) (i address value : ℕ) (olds cells : List ℕ) → i < length olds → address + length olds ≤ length cells → value ≡ get_or cells (address + i) 0
     → changes_from var i (drop i olds) (drop i (take (length olds) (drop address cells)))
     ≡ change var i (get_or olds i 0) value ++ changes_from var (i + 1) (drop (i + 1) olds) (drop (i + 1) (take (length olds) (drop address cells)))
 next_in_memory var i address value olds cells lt within e =
     let news : List ℕ = take (length olds) (drop address cells) in
-    next_change var i olds news lt (omega (arith, as_long (length olds) address cells within))
+    next_change var i olds news lt (omega (arith, part_length (length olds) address cells within))
     ∙ ap (λ (v : ℕ). change var i (get_or olds i 0) v ++ changes_from var (i + 1) (drop (i + 1) olds) (drop (i + 1) news)) (in_memory (length olds) address i cells lt ∙ sym e)
 
 -- ---- one variable after the other

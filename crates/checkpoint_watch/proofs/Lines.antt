@@ -1,5 +1,5 @@
 -- Checkpoints whose lines fit their room.
-use Rattle.std.proofs.Common.{◌≡◌, ℕ, ◌^◌, ◌<◌, true, false, List, length, drop, get_or, arith}
+use Rattle.std.proofs.Common.{ℕ, ◌^◌, ◌<◌, List, length, drop, get_or, arith}
 use Rattle.std.proofs.lemmas.List.{length-drop, length-take}
 use Rattle.src_model.specs.declared.checkpoint.Checkpoint.{Checkpoint}
 use Rattle.src_model.specs.declared.program.Var.{Var as Declared}
@@ -16,6 +16,3 @@ entry_fits vars cycle label address cells c l few values = record {
   few = omega (arith, few, length-take (cell_count vars) (drop address cells), length-drop address cells);
   values = λ k. taken_fits (cell_count vars) k (drop address cells) (λ j. left_fits address j cells values);
 }
-
-pub impossible : {P : Type 0} → false ≡ true → P
-impossible e = absurd cc

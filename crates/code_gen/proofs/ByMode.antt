@@ -5,7 +5,8 @@ use Rattle.std.specs.List.{AllByRecursion}
 use Rattle.std.proofs.lemmas.Bool.{cases_lt, lt-ltb}
 use Rattle.std.proofs.lemmas.List.{length-map}
 use Rattle.std.proofs.lemmas.Option.{slice_get-map, slice_get_read, slice_get_within}
-use Rattle.rec_bits.proofs.Lists.{get_left, get_seam, pushed_at}
+use Rattle.rec_bits.proofs.Lists.{get_left, get_seam, pushed_at, there, take_get, all_by_place}
+use Rattle.rec_bits.proofs.Options.{same_Some}
 use Rattle.bit_bdd.specs.Diagrams.{Diagrams}
 use Rattle.net_model.specs.declared.hardware.Netlist.{Netlist}
 use Rattle.net_model.specs.declared.hardware.Space.TheVariants.{File as InFile}
@@ -44,8 +45,7 @@ use Rattle.code_gen.specs.declared.views.Passage.{Passage}
 use Rattle.code_gen.specs.Machines.{known_netlist, known_patterns}
 use Rattle.code_gen.specs.Inner.Planning.{AreFormsBelow, AreFormsIn, AreMachinesOf, AreOperations, AreOperationsOf, ArePassages, AreReadyAll, AreViews, IsPassageIn, IsPassageOrNone, IsReadyMode, IsView, all_forms, all_form_models, listed_form_models, forms_or_none}
 use Rattle.code_gen.proofs.FormLemmas.{all_kept}
-use Rattle.code_gen.proofs.Held.{can_within, same_some, there}
-use Rattle.code_gen.proofs.Listing.{take_get}
+use Rattle.code_gen.proofs.Held.{can_within}
 use Rattle.code_gen.proofs.ModeRegs.{base_register, mode_register}
 
 -- ---- what is extracted in each mode
@@ -117,7 +117,7 @@ views_at (base ∷ bases) [] rest machines h o w v machine e = absurd h
 views_at (base ∷ bases) (isa ∷ isas) [] machines h o w v machine e = absurd o
 views_at (base ∷ bases) (isa ∷ isas) (operations ∷ rest) [] h o w v machine e = absurd w
 views_at (base ∷ bases) (isa ∷ isas) (operations ∷ rest) (m ∷ machines) h o w zero machine e =
-    let same : m ≡ machine = same_some m machine e in
+    let same : m ≡ machine = same_Some m machine e in
     subst (IsViewed (base ∷ bases) 0) same
     (record {
       base = base;
@@ -147,7 +147,7 @@ ready_at [] [] v machine book h e f = absurd (cc e)
 ready_at [] (b ∷ books) v machine book h e f = absurd h
 ready_at (m ∷ machines) [] v machine book h e f = absurd h
 ready_at (m ∷ machines) (b ∷ books) zero machine book h e f =
-    subst (λ (x : KnownMachine). IsReadyMode x book) (same_some m machine e) (subst (λ (x : Diagrams). IsReadyMode m x) (same_some b book f) h.0)
+    subst (λ (x : KnownMachine). IsReadyMode x book) (same_Some m machine e) (subst (λ (x : Diagrams). IsReadyMode m x) (same_Some b book f) h.0)
 ready_at (m ∷ machines) (b ∷ books) (suc v) machine book h e f = ready_at machines books v machine book h.1 e f
 
 -- each machine has one
@@ -164,7 +164,7 @@ ready_set [] [] v machine book h e r = absurd (cc e)
 ready_set [] (b ∷ books) v machine book h e r = absurd h
 ready_set (m ∷ machines) [] v machine book h e r = absurd h
 ready_set (m ∷ machines) (b ∷ books) zero machine book h e r =
-    let one : m ≡ machine = same_some m machine e in
+    let one : m ≡ machine = same_Some m machine e in
     (record { ready = subst (λ (x : KnownMachine). IsReadyFor x.machine book) (sym one) r; reads = h.0.reads }, h.1)
 ready_set (m ∷ machines) (b ∷ books) (suc v) machine book h e r = (h.0, ready_set machines books v machine book h.1 e r)
 
@@ -176,13 +176,9 @@ module _ (netlist : Netlist) (pool : List Node) (rows : List Row) (reach : ℕ) 
   number_is number pattern form (of_jump h e) = ap (λ (r : FormModel). r.pattern) e
   number_is number pattern form (of_branch choice parts b e) = ap (λ (r : FormModel). r.pattern) e
 
-  each_of : {X : Type 0} (P : X → Type 0) (xs : List X) → ((k : ℕ) (x : X) → slice_get xs k ≡ Some x → P x) → AllByRecursion P xs
-  each_of P [] each = tt
-  each_of P (x ∷ xs) each = (each 0 x refl, each_of P xs (λ k y e. each (suc k) y e))
-
   -- each form of a list is of one of the patterns
   pub patterns_below : (forms : List Form) → AreForms netlist (row_patterns pool rows) (models_of_forms forms) reach → AllByRecursion (λ (form : Form). form.pattern < length rows) forms
-  patterns_below forms are = each_of (λ (form : Form). form.pattern < length rows) forms (λ k form e.
+  patterns_below forms are = all_by_place (λ (form : Form). form.pattern < length rows) forms (λ k form e.
       let f : IsForm netlist reach 0 (row_patterns pool rows) (model_of_form form) = form_at netlist reach 0 (row_patterns pool rows) (models_of_forms forms) are.list k (model_of_form form) (slice_get-map model_of_form forms k ∙ ap (option_map model_of_form) e) in
       let lt = slice_get_within (row_patterns pool rows) f.place f.pattern f.at in
       let long = length-map rows (row_pattern pool) in
@@ -271,7 +267,7 @@ module _ (netlist : Netlist) (machines : List KnownMachine) (are : AreMachinesOf
           all = ap (λ (fs : List Forms). length fs) as_all ∙ omega (arith, long, had);
           kept = ap (λ (fs : List Forms). length fs) as_kept ∙ omega (arith, kept_long, had_kept);
           each = λ v m a k lt has e f. each_more (all_forms netlist.special old) old.kept.items all kept n before.all before.kept before.each
-              (λ other there. subst (λ (x : KnownMachine). AreFormsIn netlist n x all kept) (same_some machine other (sym at ∙ there)) own)
+              (λ other there. subst (λ (x : KnownMachine). AreFormsIn netlist n x all kept) (same_Some machine other (sym at ∙ there)) own)
               v m a k has (ap (λ (fs : List Forms). slice_get fs v) (sym as_all) ∙ e)
               (ap (λ (fs : List Forms). slice_get fs v) (sym as_kept) ∙ f);
         }
@@ -357,7 +353,7 @@ module _ (netlist : Netlist) (list : FormsByMode) where
     | inr past ↦ (
         let same : suc v ≡ u = omega (arith, less, past) in
         subst (λ n. UsableAt (usable ++ can ∷ []) n ↔ CanUse netlist (all_form_models netlist list) n) same (
-          λ e. usable_is special v is lt (own.0 (same_some can true (sym at_last ∙ e))),
+          λ e. usable_is special v is lt (own.0 (same_Some can true (sym at_last ∙ e))),
           λ c. at_last ∙ ap (λ (b : Bool). Some b) (own.1 (is_usable special v is c)),
         )
         )
@@ -424,7 +420,7 @@ module _ (netlist : Netlist) (keeps : KeepsModes netlist) (machines : List Known
         → IsModeWord (known_netlist machine) (Some special) (known_patterns machine) (models_of_forms own.list.items) to number word
         → IsModeWord (base_at netlist u) netlist.special (known_patterns told) (all_form_models netlist list u) to number word
     word_as u to number word machine told own at also has w =
-        subst (λ (m : KnownMachine). IsModeWord (base_at netlist u) netlist.special (known_patterns m) (all_form_models netlist list u) to number word) (same_some machine told (sym at ∙ also))
+        subst (λ (m : KnownMachine). IsModeWord (base_at netlist u) netlist.special (known_patterns m) (all_form_models netlist list u) to number word) (same_Some machine told (sym at ∙ also))
         (subst (λ (n : Netlist). IsModeWord n netlist.special (known_patterns machine) (all_form_models netlist list u) to number word) (are.nets u machine at)
         (subst (λ (o : Option ℕ). IsModeWord (known_netlist machine) o (known_patterns machine) (all_form_models netlist list u) to number word) (sym is)
         (subst (λ (list : List FormModel). IsModeWord (known_netlist machine) (Some special) (known_patterns machine) list to number word) (sym (forms_there u own has)) w)))

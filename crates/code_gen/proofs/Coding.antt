@@ -2,6 +2,7 @@
 use Rattle.std.proofs.Common.{◌≡◌, ℕ, zero, suc, ◌+◌, ◌<◌, ◌≤◌, ◌-◌, Bool, true, false, List, [], ◌∷◌, ◌++◌, Option, Some, None, length, slice_get, refl, sym, ap, subst, ◌∙◌, inl, inr, add-one, arith, length-append}
 use Rattle.std.specs.Prelude.{slice_index_or}
 use Rattle.std.proofs.lemmas.Bool.{cases_lt}
+use Rattle.rec_bits.proofs.Booleans.{true_false}
 use Rattle.form_model.specs.declared.flow.Flow.{Flow}
 use Rattle.form_model.specs.declared.flow.Flow.TheVariants.{Assign, Test, Jump, End}
 use Rattle.src_trees.specs.Blocks.{IsAssignBlock, continues, is_assign, jobs_at}
@@ -91,9 +92,6 @@ module _ (flow : List Flow) where
       | inr more ↦ omega arith
     ]
   ]
-    where
-      true_false : (b : Bool) → b ≡ true → b ≡ false → ⊥
-      true_false b e f = cc
 
 -- an assignment is no test
 pub no_test : (o : Option Flow) → is_assign o ≡ true → place_tests o ≡ 0

@@ -1,6 +1,7 @@
 -- The registers that are wanted behind a test are those that its branch's condition reads.
 use Rattle.std.proofs.Common.{◌≡◌, ℕ, ◌<◌, ◌≤◌, ◌||◌, ◌^◌, nat_lt, Bool, true, false, Some, length, slice_get, refl, sym, ◌∙◌, ap, arith}
 use Rattle.std.proofs.lemmas.Bool.{ltb-true, ltb-false, ne_eqb}
+use Rattle.rec_bits.proofs.Booleans.{or_from}
 use Rattle.net_model.specs.declared.hardware.Space.TheVariants.{Memory as InMemory, File as InFile}
 use Rattle.net_model.specs.declared.hardware.Netlist.{Netlist}
 use Rattle.net_model.specs.ModeRules.{KeepsInOrder, base_at}
@@ -29,9 +30,6 @@ use Rattle.right_code.proofs.Layouts.{cover_goal}
 use Rattle.right_code.proofs.Turns.{fork_form}
 use Rattle.code_gen.specs.Inner.Registers.{AreConditionReads, pattern_condition}
 
-neither : (a b : Bool) → a ≡ false → b ≡ false → (a || b) ≡ false
-neither a b e f = ap (λ x. x || b) e ∙ f
-
 -- an expression of a netlist reads no register past its storages
 past_netlist : (netlist : Netlist) → length netlist.storages ≤ 15 → (t : ExprModel) → IsExprOf netlist t → (i r : ℕ) → 16 ≤ r → expr_reads i t (register r) ≡ false
 past_netlist netlist few (word w) h i r le = refl
@@ -40,14 +38,14 @@ past_netlist netlist few (const w v) h i r le = refl
 past_netlist netlist few (read InMemory a w) h i r le = past_netlist netlist few a h.0 i r le
 past_netlist netlist few (read InFile a w) h i r le = past_netlist netlist few a h.0 i r le
 past_netlist netlist few (un o a) h i r le = past_netlist netlist few a h i r le
-past_netlist netlist few (bin o a b) h i r le = neither (expr_reads i a (register r)) (expr_reads i b (register r)) (past_netlist netlist few a h.0 i r le) (past_netlist netlist few b h.1 i r le)
+past_netlist netlist few (bin o a b) h i r le = or_from (expr_reads i a (register r)) (expr_reads i b (register r)) (past_netlist netlist few a h.0 i r le) (past_netlist netlist few b h.1 i r le)
 past_netlist netlist few (slice a hi lo) h i r le = past_netlist netlist few a h.0 i r le
-past_netlist netlist few (cat a b) h i r le = neither (expr_reads i a (register r)) (expr_reads i b (register r)) (past_netlist netlist few a h.0 i r le) (past_netlist netlist few b h.1 i r le)
+past_netlist netlist few (cat a b) h i r le = or_from (expr_reads i a (register r)) (expr_reads i b (register r)) (past_netlist netlist few a h.0 i r le) (past_netlist netlist few b h.1 i r le)
 past_netlist netlist few (zext a w) h i r le = past_netlist netlist few a h.0 i r le
 past_netlist netlist few (sext a w) h i r le = past_netlist netlist few a h.0 i r le
 past_netlist netlist few (select c a b) h i r le =
-    neither (expr_reads i c (register r)) (expr_reads i a (register r) || expr_reads i b (register r)) (past_netlist netlist few c h.0 i r le)
-    (neither (expr_reads i a (register r)) (expr_reads i b (register r)) (past_netlist netlist few a h.1 i r le) (past_netlist netlist few b h.2 i r le))
+    or_from (expr_reads i c (register r)) (expr_reads i a (register r) || expr_reads i b (register r)) (past_netlist netlist few c h.0 i r le)
+    (or_from (expr_reads i a (register r)) (expr_reads i b (register r)) (past_netlist netlist few a h.1 i r le) (past_netlist netlist few b h.2 i r le))
 
 module _ (task : Task) (checked : IsChecked task) (isas : Isas task.netlist) where
   -- the registers that are wanted after a test's steps

@@ -1,5 +1,6 @@
 -- What is known of a planned program: the netlists, the forms and the words of its task's modes.
 use Rattle.std.proofs.Common.{◌≡◌, ◌<◌, ◌^◌, ℕ, true, List, length, Some, sym, ◌∙◌, ap, subst, slice_get, arith}
+use Rattle.rec_bits.proofs.Lists.{there}
 use Rattle.net_model.specs.ModeRules.{base_at, modes_in}
 use Rattle.net_model.specs.Exprs.{ExprModel}
 use Rattle.form_model.specs.declared.flow.Flow.{Flow}
@@ -29,7 +30,7 @@ use Rattle.code_gen.specs.Machines.{known_netlist, known_patterns}
 use Rattle.code_gen.specs.Inner.Planning.{IsPlanning, plans_in, jobs_in}
 use Rattle.code_gen.specs.Inner.Registers.{AreConditionReads}
 use Rattle.code_gen.proofs.Conditions.{wanted_registers}
-pub use Rattle.code_gen.proofs.Held.{can_within, held_is, held_small, same_some, there, told_stock}
+pub use Rattle.code_gen.proofs.Held.{can_within, held_is, held_small, told_stock}
 use Rattle.code_gen.proofs.Stepping.{job_there, plan_there, planned_at}
 
 -- the place of the form at the root of a cover

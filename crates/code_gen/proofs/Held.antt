@@ -1,7 +1,8 @@
 -- The numbers that a mode may be, and what stands in lists by modes.
-use Rattle.std.proofs.Common.{◌≡◌, ◌<◌, ℕ, zero, suc, Bool, true, false, nat_lt, if◌then◌else◌, List, get_or, length, Some, refl, sym, ◌∙◌, ap, slice_get, inl, inr, arith}
+use Rattle.std.proofs.Common.{◌≡◌, ◌<◌, ℕ, zero, suc, Bool, true, false, nat_lt, if◌then◌else◌, List, get_or, length, Some, refl, sym, ◌∙◌, ap, slice_get, arith}
 use Rattle.std.proofs.lemmas.Bool.{ltb-true}
-use Rattle.std.proofs.lemmas.Option.{slice_get-get_or, slice_get_cases, slice_get_read}
+use Rattle.std.proofs.lemmas.Option.{slice_get-get_or, slice_get_read}
+use Rattle.rec_bits.proofs.Lists.{there}
 use Rattle.net_model.specs.declared.hardware.Netlist.{Netlist}
 use Rattle.net_model.specs.ModeRules.{modes_in}
 use Rattle.net_model.proofs.ModeFaults.{some_modes}
@@ -38,19 +39,9 @@ pub can_within : (netlist : Netlist) (all : ℕ → List FormModel) (v : ℕ) �
 can_within netlist all zero can = some_modes netlist
 can_within netlist all (suc v) can = ltb-true (suc v) (modes_in netlist) can.0
 
--- what stands in a list below its length
-pub there : {A : Type 0} (xs : List A) (k : ℕ) → k < length xs → (x : A) × (slice_get xs k ≡ Some x)
-there {A} xs k lt = elim (slice_get_cases xs k).1 as (λ _. (x : A) × (slice_get xs k ≡ Some x)) [
-  | inl some ↦ (some.0, some.2)
-  | inr none ↦ absurd (let past = none.0 in omega (arith, lt, past))
-]
-
 -- what an index reads
 pub read : {A : Type 0} (xs : List A) (k : ℕ) (x : A) → k < length xs → x ≡ get_or xs k x → slice_get xs k ≡ Some x
 read xs k x lt is = slice_get_read xs (length xs) k x refl lt is
-
-pub same_some : {A : Type 0} (x y : A) → Some x ≡ Some y → x ≡ y
-same_some x y e = cc
 
 -- the stock of a mode is that of its forms
 pub told_stock : (modes : Modes) (task : Task) (isas : Isas task.netlist) → AreTaskModes modes task isas → (temps : ℕ) → temps ≡ temp_count task.width task.program → (v : ℕ) → v < modes_in task.netlist

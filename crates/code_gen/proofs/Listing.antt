@@ -1,8 +1,9 @@
 -- The plans of jobs, their costs and the words of items, one after the other.
-use Rattle.std.proofs.Common.{◌≡◌, ℕ, zero, suc, ◌+◌, ◌<◌, ◌≤◌, List, [], ◌∷◌, ◌++◌, Some, map, option_map, take, length, get_or, slice_get, refl, sym, ap, subst, ◌∙◌, add-one, append_assoc, arith}
+use Rattle.std.proofs.Common.{◌≡◌, ℕ, zero, suc, ◌+◌, ◌<◌, ◌≤◌, List, [], ◌∷◌, ◌++◌, Some, map, option_map, take, length, get_or, slice_get, refl, sym, ap, subst, ◌∙◌, append_assoc, arith}
 use Rattle.std.specs.List.{AllByRecursion}
 use Rattle.std.proofs.lemmas.List.{length-take-le, map-append}
 use Rattle.std.proofs.lemmas.Option.{slice_get-map, slice_get_read}
+use Rattle.rec_bits.proofs.Lists.{take_get}
 use Rattle.net_model.specs.declared.hardware.Netlist.{Netlist}
 use Rattle.net_model.specs.Patterns.{Pattern}
 use Rattle.code_model.specs.declared.image.Word.{Word}
@@ -23,14 +24,6 @@ use Rattle.code_gen.specs.declared.fault.CodeFault.TheVariants.{NoStep, NoJump, 
 use Rattle.code_gen.proofs.Stepping.{plans_even}
 
 -- ---- lists
-
-pub take_get : {X : Type 0} (xs : List X) (i : ℕ) (x : X) → slice_get xs i ≡ Some x → take (i + 1) xs ≡ take i xs ++ (x ∷ [])
-take_get {X = X} xs i x h = ap (λ k. take k xs) (add-one i) ∙ go xs i h
-  where
-    go : (ys : List X) (k : ℕ) → slice_get ys k ≡ Some x → take (suc k) ys ≡ take k ys ++ (x ∷ [])
-    go [] k e = absurd cc
-    go (y ∷ ys) zero e = let q : y ≡ x = cc in ap (λ (z : X). z ∷ []) q
-    go (y ∷ ys) (suc k) e = ap (λ (zs : List X). y ∷ zs) (go ys k e)
 
 pub all_more : {X : Type 0} (P : X → Type 0) (xs : List X) (x : X) → AllByRecursion P xs → P x → AllByRecursion P (xs ++ x ∷ [])
 all_more P [] x h p = (p, tt)

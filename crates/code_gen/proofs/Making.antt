@@ -1,6 +1,7 @@
 -- An image that is put together of the words of its layout is made for its task.
 use Rattle.std.proofs.Common.{◌≡◌, ℕ, zero, suc, ◌+◌, ◌<◌, Bool, true, false, if◌then◌else◌, List, [], ◌∷◌, ◌++◌, map, Option, Some, length, slice_get, slice_index, refl, sym, ap, subst, ◌∙◌, arith, length-append, append_assoc}
 use Rattle.std.proofs.lemmas.Option.{slice_get_within}
+use Rattle.rec_bits.proofs.Lists.{index_seam}
 use Rattle.net_model.specs.declared.hardware.Netlist.{Netlist}
 use Rattle.net_model.specs.Patterns.{Pattern}
 use Rattle.code_model.specs.declared.image.Word.{Word}
@@ -48,12 +49,6 @@ module _ (netlist : Netlist) (patterns : List Pattern) (kept : Regs) (blocks : L
   words_list [] (w ∷ words) h = absurd h
   words_list (i ∷ items) [] h = absurd h
   words_list (i ∷ items) (w ∷ words) h = (h.0.lists, words_list items words h.1)
-
-index_seam : (front : List ℕ) (w : ℕ) (rest : List ℕ) (at : ℕ) → at ≡ length front → slice_index (front ++ w ∷ rest) at ≡ w
-index_seam [] w rest zero e = refl
-index_seam [] w rest (suc at) e = absurd (omega arith)
-index_seam (x ∷ front) w rest zero e = absurd (omega arith)
-index_seam (x ∷ front) w rest (suc at) e = index_seam front w rest at (omega arith)
 
 -- jump and branch words that keep the register that holds the mode keep the mode
 module _ (netlist : Netlist) (patterns : List Pattern) (special : Option ℕ) (register : IsModeRegister special netlist) (blocks : List PackedBlock) where

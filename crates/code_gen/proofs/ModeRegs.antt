@@ -1,10 +1,11 @@
 -- The set of the register that holds the mode, and words that keep it.
-use Rattle.std.proofs.Common.{◌≡◌, ◌==◌, ◌||◌, ◌*◌, ◌^◌, ◌<◌, ◌≤◌, ℕ, Fits, w64, Bool, true, false, bit_or, max, length, List, Option, Some, None, refl, sym, ◌∙◌, ap, subst, slice_get, arith}
+use Rattle.std.proofs.Common.{◌≡◌, ◌==◌, ◌||◌, ◌*◌, ◌^◌, ◌<◌, ◌≤◌, ℕ, Fits, w64, Bool, bit_or, length, List, Option, Some, None, sym, ◌∙◌, ap, subst, slice_get, arith}
 use Rattle.std.specs.Int.{bit_at}
 use Rattle.std.specs.Int.Bits.{or_zero_r}
 use Rattle.std.proofs.lemmas.Grind.{common_steps}
 use Rattle.std.proofs.lemmas.Nat.Bits.{bit_at-lt, bit_at_or}
 use Rattle.std.proofs.Math.Pow.{pow_mono}
+use Rattle.rec_bits.proofs.Bits.{max_bits}
 use Rattle.net_model.specs.declared.hardware.Netlist.{Netlist}
 use Rattle.net_model.specs.declared.hardware.Storage.{Storage}
 use Rattle.net_model.specs.CheckedRules.{IsMode}
@@ -37,17 +38,9 @@ pub mode_with : (o : Option ℕ) (n : ℕ) → regs_of (bit_or n (mode_bits o)) 
 mode_with None n = ap regs_of (or_zero_r n)
 mode_with (Some mode) n = λ j r. joined r j
   where
-    either : (a b : ℕ) → a < 2 → b < 2 → (max a b == 1) ≡ ((a == 1) || (b == 1))
-    either a b p q = by (a == 1) (b == 1) refl refl
-      where
-        by : (x y : Bool) → (a == 1) ≡ x → (b == 1) ≡ y → (max a b == 1) ≡ (x || y)
-        by true y e f = grind (arith, e, f, p, q)
-        by false true e f = grind (arith, e, f, p, q)
-        by false false e f = grind (arith, e, f, p, q)
-
     joined : (r : ℕ) → regs_of (bit_or n (2 ^ mode)) r ≡ (regs_of n r || (r == mode))
     joined r =
-        ap (λ k. k == 1) (bit_at_or n (2 ^ mode) r) ∙ either (bit_at n r) (bit_at (2 ^ mode) r) (bit_at-lt n r) (bit_at-lt (2 ^ mode) r)
+        ap (λ k. k == 1) (bit_at_or n (2 ^ mode) r) ∙ max_bits (bit_at n r) (bit_at (2 ^ mode) r) (bit_at-lt n r) (bit_at-lt (2 ^ mode) r)
         ∙ ap (λ (b : Bool). regs_of n r || b) (one_live mode r)
 
 -- ---- words

@@ -1,7 +1,8 @@
 -- The steps and the words of a planned program's cuts and tests.
 use Rattle.std.proofs.Common.{◌≡◌, ◌≢◌, ◌<◌, ◌≤◌, ◌+◌, ◌-◌, ◌^◌, ◌++◌, ℕ, zero, suc, List, [], ◌∷◌, Option, Some, length, slice_get, bit_or, refl, sym, ◌∙◌, ap, subst, append-nil, append_assoc, arith}
 use Rattle.std.specs.Option.{unwrap_or}
-use Rattle.rec_bits.proofs.Lists.{all_append}
+use Rattle.rec_bits.proofs.Lists.{all_append, there as get_there}
+use Rattle.rec_bits.proofs.Options.{same_Some}
 use Rattle.bit_bdd.specs.Diagrams.{Diagrams}
 use Rattle.net_model.specs.declared.hardware.Netlist.{Netlist}
 use Rattle.net_model.specs.ModeRules.{base_at, modes_in}
@@ -53,7 +54,7 @@ use Rattle.code_gen.specs.Inner.Registers.{AreConditionReads}
 use Rattle.code_gen.specs.Inner.Views.{mode_bits, place_mode}
 use Rattle.code_gen.proofs.ByMode.{books_long, ready_at}
 use Rattle.code_gen.proofs.Cutting.{IsAway, StartsAway, alone_first, alone_words, away_place, jobs_apart, mode_steps, places_mode, plans_apart, starts_away, zeros_first, zeros_words}
-use Rattle.code_gen.proofs.Frames.{held_is, machine_there, machine_within, mode_usable, net_is, root_form, root_of, same_some, stock_is, test_mode, there as get_there, usable_within, wanted_is}
+use Rattle.code_gen.proofs.Frames.{held_is, machine_there, machine_within, mode_usable, net_is, root_form, root_of, stock_is, test_mode, usable_within, wanted_is}
 use Rattle.code_gen.proofs.ModeRegs.{mode_live, mode_with}
 use Rattle.code_gen.proofs.Packing.{told_words}
 use Rattle.code_gen.proofs.Stepping.{even_places, plans_even}
@@ -297,7 +298,7 @@ packed_in modes mode steps old new own machine bits there same adds once packed 
   own = own;
   adds = adds;
   once = once;
-  packed = λ other at. subst (λ (m : KnownMachine). IsPackedBlock (known_netlist m) (known_patterns m) steps (regs_of (mode_bits modes.special)) own) (same_some machine other (sym there ∙ at))
+  packed = λ other at. subst (λ (m : KnownMachine). IsPackedBlock (known_netlist m) (known_patterns m) steps (regs_of (mode_bits modes.special)) own) (same_Some machine other (sym there ∙ at))
       (subst (λ n. IsPackedBlock (known_netlist machine) (known_patterns machine) steps (regs_of n) own) same packed);
 }
 

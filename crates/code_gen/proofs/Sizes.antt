@@ -1,5 +1,6 @@
 -- The blocks of a program have no more words than its trees cost.
 use Rattle.std.proofs.Common.{◌≡◌, ℕ, zero, suc, ◌+◌, ◌-◌, ◌<◌, ◌≤◌, Bool, true, false, ◌&&◌, nat_lt, not, List, [], ◌∷◌, drop, Option, Some, None, length, slice_get, slice_index, refl, sym, ap, subst, ◌∙◌, add-one, arith}
+use Rattle.rec_bits.proofs.Booleans.{and-false}
 use Rattle.form_model.specs.declared.flow.Flow.{Flow}
 use Rattle.form_model.specs.declared.flow.Flow.TheVariants.{Assign, Test, Jump, End}
 use Rattle.src_trees.specs.Blocks.{IsAssignBlock, continues, is_assign, is_entered}
@@ -47,11 +48,7 @@ not_continued flow at e = by (is_assign (slice_get flow (at + 1 - 1))) (ap (λ k
   where
     by : (b : Bool) → b ≡ false → (nat_lt 0 (at + 1) && (b && (is_assign (slice_get flow (at + 1)) && not (is_entered flow (at + 1))))) ≡ false
     by true e = absurd cc
-    by false e = both (nat_lt 0 (at + 1))
-      where
-        both : (b : Bool) → (b && false) ≡ false
-        both true = refl
-        both false = refl
+    by false e = and-false (nat_lt 0 (at + 1))
 
 continued_assign : (flow : List Flow) (at : ℕ) → continues flow at ≡ true → is_assign (slice_get flow at) ≡ true
 continued_assign flow at e = by (nat_lt 0 at) (is_assign (slice_get flow (at - 1))) (is_assign (slice_get flow at)) (not (is_entered flow at)) e

@@ -1,6 +1,7 @@
 -- A task in another spelling is checked where its own is, and coded where that is.
 use Rattle.std.proofs.Common.{◌≡◌, ℕ, zero, suc, ◌+◌, ◌<◌, ◌≤◌, ◌⊎◌, inl, inr, Bool, true, false, if◌then◌else◌, List, [], ◌∷◌, length, Some, refl, sym, ◌∙◌, ap, subst, arith, slice_get}
 use Rattle.std.proofs.lemmas.Option.{slice_get_within}
+use Rattle.rec_bits.proofs.Lists.{there}
 use Rattle.form_model.specs.declared.flow.Flow.{Flow}
 use Rattle.form_model.specs.declared.flow.Flow.TheVariants.{Assign, Test as Tested, Jump as Jumped, End as Ended}
 use Rattle.form_model.specs.Forms.{DestinationModel, into, cell, filed, stored, temporary, tested}
@@ -17,7 +18,6 @@ use Rattle.right_code.specs.Covered.{mode_stock}
 use Rattle.right_code.specs.Jobs.{HasOne}
 use Rattle.right_code.specs.Tasks.{HasJobs, IsChecked, Task, task_memory, task_temps}
 use Rattle.right_code.specs.FlowJobs.{AllOne, AreFlowJobs, IsStoringJob, IsTestJob, node_limit}
-use Rattle.right_code.proofs.Inside.{get_there}
 use Rattle.code_model.specs.declared.image.Image.{Image}
 use Rattle.code_model.specs.declared.image.Places.{Places}
 use Rattle.code_model.specs.Right.{TracesRight}
@@ -64,10 +64,10 @@ module _ (task : Task) (checked : IsChecked task) (plain : IsPlain task) (spelle
 
   -- the job of a number, and what stands for it
   other_at : (k : ℕ) (a : JobModel) → slice_get task.jobs k ≡ Some a → (b : JobModel) × (slice_get s.jobs k ≡ Some b)
-  other_at k a e = let within = slice_get_within task.jobs k a e in let same = s.are.count in get_there s.jobs k (omega (arith, within, same))
+  other_at k a e = let within = slice_get_within task.jobs k a e in let same = s.are.count in there s.jobs k (omega (arith, within, same))
 
   own_at : (k : ℕ) (b : JobModel) → slice_get s.jobs k ≡ Some b → (a : JobModel) × (slice_get task.jobs k ≡ Some a)
-  own_at k b e = let within = slice_get_within s.jobs k b e in let same = s.are.count in get_there task.jobs k (omega (arith, within, same))
+  own_at k b e = let within = slice_get_within s.jobs k b e in let same = s.are.count in there task.jobs k (omega (arith, within, same))
 
   -- ---- destinations
 

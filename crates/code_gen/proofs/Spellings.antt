@@ -3,6 +3,7 @@
 use Rattle.std.proofs.Common.{◌≡◌, ℕ, zero, suc, ◌+◌, ◌<◌, ◌⊎◌, inl, inr, Bool, false, List, [], ◌∷◌, ◌++◌, length, Some, refl, sym, ◌∙◌, ap, subst, arith, slice_get, unwrap_or}
 use Rattle.std.proofs.lemmas.List.{length-append}
 use Rattle.std.proofs.lemmas.Option.{slice_get_within}
+use Rattle.rec_bits.proofs.Options.{same_Some}
 use Rattle.form_model.specs.Covers.{StockModel}
 use Rattle.mode_set.specs.Costs.{mode_cost}
 use Rattle.src_trees.specs.Lowered.{JobModel}
@@ -13,11 +14,8 @@ use Rattle.code_gen.proofs.Told.{planned_along}
 
 -- ---- one job more
 
-same_some : {A : Type 0} (x y : A) → Some x ≡ Some y → x ≡ y
-same_some x y e = cc
-
 get_more : {A : Type 0} (xs : List A) (x : A) (k : ℕ) (y : A) → slice_get (xs ++ x ∷ []) k ≡ Some y → (slice_get xs k ≡ Some y) ⊎ ((k ≡ length xs) × (x ≡ y))
-get_more [] x zero y e = inr (refl, same_some x y e)
+get_more [] x zero y e = inr (refl, same_Some x y e)
 get_more [] x (suc k) y e = absurd (cc e)
 get_more (z ∷ xs) x zero y e = inl e
 get_more (z ∷ xs) x (suc k) y e = by (get_more xs x k y e)

@@ -3,6 +3,8 @@
 use Rattle.std.proofs.Common.{◌≡◌, ◌<◌, ◌↔◌, ℕ, zero, suc, Bool, List, [], ◌∷◌, length, map, Option, Some, sym, ◌∙◌, ap, subst, slice_get, arith}
 use Rattle.std.proofs.lemmas.Bool.{ltb-true}
 use Rattle.std.proofs.lemmas.Option.{slice_get_within}
+use Rattle.rec_bits.proofs.Options.{same_Some}
+use Rattle.rec_bits.proofs.Lists.{there}
 use Rattle.net_model.specs.declared.hardware.Netlist.{Netlist}
 use Rattle.net_model.specs.ModeRules.{base_at, modes_in}
 use Rattle.net_model.specs.Exprs.{ExprModel}
@@ -36,7 +38,7 @@ use Rattle.code_gen.specs.Inner.Planning.{AreFormsBelow, AreFormsIn, AreMachines
 use Rattle.code_gen.specs.Inner.Imaged.{IsCodedIn}
 use Rattle.code_gen.specs.Inner.Uncovered.{IsUncovered}
 use Rattle.code_gen.specs.Refusals.{HasJumps, IsCodeFault, IsFormless, IsJumpless, IsStepless}
-use Rattle.code_gen.proofs.Held.{can_within, held_is, held_small, same_some, there, told_stock}
+use Rattle.code_gen.proofs.Held.{can_within, held_is, held_small, told_stock}
 
 -- ---- instruction sets
 
@@ -81,7 +83,7 @@ module _ (netlist : Netlist) (machines : List KnownMachine) (list : FormsByMode)
   kept_small v kept at = let lt = slice_get_within list.kept.items v kept at in let long = forms.kept in omega (arith, lt, long)
 
   one_at : {X : Type 0} (xs : List X) (v : ℕ) (x y : X) → v < modes_in netlist → slice_get xs v ≡ Some x → slice_get xs (held netlist v) ≡ Some y → x ≡ y
-  one_at xs v x y lt e f = same_some x y (sym e ∙ ap (slice_get xs) (sym (held_is netlist v lt)) ∙ f)
+  one_at xs v x y lt e f = same_Some x y (sym e ∙ ap (slice_get xs) (sym (held_is netlist v lt)) ∙ f)
 
   patterns_are : (v : ℕ) (machine : KnownMachine) → slice_get machines v ≡ Some machine → known_patterns machine ≡ (own_isas v).patterns
   unfolding own_isas is_there isa_of
@@ -104,7 +106,7 @@ module _ (netlist : Netlist) (machines : List KnownMachine) (list : FormsByMode)
   own_forms : (v : ℕ) (kept : Forms) → slice_get list.kept.items v ≡ Some kept → (machine : KnownMachine) × (all : Forms) × AreFormsIn netlist v machine all kept
   own_forms v kept at =
       let t : IsThere v = is_there v (kept_small v kept at) in
-      (t.machine, t.all, subst (AreFormsIn netlist v t.machine t.all) (same_some t.kept kept (sym t.kept_at ∙ at)) t.own)
+      (t.machine, t.all, subst (AreFormsIn netlist v t.machine t.all) (same_Some t.kept kept (sym t.kept_at ∙ at)) t.own)
 
   reach_are : (v : ℕ) (kept : Forms) → slice_get list.kept.items v ≡ Some kept → kept.reach ≡ greatest_reach (own_isas v).keeping
   reach_are v kept at = (own_forms v kept at).2.reach ∙ ap greatest_reach (forms_are v kept at)

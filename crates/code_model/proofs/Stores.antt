@@ -2,12 +2,6 @@
 use Rattle.std.proofs.Common.{ℕ, zero, suc, ◌≡◌, ◌+◌, List, [], ◌∷◌, ◌++◌, take, drop, refl, sym, ◌∙◌, ap, arith, slice_set}
 use Rattle.code_model.specs.Places.{cells_at, cells_of, places_from}
 
-pub drop-set : (at k n : ℕ) (cells : List ℕ) (value : ℕ) → n ≡ at + k → drop at (slice_set cells n value) ≡ slice_set (drop at cells) k value
-drop-set zero k n cells value e = let f : n ≡ k = omega arith in rw f refl
-drop-set (suc at) k n [] value e = refl
-drop-set (suc at) k zero (c ∷ cells) value e = absurd (omega arith)
-drop-set (suc at) k (suc n) (c ∷ cells) value e = drop-set at k n cells value (omega arith)
-
 pub take-set : (n k : ℕ) (cells : List ℕ) (value : ℕ) → take n (slice_set cells k value) ≡ slice_set (take n cells) k value
 take-set zero k cells value = refl
 take-set (suc n) k [] value = refl

@@ -2,6 +2,7 @@
 use Rattle.std.proofs.Common.{◌≡◌, ℕ, ◌+◌, ◌-◌, ◌≤◌, inl, inr, suc, List, [], ◌∷◌, ◌++◌, length, length-append, Some, refl, sym, ◌∙◌, ap, arith, subst}
 use Rattle.std.specs.List.{remove, slice_get}
 use Rattle.std.proofs.lemmas.Bool.{cases_lt}
+use Rattle.rec_bits.proofs.Lists.{get_seam, remove_seam}
 use Rattle.form_model.specs.Effects.{Operation}
 use Rattle.form_model.specs.Live.{Regs, live_before}
 use Rattle.compaction.specs.Packing.{Mergeable, Movable}
@@ -23,14 +24,6 @@ module _ {X : Type 0} where
       let h : z ≡ w = cc in
       let s : IsSplitAlike f x b g y c = split_alike f x b g y c t (omega arith) in
       record { front = ap (λ k. k ∷ f) h ∙ ap (λ k. w ∷ k) s.front; one = s.one; back = s.back }
-
-  get_there : (a : List X) (x : X) (b : List X) → slice_get (a ++ x ∷ b) (length a) ≡ Some x
-  get_there [] x b = refl
-  get_there (y ∷ a) x b = get_there a x b
-
-  remove_there : (a : List X) (x : X) (b : List X) → remove (a ++ x ∷ b) (length a) ≡ a ++ b
-  remove_there [] x b = refl
-  remove_there (y ∷ a) x b = ap (λ z. y ∷ z) (remove_there a x b)
 
 -- the pair of a list at a place
 record IsPair {A : Type 0} (gs : List (List A)) (pair : ℕ) (front : List (List A)) (g h : List A) (back : List (List A)) : Type 0 where
@@ -64,9 +57,9 @@ module _ {A : Type 0} (m : A → Operation) (fits : ℕ → List A → Regs → 
   move_not : (g a : List A) (x : A) (b : List A) (back : List (List A)) (g1 h1 : List A) (back1 : List (List A)) → g ≡ g1 → a ++ x ∷ b ≡ h1 → back ≡ back1 → Movable m fits g x (a ++ b) (live_before m back after)
       → ((y : A) → slice_get h1 (length a) ≡ Some y → Movable m fits g1 y (remove h1 (length a)) (live_before m back1 after) → ⊥) → ⊥
   move_not g a x b back g1 h1 back1 eg eh eb w u =
-      u x (ap (λ z. slice_get z (length a)) (sym eh) ∙ get_there a x b)
+      u x (ap (λ z. slice_get z (length a)) (sym eh) ∙ get_seam a x b)
       (subst (λ z. Movable m fits z x (remove h1 (length a)) (live_before m back1 after)) eg
-      (subst (λ z. Movable m fits g x z (live_before m back1 after)) (sym (remove_there a x b) ∙ ap (λ z. remove z (length a)) eh)
+      (subst (λ z. Movable m fits g x z (live_before m back1 after)) (sym (remove_seam a x b) ∙ ap (λ z. remove z (length a)) eh)
       (subst (λ z. Movable m fits g x (a ++ b) (live_before m z after)) eb w)))
 
   -- two packings by this rule are one

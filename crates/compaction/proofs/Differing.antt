@@ -1,6 +1,7 @@
 -- Destinations that differ.
 use Rattle.std.proofs.Common.{◌≡◌, ℕ, ◌&&◌, ◌==◌, Bool, true, false, not, if◌then◌else◌, List, [], ◌∷◌, ◌++◌, refl, sym}
 use Rattle.std.proofs.lemmas.Bool.{true≢false, eqb-false, ne_eqb, or_from, or_parts, and_from, and_parts}
+use Rattle.rec_bits.proofs.Booleans.{not_true}
 use Rattle.net_model.specs.declared.hardware.Space.{Space}
 use Rattle.net_model.specs.declared.hardware.Space.TheVariants.{Memory as InMemory, File as InFile}
 use Rattle.net_model.specs.Exprs.{ExprModel, TransferModel, keep, write, write_at}
@@ -53,10 +54,6 @@ transfer_sym a b s t (write v) (write w) i j e = ne_eqb b a (λ k. eqb-false a b
 
 same_destination_sym : (p q : Operation) → same_destination p q ≡ false → same_destination q p ≡ false
 same_destination_sym p q e = transfer_sym p.storage q.storage p.space q.space p.move q.move p.setting q.setting e
-
-not_true : (b : Bool) → not b ≡ true → b ≡ false
-not_true true e = absurd (true≢false (sym e))
-not_true false e = refl
 
 from_false : (b : Bool) → b ≡ false → not b ≡ true
 from_false true e = absurd (true≢false e)

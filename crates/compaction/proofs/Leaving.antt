@@ -4,15 +4,13 @@ use Rattle.std.specs.List.{remove, slice_get}
 use Rattle.std.specs.Option.{MatchOption}
 use Rattle.std.proofs.lemmas.List.{length-drop, take_all}
 use Rattle.std.proofs.lemmas.Option.{slice_get-get_or}
+use Rattle.rec_bits.proofs.Options.{same_Some}
 use Rattle.form_model.specs.declared.forms.Step.{Step}
 use Rattle.form_model.specs.Effects.{Operation}
 use Rattle.form_model.specs.Live.{Regs}
 use Rattle.compaction.specs.Packing.{Movable}
 use Rattle.compaction.specs.Inner.Turns.{IsMovedAt}
 use Rattle.compaction.specs.declared.change.Pair.{Pair}
-
-some_same : {X : Type 0} (x y : X) → Some x ≡ Some y → x ≡ y
-some_same x y e = cc
 
 left_of : {X : Type 0} (xs : List X) (i : ℕ) → i < length xs → take i xs ++ drop (suc i) xs ≡ remove xs i
 left_of [] i lt = absurd (omega (arith, lt))
@@ -37,5 +35,5 @@ moved_there m fits g h front back index step d live found lt es ef eb = by found
 
     by : (o : Option Pair) → MatchOption o (Movable m fits g step (front ++ back) live → ⊥) (λ (pair : Pair). (pair.first.group ≡ g ++ step ∷ []) × (pair.second.group ≡ front ++ back) × Movable m fits g step (front ++ back) live)
         → MatchOption o ((x : Step) → slice_get h index ≡ Some x → Movable m fits g x (remove h index) live → ⊥) (λ (pair : Pair). IsMovedAt m fits g h live index pair.first.group pair.second.group)
-    by None u = λ x e w. u (subst (λ z. Movable m fits g step z live) (sym rest) (subst (λ z. Movable m fits g z (remove h index) live) (some_same x step (sym e ∙ at)) w))
+    by None u = λ x e w. u (subst (λ z. Movable m fits g step z live) (sym rest) (subst (λ z. Movable m fits g z (remove h index) live) (same_Some x step (sym e ∙ at)) w))
     by (Some pair) w = record { step = step; at = at; first_is = w.0; second_is = w.1 ∙ rest; movable = subst (λ z. Movable m fits g step z live) rest w.2 }

@@ -4,6 +4,8 @@ use Rattle.std.specs.List.{slice_index_or}
 use Rattle.std.proofs.lemmas.Bool.{cases_lt}
 use Rattle.std.proofs.lemmas.List.{get_or-map}
 use Rattle.std.proofs.lemmas.Option.{slice_get-get_or, get_or_from_slice_get}
+use Rattle.rec_bits.proofs.Options.{same_Some, none-some}
+use Rattle.rec_bits.proofs.Lists.{index_old}
 use Rattle.form_model.specs.Effects.{Operation}
 use Rattle.form_model.specs.Live.{Regs, live_at, live_before, regs_of, singles}
 use Rattle.word_fit.specs.Fits.{IsLeastFit}
@@ -12,31 +14,20 @@ use Rattle.word_fit.proofs.Least.{word_at_place}
 use Rattle.word_fit.proofs.Needed.{lives_at}
 use Rattle.compaction.specs.Inner.Found.{AreFound}
 
-push_old : (xs : List ℕ) (x k : ℕ) → k < length xs → slice_index (xs ++ x ∷ []) k ≡ slice_index xs k
-push_old [] x k lt = absurd (omega arith)
-push_old (y ∷ xs) x zero lt = refl
-push_old (y ∷ xs) x (suc k) lt = push_old xs x k (omega arith)
-
 push_new : (xs : List ℕ) (x : ℕ) → slice_index (xs ++ x ∷ []) (length xs) ≡ x
 push_new [] x = refl
 push_new (y ∷ xs) x = push_new xs x
-
-none_some : {X : Type 0} (x : X) → None ≡ Some x → ⊥
-none_some x e = cc
-
-some_same : {X : Type 0} (x y : X) → Some x ≡ Some y → x ≡ y
-some_same x y e = cc
 
 -- what holds of the words so far, and of one more
 pub least_more : {A : Type 0} (P : ℕ → List A → ℕ → Type 0) (gs : List (List A)) (words new : List ℕ) (i w : ℕ) (g : List A) → length words ≡ i → new ≡ words ++ w ∷ [] → slice_get gs i ≡ Some g → P i g w
     → ((k : ℕ) (h : List A) → k < i → slice_get gs k ≡ Some h → P k h (slice_index words k)) → (k : ℕ) (h : List A) → k < i + 1 → slice_get gs k ≡ Some h → P k h (slice_index new k)
 least_more P gs words new i w g el en eg p before k h lt e =
     elim (cases_lt k i) as (λ _. P k h (slice_index new k)) [
-      | inl u ↦ subst (λ z. P k h z) (sym (ap (λ z. slice_index z k) en ∙ push_old words w k (omega (arith, el, u)))) (before k h u e)
+      | inl u ↦ subst (λ z. P k h z) (sym (ap (λ z. slice_index z k) en ∙ index_old words w k (omega (arith, el, u)))) (before k h u e)
       | inr u ↦
           (let same : i ≡ k = omega arith in
           let last : slice_index new k ≡ w = ap (λ z. slice_index new z) (sym same ∙ sym el) ∙ ap (λ z. slice_index z (length words)) en ∙ push_new words w in
-          let one : g ≡ h = some_same g h (sym eg ∙ ap (λ z. slice_get gs z) same ∙ e) in
+          let one : g ≡ h = same_Some g h (sym eg ∙ ap (λ z. slice_get gs z) same ∙ e) in
           subst (λ z. P k h z) (sym last) (subst (λ z. P k z w) one (subst (λ z. P z g w) same p)))
     ]
 
@@ -56,12 +47,12 @@ module _ {A : Type 0} (m : A → Operation) (fits : ℕ → List A → Regs → 
 
   -- the word that was found for the group at a place
   pub found_there : (found : List (Option ℕ)) (gs : List (List A)) (k : ℕ) (g : List A) (live : Regs) → slice_get gs k ≡ Some g → live ≡ live_at m gs after k → AreFound m fits found gs after → IfSome (get_or found k None) (IsLeastFit (λ w. fits w g live))
-  found_there [] [] k g live e el f = absurd (none_some g e)
+  found_there [] [] k g live e el f = absurd (none-some g e)
   found_there [] (h ∷ gs) k g live e el f = absurd f
   found_there (w ∷ found) [] k g live e el f = absurd f
   found_there (w ∷ found) (h ∷ gs) zero g live e el f =
       subst (λ (l : Regs). IfSome w (IsLeastFit (λ n. fits n g l))) (sym el)
-      (subst (λ z. IfSome w (IsLeastFit (λ n. fits n z (live_before m gs after)))) (some_same h g e) f.0)
+      (subst (λ z. IfSome w (IsLeastFit (λ n. fits n z (live_before m gs after)))) (same_Some h g e) f.0)
   found_there (w ∷ found) (h ∷ gs) (suc k) g live e el f = found_there found gs k g live e (el ∙ later h gs k) f.1
     where
       later : (h : List A) (gs : List (List A)) (k : ℕ) → live_at m (h ∷ gs) after (suc k) ≡ live_at m gs after k

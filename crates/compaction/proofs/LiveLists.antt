@@ -3,6 +3,7 @@ use Rattle.std.proofs.Common.{◌≡◌, ℕ, ◌+◌, ◌<◌, zero, suc, List,
 use Rattle.std.specs.List.{remove}
 use Rattle.std.proofs.lemmas.List.{map-set, length-map}
 use Rattle.std.proofs.lemmas.List.{get_or-map}
+use Rattle.rec_bits.proofs.Lists.{remove_seam, set-append_seam}
 use Rattle.form_model.specs.Effects.{Operation}
 use Rattle.form_model.specs.Live.{Regs, live_before, regs_of}
 use Rattle.word_fit.specs.Groups.{lives_of}
@@ -17,14 +18,6 @@ module _ {X Y : Type 0} (f : X → Y) where
   map-remove (x ∷ xs) (suc i) = ap (λ z. f x ∷ z) (map-remove xs i)
 
 module _ {X : Type 0} where
-  remove_at : (front : List X) (x : X) (back : List X) → remove (front ++ x ∷ back) (length front) ≡ front ++ back
-  remove_at [] x back = refl
-  remove_at (y ∷ front) x back = ap (λ z. y ∷ z) (remove_at front x back)
-
-  set_at : (front : List X) (x y : X) (back : List X) → set (front ++ x ∷ back) (length front) y ≡ front ++ y ∷ back
-  set_at [] x y back = refl
-  set_at (z ∷ front) x y back = ap (λ l. z ∷ l) (set_at front x y back)
-
   get_second : (front : List X) (x y : X) (back : List X) (d : X) → get_or (front ++ x ∷ y ∷ back) (suc (length front)) d ≡ y
   get_second [] x y back d = refl
   get_second (z ∷ front) x y back d = get_second front x y back d
@@ -63,7 +56,7 @@ module _ {A : Type 0} (m : A → Operation) (after : Regs) where
       let s : k ≡ length f = omega (arith, a.place, length-lives front (live_before m (g ∷ h ∷ back) after)) in
       ap (λ z. map regs_of z) en ∙ map-remove regs_of sets k ∙ ap (λ z. remove z k) (sets_at gs k g h front back sets a e)
       ∙ ap (λ i. remove (f ++ live_before m (h ∷ back) after ∷ live_before m back after ∷ lives_of m back after) i) s
-      ∙ remove_at f (live_before m (h ∷ back) after) (live_before m back after ∷ lives_of m back after)
+      ∙ remove_seam f (live_before m (h ∷ back) after) (live_before m back after ∷ lives_of m back after)
       ∙ ap (λ l. lives_of m front l ++ live_before m back after ∷ lives_of m back after) el
       ∙ sym (ap (λ z. lives_of m z after) eh ∙ lives-append front (both ∷ back))
 
@@ -73,7 +66,7 @@ module _ {A : Type 0} (m : A → Operation) (after : Regs) where
       let s : k ≡ length f = omega (arith, a.place, length-lives front (live_before m (g ∷ h ∷ back) after)) in
       ap (λ z. map regs_of z) en ∙ map-set regs_of sets k b ∙ ap (λ z. set z k (regs_of b)) (sets_at gs k g h front back sets a e)
       ∙ ap (λ i. set (f ++ live_before m (h ∷ back) after ∷ live_before m back after ∷ lives_of m back after) i (regs_of b)) s
-      ∙ set_at f (live_before m (h ∷ back) after) (regs_of b) (live_before m back after ∷ lives_of m back after)
+      ∙ set-append_seam f (live_before m (h ∷ back) after) (live_before m back after ∷ lives_of m back after) (regs_of b)
       ∙ ap (λ l. f ++ l ∷ live_before m back after ∷ lives_of m back after) eb
       ∙ ap (λ l. lives_of m front l ++ live_before m (rest ∷ back) after ∷ live_before m back after ∷ lives_of m back after) el
       ∙ sym (ap (λ z. lives_of m z after) eh ∙ lives-append front (more ∷ rest ∷ back))

@@ -7,13 +7,10 @@ use Rattle.form_model.specs.Effects.{Operation, register, location_of, transfer_
 use Rattle.form_model.specs.Live.{Regs, group_reads, group_writes, live_before}
 use Rattle.std.specs.List.Sorted.{IsPermutation}
 use Rattle.std.proofs.lemmas.List.Sorted.{IsPermutation-refl, IsPermutation-sym, IsPermutation-trans, IsPermutation-append_left, IsPermutation-append_right, IsPermutation-middle}
+use Rattle.rec_bits.proofs.Booleans.{or_assoc}
 use Rattle.compaction.specs.Packing.{all_steps, is_read_by, reads_across, reads_from, shares_destination}
 use Rattle.compaction.specs.Inner.Turns.{IsSame}
 use Rattle.compaction.proofs.Effects.{effect-merge, effect-append, apply_all-pull}
-
-pub or-assoc : (a b c : Bool) → (a || (b || c)) ≡ ((a || b) || c)
-or-assoc true b c = refl
-or-assoc false b c = refl
 
 transfer_spot_written : (p : Operation) (storage : ℕ) (space : Space) (setting : ℕ) (move : TransferModel) (r : ℕ) → transfer_writes storage move r ≡ true → reads p (transfer_location storage space setting move) ≡ false → reads p (register r) ≡ false
 transfer_spot_written p storage space setting keep r w e = absurd (true≢false (sym w))
@@ -37,11 +34,11 @@ merge_bits false false false d false h = refl
 module _ {A : Type 0} (m : A → Operation) where
   pub reads-append : (g h : List A) (r : ℕ) → group_reads m (g ++ h) r ≡ (group_reads m g r || group_reads m h r)
   reads-append [] h r = refl
-  reads-append (x ∷ g) h r = ap (λ b. reads (m x) (register r) || b) (reads-append g h r) ∙ or-assoc (reads (m x) (register r)) (group_reads m g r) (group_reads m h r)
+  reads-append (x ∷ g) h r = ap (λ b. reads (m x) (register r) || b) (reads-append g h r) ∙ sym (or_assoc (reads (m x) (register r)) (group_reads m g r) (group_reads m h r))
 
   pub writes-append : (g h : List A) (r : ℕ) → group_writes m (g ++ h) r ≡ (group_writes m g r || group_writes m h r)
   writes-append [] h r = refl
-  writes-append (x ∷ g) h r = ap (λ b. writes (m x) r || b) (writes-append g h r) ∙ or-assoc (writes (m x) r) (group_writes m g r) (group_writes m h r)
+  writes-append (x ∷ g) h r = ap (λ b. writes (m x) r || b) (writes-append g h r) ∙ sym (or_assoc (writes (m x) r) (group_writes m g r) (group_writes m h r))
 
   read_unwritten : (p : Operation) (g : List A) (r : ℕ) → reads_from m p g ≡ false → group_writes m g r ≡ true → reads p (register r) ≡ false
   read_unwritten p [] r e w = absurd (true≢false (sym w))

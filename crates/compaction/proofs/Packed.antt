@@ -1,7 +1,8 @@
 -- What a turn of the packer keeps.
-use Rattle.std.proofs.Common.{◌≡◌, ℕ, ◌+◌, ◌-◌, ◌<◌, ◌≤◌, zero, suc, List, [], ◌∷◌, ◌++◌, length, drop, refl, sym, ◌∙◌, ap, arith, subst, length-append, Some, None}
+use Rattle.std.proofs.Common.{◌≡◌, ℕ, ◌+◌, ◌-◌, ◌<◌, ◌≤◌, zero, suc, List, [], ◌∷◌, ◌++◌, length, drop, refl, sym, ◌∙◌, ap, arith, subst, length-append, Some}
 use Rattle.std.specs.List.{slice_get, remove}
 use Rattle.std.specs.List.Sorted.{IsPermutation}
+use Rattle.rec_bits.proofs.Options.{same_Some, none-some}
 use Rattle.form_model.specs.Effects.{Operation}
 use Rattle.form_model.specs.Live.{Regs, live_before, singles}
 use Rattle.word_fit.specs.Groups.{AllHaveWords}
@@ -129,19 +130,10 @@ module _ {A : Type 0} (m : A → Operation) (fits : ℕ → List A → Regs → 
   start xs w = record { words = w; differ = singles_differ xs; settled = tt }
 
   settled_at : (gs : List (List A)) (k : ℕ) (g h : List A) → AllSettled m fits after gs → slice_get gs k ≡ Some g → slice_get gs (suc k) ≡ Some h → IsSettled m fits g h (live_before m (drop (suc (suc k)) gs) after)
-  settled_at [] k g h s eg eh = absurd (none_some g eg)
-    where
-      none_some : (x : List A) → None ≡ Some x → ⊥
-      none_some x e = cc
-  settled_at (f ∷ []) k g h s eg eh = absurd (none_some h eh)
-    where
-      none_some : (x : List A) → None ≡ Some x → ⊥
-      none_some x e = cc
+  settled_at [] k g h s eg eh = absurd (none-some g eg)
+  settled_at (f ∷ []) k g h s eg eh = absurd (none-some h eh)
   settled_at (f ∷ i ∷ gs) zero g h s eg eh =
-      subst (λ z. IsSettled m fits z h (live_before m gs after)) (some_same f g eg) (subst (λ z. IsSettled m fits f z (live_before m gs after)) (some_same i h eh) s.0)
-    where
-      some_same : (x y : List A) → Some x ≡ Some y → x ≡ y
-      some_same x y e = cc
+      subst (λ z. IsSettled m fits z h (live_before m gs after)) (same_Some f g eg) (subst (λ z. IsSettled m fits f z (live_before m gs after)) (same_Some i h eh) s.0)
   settled_at (f ∷ i ∷ gs) (suc k) g h s eg eh = settled_at (i ∷ gs) k g h s.1 eg eh
 
   pub is_packed : (gs : List (List A)) → AllSettled m fits after gs → IsPacked m fits after gs

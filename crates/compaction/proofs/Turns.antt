@@ -4,6 +4,7 @@ use Rattle.std.specs.List.{remove, slice_get}
 use Rattle.std.proofs.lemmas.List.{take-append-drop, length-take-le, take_all, length-drop}
 use Rattle.std.proofs.lemmas.Option.{slice_get_within, get_or_from_slice_get}
 use Rattle.std.proofs.Math.Seq.{drop-cons}
+use Rattle.rec_bits.proofs.Lists.{set-append_seam}
 use Rattle.form_model.specs.Effects.{Operation}
 use Rattle.form_model.specs.Live.{Regs, live_before}
 use Rattle.compaction.specs.Packing.{EachDiffers, IsSettled, Mergeable, Movable, all_differ}
@@ -41,10 +42,6 @@ module _ {X : Type 0} where
   remove_second [] g h back = refl
   remove_second (x ∷ front) g h back = ap (λ z. x ∷ z) (remove_second front g h back)
 
-  set_first : (front : List X) (g y : X) (back : List X) → set (front ++ g ∷ back) (length front) y ≡ front ++ y ∷ back
-  set_first [] g y back = refl
-  set_first (x ∷ front) g y back = ap (λ z. x ∷ z) (set_first front g y back)
-
   set_second : (front : List X) (g h y : X) (back : List X) → set (front ++ g ∷ h ∷ back) (suc (length front)) y ≡ front ++ g ∷ y ∷ back
   set_second [] g h y back = refl
   set_second (x ∷ front) g h y back = ap (λ z. x ∷ z) (set_second front g h y back)
@@ -53,12 +50,12 @@ module _ {X : Type 0} where
   merged_list gs mid new k g h both front back a em en =
       let s : k + 1 ≡ suc (length front) = omega (arith, a.place) in
       let e : mid ≡ front ++ g ∷ back = em ∙ ap (λ z. remove z (k + 1)) a.split ∙ ap (λ i. remove (front ++ g ∷ h ∷ back) i) s ∙ remove_second front g h back in
-      en ∙ ap (λ z. set z k both) e ∙ ap (λ i. set (front ++ g ∷ back) i both) (sym a.place) ∙ set_first front g both back
+      en ∙ ap (λ z. set z k both) e ∙ ap (λ i. set (front ++ g ∷ back) i both) (sym a.place) ∙ set-append_seam front g back both
 
   pub moved_list : (gs mid new : List X) (k : ℕ) (g h more rest : X) (front back : List X) → IsAt gs k g h front back → mid ≡ set gs k more → new ≡ set mid (k + 1) rest → new ≡ front ++ more ∷ rest ∷ back
   moved_list gs mid new k g h more rest front back a em en =
       let s : k + 1 ≡ suc (length front) = omega (arith, a.place) in
-      let e : mid ≡ front ++ more ∷ h ∷ back = em ∙ ap (λ z. set z k more) a.split ∙ ap (λ i. set (front ++ g ∷ h ∷ back) i more) (sym a.place) ∙ set_first front g more (h ∷ back) in
+      let e : mid ≡ front ++ more ∷ h ∷ back = em ∙ ap (λ z. set z k more) a.split ∙ ap (λ i. set (front ++ g ∷ h ∷ back) i more) (sym a.place) ∙ set-append_seam front g (h ∷ back) more in
       en ∙ ap (λ z. set z (k + 1) rest) e ∙ ap (λ i. set (front ++ more ∷ h ∷ back) i rest) s ∙ set_second front more h rest back
 
   pub step_split : (h : List X) (i : ℕ) (x : X) → slice_get h i ≡ Some x → h ≡ take i h ++ x ∷ drop (suc i) h

@@ -1,8 +1,9 @@
 -- Steps of patterns that have words for every setting have words that fit.
-use Rattle.std.proofs.Common.{◌≡◌, ◌≢◌, ℕ, ◌||◌, ◌&&◌, ◌<◌, bit_and, length, Bool, true, false, List, [], ◌∷◌, refl, sym, ◌∙◌, inl, inr, Option, ap, arith, subst, slice_get}
+use Rattle.std.proofs.Common.{◌≡◌, ◌≢◌, ℕ, ◌&&◌, ◌<◌, bit_and, length, true, false, List, [], ◌∷◌, refl, sym, ◌∙◌, inl, inr, Option, ap, arith, subst, slice_get}
 use Rattle.std.specs.Int.{bit_at}
 use Rattle.std.proofs.lemmas.Bool.{true≢false, cases_Bool, cases_lt, eqb-false}
 use Rattle.std.proofs.lemmas.Nat.Bits.{bit_at-lt}
+use Rattle.rec_bits.proofs.Booleans.{left_false}
 use Rattle.net_model.specs.declared.hardware.Netlist.{Netlist}
 use Rattle.net_model.specs.declared.hardware.Space.{Space}
 use Rattle.net_model.specs.declared.hardware.Space.TheVariants.{Memory as InMemory, File as InFile}
@@ -22,10 +23,6 @@ use Rattle.word_fit.proofs.FilePlaces.{own_space, past_keeps}
 use Rattle.word_fit.specs.Groups.{AllHaveWords}
 use Rattle.compaction.specs.Laws.{operation_in}
 use Rattle.compaction.specs.Formed.{AreWorded, IsJumpWorded, IsOfPattern, IsWorded}
-
-or_no : (a : Bool) → (a || false) ≡ false → a ≡ false
-or_no true e = e
-or_no false e = refl
 
 -- what a pattern does with a setting
 abbrev operation_at : Netlist → Pattern → ℕ → Operation
@@ -92,9 +89,9 @@ module _ (netlist : Netlist) (patterns : List Pattern) where
     steps = k.steps;
     cells = λ space e.
         by_space (λ z. h.of.pattern.storage ≢ place_in z netlist.storages → space_transfer netlist z w ≡ keep) k.memory k.file space
-        (away netlist h.of.pattern space h.of.is x.setting (ap (stores_in space) (of_pattern netlist patterns x h.of) ∙ or_no (stores_in space (operation_in netlist patterns x)) e));
+        (away netlist h.of.pattern space h.of.is x.setting (ap (stores_in space) (of_pattern netlist patterns x h.of) ∙ left_false (stores_in space (operation_in netlist patterns x)) false e));
     registers = λ r reg l e. k.registers r reg
-        (no_bit h.mask r (sym (ap (λ (z : Regs). z r) h.same) ∙ spared (operation_in netlist patterns x) c live s r l (or_no (writes (operation_in netlist patterns x) r) e)));
+        (no_bit h.mask r (sym (ap (λ (z : Regs). z r) h.same) ∙ spared (operation_in netlist patterns x) c live s r l (left_false (writes (operation_in netlist patterns x) r) false e)));
   }
 
   pub have_words : (c : Step → Regs) (xs : List Step) (after : Regs) → AreWorded netlist patterns c xs → AllSpare (operation_in netlist patterns) c xs after → AllHaveWords (operation_in netlist patterns) (fits_over netlist (operation_in netlist patterns)) (singles xs) after

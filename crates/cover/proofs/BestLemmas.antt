@@ -1,11 +1,12 @@
 -- The chosen cover of a job.
-use Rattle.std.proofs.Common.{◌≡◌, ℕ, zero, suc, ◌+◌, ◌-◌, ◌<◌, ◌≤◌, List, [], ◌∷◌, length, Option, Some, None, Bool, true, false, refl, sym, ap, ◌∙◌, subst, arith, ◌⊎◌, inl, inr, nat_lt, if◌then◌else◌}
+use Rattle.std.proofs.Common.{◌≡◌, ℕ, ◌+◌, ◌-◌, ◌<◌, ◌≤◌, List, [], length, Option, Some, None, Bool, true, false, refl, sym, ap, ◌∙◌, subst, arith, ◌⊎◌, inl, inr, nat_lt, if◌then◌else◌}
 use Rattle.std.specs.Prelude.{slice_get}
 use Rattle.std.specs.Option.{option_map}
-use Rattle.std.proofs.lemmas.Bool.{cases_eq}
-use Rattle.std.proofs.lemmas.Bool.Decides.{nat_tests}
+use Rattle.std.proofs.lemmas.Bool.{cases_eq, ltb-true, ltb-false}
 use Rattle.std.proofs.lemmas.List.{length-map}
 use Rattle.std.proofs.lemmas.Option.{slice_get_within, slice_get-map}
+use Rattle.rec_bits.proofs.Lists.{there}
+use Rattle.rec_bits.proofs.Bits.{and_zero_r}
 use Rattle.net_model.specs.Exprs.{ExprModel}
 use Rattle.form_model.specs.Forms.{DestinationModel}
 use Rattle.form_model.specs.Trees.{model_of_tree}
@@ -27,7 +28,7 @@ use Rattle.cover.specs.Jobs.{trees_of}
 use Rattle.cover.specs.Inner.Choice.{IsFirst, NeverBegins, AreFirstParts}
 use Rattle.cover.specs.Best.{model_of_job_cover}
 use Rattle.cover.specs.Inner.Best.{root_subgoal, IsTreeCover, better_of, Beats, IsBestOne, IsBest}
-use Rattle.least_costs.proofs.OrderlyLemmas.{to_orderly, from_orderly, and_zero}
+use Rattle.least_costs.proofs.OrderlyLemmas.{to_orderly, from_orderly}
 
 pub first_cost : (stock : StockModel) (limits : Limits) (ask : SubgoalModel) (n : ℕ) (p : CoverModel) → IsLeast stock limits ask (Some n) → IsFirst stock limits ask p → n ≡ cost p
 first_cost stock limits ask n p least first =
@@ -50,12 +51,6 @@ beats_same : (a b : CoverModel) (j i : ℕ) → i ≡ j → (cost a < cost b) �
 beats_same a b j i e (inl lt) = inl lt
 beats_same a b j i e (inr (same, inl eq)) = inr (same, inl (λ k. record { which = sym e k; cover = eq k }))
 beats_same a b j i e (inr (same, inr before)) = inr (same, inr (inr (sym e, before)))
-
-lt_of : (a b : ℕ) → nat_lt a b ≡ true → a < b
-lt_of a b e = grind (arith, nat_tests)
-
-ge_of : (a b : ℕ) → nat_lt a b ≡ false → b ≤ a
-ge_of a b e = grind (arith, nat_tests)
 
 at_least : (a b : JobCoverModel) → Beats a b → cost a.cover ≤ cost b.cover
 at_least a b (inl lt) = omega (arith, lt)
@@ -113,8 +108,8 @@ module _ (stock : StockModel) (destination : DestinationModel) (trees : List Exp
   best_more (Some c) (Some x) b n = go (nat_lt x.cost c.cost) refl
     where
       go : (v : Bool) → nat_lt x.cost c.cost ≡ v → IsBest stock destination trees (j + 1) (if v then Some (record { which = j; cover = x.cover; cost = x.cost }) else Some c)
-      go true e = new_best x n (λ i u q lt get' sparing. (let l = lt_of x.cost c.cost e in let m = at_least (model_of_job_cover c) (record { which = i; cover = q }) (b.beats i u q lt get' sparing) in let k = b.costs in omega (arith, l, m, k)))
-      go false e = old_best c b (λ q sparing. (let l = ge_of x.cost c.cost e in let m = tree_cover_least x n q sparing in omega (arith, l, m)))
+      go true e = new_best x n (λ i u q lt get' sparing. (let l = ltb-true x.cost c.cost e in let m = at_least (model_of_job_cover c) (record { which = i; cover = q }) (b.beats i u q lt get' sparing) in let k = b.costs in omega (arith, l, m, k)))
+      go false e = old_best c b (λ q sparing. (let l = ltb-false x.cost c.cost e in let m = tree_cover_least x n q sparing in omega (arith, l, m)))
 
 pub tree_get : (trees : List Tree) (j : ℕ) (t : Tree) → slice_get trees j ≡ Some t → slice_get (trees_of trees) j ≡ Some (model_of_tree t)
 tree_get trees j t h = slice_get-map model_of_tree trees j ∙ ap (option_map model_of_tree) h
@@ -125,23 +120,18 @@ best_chosen stock destination trees n c len b = record {
       let (orderly, kept) = to_orderly stock (model_of_cover c.cover) (root_subgoal destination b.tree) (free stock) b.sparing in
       record { tree = b.tree; used = b.used; orderly = orderly; enough = kept.1 };
   first = λ other covers. b.beats other.which covers.tree other.cover (let w = slice_get_within trees other.which covers.tree covers.used in omega (arith, w, len)) covers.used
-      (from_orderly stock other.cover (root_subgoal destination covers.tree) (free stock) covers.orderly (and_zero (written stock.forms other.cover), covers.enough));
+      (from_orderly stock other.cover (root_subgoal destination covers.tree) (free stock) covers.orderly (and_zero_r (written stock.forms other.cover), covers.enough));
 }
 
 pub best_none : (stock : StockModel) (destination : DestinationModel) (trees : List ExprModel) (n : ℕ) → length trees ≡ n → IsBest stock destination trees n None → HasNoCover stock destination trees
 best_none stock destination trees n len b = record {
   none = λ other covers. b other.which covers.tree other.cover (let w = slice_get_within trees other.which covers.tree covers.used in omega (arith, w, len)) covers.used
-      (from_orderly stock other.cover (root_subgoal destination covers.tree) (free stock) covers.orderly (and_zero (written stock.forms other.cover), covers.enough));
+      (from_orderly stock other.cover (root_subgoal destination covers.tree) (free stock) covers.orderly (and_zero_r (written stock.forms other.cover), covers.enough));
 }
-
-pub listed_at : {X : Type 0} (xs : List X) (i : ℕ) → i < length xs → (x : X) × (slice_get xs i ≡ Some x)
-listed_at [] i lt = absurd (omega arith)
-listed_at (x ∷ xs) zero lt = (x, refl)
-listed_at (x ∷ xs) (suc i) lt = listed_at xs i (omega arith)
 
 pub best_step : (stock : StockModel) (destination : DestinationModel) (trees : List Tree) (j : ℕ) (best new : Option JobCover) (tree_cover : Option TreeCover) → j < length trees → IsBest stock destination (trees_of trees) j best → ((t : ExprModel) → slice_get (trees_of trees) j ≡ Some t → IsTreeCover stock (root_subgoal destination t) tree_cover) → new ≡ better_of best j tree_cover → IsBest stock destination (trees_of trees) (j + 1) new
 best_step stock destination trees j best new tree_cover lt b is e =
-    let (t, get) = listed_at trees j lt in
+    let (t, get) = there trees j lt in
     let got = tree_get trees j t get in
     subst (IsBest stock destination (trees_of trees) (j + 1)) (sym e) (best_more stock destination (trees_of trees) j (model_of_tree t) got best tree_cover b (is (model_of_tree t) got))
 

@@ -24,9 +24,6 @@ same_places (operand_then i p ps) = (refl, same_places ps)
 pub some_none : {o : Option ℕ} {m : ℕ} → o ≡ Some m → o ≡ None → ⊥
 some_none e f = cc
 
-pub same_some : {o : Option ℕ} {m n : ℕ} → o ≡ Some m → o ≡ Some n → m ≡ n
-same_some e f = cc
-
 -- a form whose least cost differs from the least cost of all begins no cover of that cost
 pub never_by : (stock : StockModel) (limits : Limits) (ask : SubgoalModel) (n k : ℕ) (o : Option ℕ) → IsLeast stock limits ask (Some n) → IsLeastForm stock limits ask k o → ((m : ℕ) → o ≡ Some m → m ≢ n) → NeverBegins stock limits ask n k
 never_by stock limits ask n k None least is differ = λ ps cs sparing e. is.least ps cs sparing

@@ -6,7 +6,7 @@ use Rattle.std.specs.Option.{option_map}
 use Rattle.std.proofs.lemmas.Bool.{cases_lt}
 use Rattle.std.proofs.lemmas.List.{length-map, length-replicate}
 use Rattle.std.proofs.lemmas.Option.{slice_get_within, slice_get-get_or, slice_get-map}
-use Rattle.rec_bits.proofs.Lists.{get_seam, pushed_at}
+use Rattle.rec_bits.proofs.Lists.{get_seam, pushed_at, get_left_some, get_right}
 use Rattle.net_model.specs.Exprs.{ExprModel, size_of}
 use Rattle.form_model.specs.Forms.{FormModel, DestinationModel, model_of_form, models_of_forms}
 use Rattle.form_model.specs.declared.forms.Form.{Form}
@@ -27,7 +27,7 @@ use Rattle.cover_lacks.specs.Lacks.{leaf_tree, FormAsks, PartAsks, RootAsks}
 use Rattle.cover_lacks.specs.declared.asks.Look.{Look}
 use Rattle.cover_lacks.specs.declared.asks.Search.{Search}
 use Rattle.cover_lacks.specs.Inner.Asked.{part_at, part_tree, IsBelow, AddsTree, IsPartUnmade, AddsParts, IsListed, IsUnmade, AreUnmade, LookAsks, LookStands, FirstAsk, AreAfter, IsPartLook, AddsAsked, AddsOfPart, IsSearch, search_nodes}
-use Rattle.cover_lacks.proofs.Lists.{in_front, behind, split_at}
+use Rattle.cover_lacks.proofs.Lists.{split_at}
 
 -- ---- parts
 
@@ -56,7 +56,7 @@ module _ (stock : StockModel) (below : Option ℕ) (parts : List Leaf) where
       | inr w ↦ record { place = n; within = omega arith; part = p; listed = get; at = w.1; counts = counts; unmade = unmade }
     ];
     all = λ place part lt at small. elim (cases_lt place n) [
-      | inl earlier ↦ elim (adds.all place part earlier at small) [ inl made ↦ inl made | inr w ↦ inr (w.0, in_front adds.added _ w.0 _ w.1) ]
+      | inl earlier ↦ elim (adds.all place part earlier at small) [ inl made ↦ inl made | inr w ↦ inr (w.0, get_left_some adds.added _ w.0 _ w.1) ]
       | inr ge ↦ (let e : place ≡ n = omega (arith, lt, ge) in
           let there : slice_get parts n ≡ Some part = subst (λ j. slice_get parts j ≡ Some part) e at in
           let is : part ≡ p = cc in
@@ -101,7 +101,7 @@ stands_behind : (number at : ℕ) (t p : ExprModel) → size_of p < size_of t �
 stands_behind number at t p less stands =
     let before = replicate number t in
     let len = length-replicate number t in
-    let there = stands (before ++ subtrees t) (λ k s get. (let e : number + k ≡ length before + k = omega (arith, len) in ap (slice_get (before ++ subtrees t)) e ∙ behind before (subtrees t) k ∙ get)) in
+    let there = stands (before ++ subtrees t) (λ k s get. (let e : number + k ≡ length before + k = omega (arith, len) in ap (slice_get (before ++ subtrees t)) e ∙ get_right before (subtrees t) k ∙ get)) in
     elim (split_at before (subtrees t) at p there) [
       | inl a ↦ absurd (let e = ap size_of (filler number t p at a) in omega (arith, e, less))
       | inr b ↦ further b.0 (let e = b.1 in omega (arith, e, len)) b.2
@@ -227,12 +227,12 @@ module _ (stock : StockModel) (nodes : List ExprModel) (Asks : ℕ → ExprModel
       | inr b ↦ (let u = more.each b.0 m b.2 in record { tree = u.tree; here = u.here; has = (n, omega arith, to u.tree u.has); unmade = u.unmade })
     ];
     all = λ t a. elim (cases_lt a.0 n) [
-      | inl earlier ↦ elim (before.all t (a.0, earlier, a.2)) [ inl made ↦ inl made | inr w ↦ inr (w.0, w.1, in_front old added w.0 w.1 w.2, w.3) ]
+      | inl earlier ↦ elim (before.all t (a.0, earlier, a.2)) [ inl made ↦ inl made | inr w ↦ inr (w.0, w.1, get_left_some old added w.0 w.1 w.2, w.3) ]
       | inr ge ↦ (let lt = a.1 in
           let e : a.0 ≡ n = omega (arith, lt, ge) in
           elim (more.all t (from t (subst (λ j. Asks j t) e a.2))) [
             | inl made ↦ inl made
-            | inr w ↦ inr (length old + w.0, w.1, behind old added w.0 ∙ w.2, w.3)
+            | inr w ↦ inr (length old + w.0, w.1, get_right old added w.0 ∙ w.2, w.3)
           ])
     ];
   })

@@ -6,6 +6,7 @@ use Rattle.std.proofs.Math.Seq.{take-length}
 use Rattle.std.proofs.lemmas.Bool.{cases_lt}
 use Rattle.std.proofs.lemmas.List.{append-nil, get_or_append_left, get_or-append-add}
 use Rattle.std.proofs.lemmas.Option.{slice_get_within}
+use Rattle.rec_bits.proofs.Lists.{get_left_some, get_right}
 use Rattle.net_model.specs.Exprs.{ExprModel}
 use Rattle.form_model.specs.Forms.{DestinationModel}
 use Rattle.form_model.specs.Covers.{StockModel, stock_with}
@@ -16,7 +17,7 @@ use Rattle.least_costs.specs.Made.{IsLeastCost}
 use Rattle.cover_lacks.specs.Lacks.{AreInOrder, AreLacking, IsLacking, IsUncovered, Lacks, all_nodes}
 use Rattle.cover_lacks.specs.Inner.Flags.{IsSet, IsFlagged, AreFlags, IsSome, LacksOf, IsLackingIn}
 use Rattle.cover_lacks.specs.Inner.Listed.{AddsRoot, AreAdded, LacksBelow}
-use Rattle.cover_lacks.proofs.Lists.{in_front, behind, split_at}
+use Rattle.cover_lacks.proofs.Lists.{split_at}
 use Rattle.cover_lacks.proofs.FlagLemmas.{set_within}
 use Rattle.cover_lacks.proofs.ListedLemmas.{in_order_same}
 
@@ -48,13 +49,13 @@ set_behind : (xs ys : List Bool) (n : ℕ) → slice_index_or (xs ++ ys) (length
 set_behind xs ys n = get_or-append-add xs ys n false
 
 flag_front : (nodes more : List ExprModel) (flags others : List Bool) (t : ExprModel) → IsFlagged nodes flags t → IsFlagged (nodes ++ more) (flags ++ others) t
-flag_front nodes more flags others t f = (f.0, set_front flags others f.0 f.1, in_front nodes more f.0 t f.2)
+flag_front nodes more flags others t f = (f.0, set_front flags others f.0 f.1, get_left_some nodes more f.0 t f.2)
 
 flag_behind : (nodes more : List ExprModel) (flags others : List Bool) (t : ExprModel) → length flags ≡ length nodes → IsFlagged more others t → IsFlagged (nodes ++ more) (flags ++ others) t
 flag_behind nodes more flags others t len f = (
   length nodes + f.0,
   ap (λ j. slice_index_or (flags ++ others) (j + f.0) false) (sym len) ∙ set_behind flags others f.0 ∙ f.1,
-  behind nodes more f.0 ∙ f.2,
+  get_right nodes more f.0 ∙ f.2,
 )
 
 -- ---- the first trees

@@ -4,16 +4,12 @@ use Rattle.std.specs.Prelude.{slice_get, ◌&&◌, ◌==◌}
 use Rattle.std.specs.Borrow.{Bor}
 use Rattle.std.specs.Option.{option_map}
 use Rattle.std.proofs.lemmas.Bool.{cases_lt}
-use Rattle.std.proofs.lemmas.Bool.Decides.{nat_tests}
 use borrow.Author.Tests.{eqb-true}
 use Rattle.std.proofs.lemmas.List.{map_push}
 use Rattle.std.proofs.lemmas.Option.{slice_get_within, slice_get_read, slice_get-map}
-use Rattle.rec_bits.proofs.Booleans.{both}
-use Rattle.rec_bits.proofs.Lists.{get_seam, pushed_at}
-use Rattle.rec_bits.specs.declared.operator.Op1.{Op1}
-use Rattle.rec_bits.specs.declared.operator.Op1.TheVariants.{Not, Neg}
-use Rattle.rec_bits.specs.declared.operator.Op2.{Op2}
-use Rattle.rec_bits.specs.declared.operator.Op2.TheVariants.{Add, Sub, Mul, And, Or, Xor, Shl, Shr, Sar, Eq, Ltu, Lts}
+use Rattle.rec_bits.proofs.Booleans.{both, and_from}
+use Rattle.rec_bits.proofs.Lists.{get_seam, pushed_at, get_left_some}
+use Rattle.rec_bits.proofs.Equality.{number_self, op1_is, op2_is, op1_self, op2_self}
 use Rattle.net_model.specs.declared.hardware.Space.TheVariants.{Memory as InMemory}
 use Rattle.net_model.specs.Exprs.{ExprModel, const, read, un, bin, slice, zext, sext}
 use Rattle.form_model.specs.Matches.{same_op1, same_op2}
@@ -21,11 +17,9 @@ use Rattle.form_model.specs.Trees.{model_of_tree}
 use Rattle.form_model.specs.declared.trees.Tree.{Tree}
 use Rattle.form_model.specs.declared.trees.Tree.TheVariants.{Lit, Read', Un', Bin', Slice', Zext', Sext'}
 use Rattle.tree_sharing.specs.Sharing.{IsFirst, exprs_at}
-use Rattle.tree_sharing.proofs.SharingLemmas.{exact_op1, exact_op2}
 use Rattle.cover_lacks.specs.Lacks.{AreInOrder}
 use Rattle.cover_lacks.specs.Inner.Flags.{IsFlagged}
 use Rattle.cover_lacks.specs.Inner.Listed.{same_trees, ListedBelow}
-use Rattle.cover_lacks.proofs.Lists.{in_front}
 
 -- ---- equal trees
 
@@ -42,13 +36,13 @@ same_exact (read InMemory a w) (read InMemory b x) h =
     (λ j. read InMemory (ea j) (ew j))
 same_exact (un o a) (un p b) h =
     let q = both (same_op1 o p) (same_trees a b) h in
-    let eo : o ≡ p = exact_op1 o p q.0 in
+    let eo : o ≡ p = op1_is o p q.0 in
     let ea = same_exact a b q.1 in
     (λ j. un (eo j) (ea j))
 same_exact (bin o a b) (bin p c d) h =
     let q = both (same_op2 o p) (same_trees a c && same_trees b d) h in
     let r = both (same_trees a c) (same_trees b d) q.1 in
-    let eo : o ≡ p = exact_op2 o p q.0 in
+    let eo : o ≡ p = op2_is o p q.0 in
     let ea = same_exact a c r.0 in
     let eb = same_exact b d r.1 in
     (λ j. bin (eo j) (ea j) (eb j))
@@ -71,39 +65,14 @@ same_exact (sext a w) (sext b x) h =
     (λ j. sext (ea j) (ew j))
 same_exact _ _ h = absurd (true≢false (sym h))
 
-self_one : (o : Op1) → same_op1 o o ≡ true
-self_one Not = refl
-self_one Neg = refl
-
-self_two : (o : Op2) → same_op2 o o ≡ true
-self_two Add = refl
-self_two Sub = refl
-self_two Mul = refl
-self_two And = refl
-self_two Or = refl
-self_two Xor = refl
-self_two Shl = refl
-self_two Shr = refl
-self_two Sar = refl
-self_two Eq = refl
-self_two Ltu = refl
-self_two Lts = refl
-
-and_true : (a b : Bool) → a ≡ true → b ≡ true → (a && b) ≡ true
-and_true true b h k = k
-and_true false b h k = absurd (true≢false (sym h))
-
-number : (n : ℕ) → (n == n) ≡ true
-number n = grind (arith, nat_tests)
-
 pub same_self : (t : Tree) → same_trees (model_of_tree t) (model_of_tree t) ≡ true
-same_self (Lit w v) = and_true _ _ (number w) (number v)
-same_self (Read' p a w) = and_true _ _ (number w) (same_self a)
-same_self (Un' o p a) = and_true _ _ (self_one o) (same_self a)
-same_self (Bin' o p a q b) = and_true _ _ (self_two o) (and_true _ _ (same_self a) (same_self b))
-same_self (Slice' p a h l) = and_true _ _ (number h) (and_true _ _ (number l) (same_self a))
-same_self (Zext' p a w) = and_true _ _ (number w) (same_self a)
-same_self (Sext' p a w) = and_true _ _ (number w) (same_self a)
+same_self (Lit w v) = and_from _ _ (number_self w) (number_self v)
+same_self (Read' p a w) = and_from _ _ (number_self w) (same_self a)
+same_self (Un' o p a) = and_from _ _ (op1_self o) (same_self a)
+same_self (Bin' o p a q b) = and_from _ _ (op2_self o) (and_from _ _ (same_self a) (same_self b))
+same_self (Slice' p a h l) = and_from _ _ (number_self h) (and_from _ _ (number_self l) (same_self a))
+same_self (Zext' p a w) = and_from _ _ (number_self w) (same_self a)
+same_self (Sext' p a w) = and_from _ _ (number_self w) (same_self a)
 
 pub same_none : (t : Tree) (u : ExprModel) → same_trees (model_of_tree t) u ≡ false → model_of_tree t ≡ u → ⊥
 same_none t u h e = true≢false (sym (same_self t) ∙ ap (same_trees (model_of_tree t)) e ∙ h)
@@ -188,7 +157,7 @@ module _ (nodes : List ExprModel) (flags : List Bool) where
       | inr w ↦ (n, omega arith, subst (λ u. IsFirst nodes u n) w.1 first)
     ];
     all = λ t m lt at mine. elim (cases_lt m n) [
-      | inl earlier ↦ (let g = l.all t m earlier at mine in (g.0, in_front list (tree ∷ []) g.0 t g.1))
+      | inl earlier ↦ (let g = l.all t m earlier at mine in (g.0, get_left_some list (tree ∷ []) g.0 t g.1))
       | inr ge ↦ (let e : m ≡ n = omega (arith, lt, ge) in
           let here = subst (IsFirst nodes t) e at in
           let a = here.at in

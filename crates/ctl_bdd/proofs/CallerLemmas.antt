@@ -14,8 +14,9 @@ use Rattle.ctl_bdd.specs.Places.{is_static_control, numbers_below, static_contro
 use Rattle.ctl_bdd.specs.Controls.{IsControl, IsNetBits, bits_in}
 use Rattle.rec_bits.proofs.Booleans.{or_left}
 use Rattle.rec_bits.proofs.Lists.{all_weaker}
+use Rattle.rec_bits.proofs.Equality.{number_turned}
 use Rattle.ctl_bdd.proofs.Sets.{sets_later, set_in}
-use Rattle.ctl_bdd.proofs.Numbers.{eqb_turned, number_one}
+use Rattle.ctl_bdd.proofs.Numbers.{number_one}
 use Rattle.ctl_bdd.proofs.Filling.{bits_later}
 use Rattle.ctl_bdd.proofs.Listing.{bit_is}
 use Rattle.ctl_bdd.proofs.Placed.{any_filtered, any_append, any_front}
@@ -41,7 +42,7 @@ there_is (net ∷ nets) n e = by (net.0 == n) refl (there_is nets n)
   where
     by : (b : Bool) → (net.0 == n) ≡ b → (list_any (nat_eq n) (map (λ (net : ℕ × List ℕ). net.0) nets) ≡ true → (sets : List ℕ) × (bits_in nets n ≡ Some sets)) → (sets : List ℕ) × (cond b (Some net.1) (bits_in nets n) ≡ Some sets)
     by true q later = (net.1, refl)
-    by false q later = later (rw (eqb_turned n net.0, q) at e)
+    by false q later = later (rw (number_turned n net.0, q) at e)
 
 pub number_there : (n k : ℕ) → n < k → list_any (nat_eq n) (numbers_below k) ≡ true
 number_there n zero lt = absurd (omega arith)

@@ -1,5 +1,5 @@
 -- Enables are static nets in control places, so the table tells which buses clash.
-use Rattle.std.proofs.Common.{◌≡◌, ℕ, ◌+◌, ◌<◌, ◌^◌, ◌==◌, ◌&&◌, ◌||◌, ◌↔◌, not, nat_eq, nat_lt, cond, Bool, true, false, List, [], ◌∷◌, None, Some, map, slice_get, refl, sym, ap, ◌∙◌, subst}
+use Rattle.std.proofs.Common.{◌≡◌, ℕ, ◌+◌, ◌<◌, ◌^◌, ◌==◌, ◌||◌, ◌↔◌, not, nat_eq, nat_lt, cond, Bool, true, false, List, [], ◌∷◌, None, Some, map, slice_get, refl, sym, ap, ◌∙◌, subst}
 use Rattle.std.specs.List.{AllByRecursion, list_any, position_from}
 use Rattle.std.proofs.lemmas.Bool.{eq-eqb}
 use Rattle.std.proofs.lemmas.Iterator.Adapters.{position_from-zero}
@@ -18,12 +18,9 @@ use Rattle.ctl_bdd.specs.Places.{is_placed}
 use Rattle.ctl_bdd.specs.Tables.{AreBits, HasControls, numbers_at, sets_at}
 use Rattle.ctl_bdd.specs.Inner.Tables.{HasEnable, HasEnables}
 use Rattle.net_model.specs.Transfers.{clash_at}
-use Rattle.rec_bits.proofs.Booleans.{or_left, or_right}
-use Rattle.ctl_bdd.proofs.Placed.{all_by_place, enable_placed}
-
-two_true : (a b : Bool) → a ≡ true → b ≡ true → (a && b) ≡ true
-two_true true b e f = f
-two_true false b e f = cc
+use Rattle.rec_bits.proofs.Booleans.{or_left, or_right, and_from}
+use Rattle.rec_bits.proofs.Lists.{all_by_place}
+use Rattle.ctl_bdd.proofs.Placed.{enable_placed}
 
 module _ (netlist : Netlist) (book : Diagrams) (table : List (List ℕ)) (h : HasControls netlist book table) where
   drivers_have : (width : ℕ) (drivers : List (ℕ × ℕ)) → DriversFit netlist width drivers → AllPass (is_static netlist) (map (λ (driver : ℕ × ℕ). driver.1) drivers)
@@ -32,7 +29,7 @@ module _ (netlist : Netlist) (book : Diagrams) (table : List (List ℕ)) (h : Ha
   drivers_have width [] fits static places = tt
   drivers_have width (driver ∷ drivers) fits static places =
       let here : is_placed netlist driver.1 ≡ true = places driver.1 (or_left (nat_eq driver.1 driver.1) _ (eq-eqb driver.1 driver.1 refl)) in
-      let bits : AreBits netlist book driver.1 (sets_at table driver.1) = h.bits driver.1 fits.1.0 (two_true (is_static netlist driver.1) (is_placed netlist driver.1) static.0 here) in
+      let bits : AreBits netlist book driver.1 (sets_at table driver.1) = h.bits driver.1 fits.1.0 (and_from (is_static netlist driver.1) (is_placed netlist driver.1) static.0 here) in
       ((bits.long ∙ fits.1.1, bits), drivers_have width drivers fits.2 static.1 (λ n e. places n (or_right (nat_eq n driver.1) _ e)))
 
   firsts : (drivers : List (ℕ × ℕ)) → AllByRecursion (λ (driver : ℕ × ℕ). HasEnable table driver × AreBits netlist book driver.1 (sets_at table driver.1)) drivers → AllByRecursion (HasEnable table) drivers

@@ -180,8 +180,5 @@ number_more book out set word x k long here before =
     ∙ sym (mod-pow-add x 1 k)
     ∙ ap (λ n. x % 2 ^ n) turn
 
-pub eqb_turned : (x y : ℕ) → (x == y) ≡ (y == x)
-eqb_turned x y = same_test x y y x sym sym
-
 pub number_one : (book : Diagrams) (set word : ℕ) → number_at book (set ∷ []) word ≡ bit_of (has_word book set word)
 number_one book set word = omega arith

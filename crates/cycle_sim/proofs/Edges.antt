@@ -3,6 +3,7 @@ use Rattle.std.proofs.Common.{length, ◌≡◌, ℕ, ◌^◌, ◌<◌, List, []
 use Rattle.std.specs.List.{AllByRecursion}
 use Rattle.std.proofs.lemmas.Nat.{pow_pos}
 use Rattle.std.proofs.lemmas.List.{length-set}
+use Rattle.rec_bits.proofs.Lists.{set_below}
 use Rattle.net_model.specs.declared.hardware.Netlist.{Netlist}
 use Rattle.net_model.specs.declared.hardware.Storage.{Storage}
 use Rattle.net_model.specs.declared.hardware.Storage.TheVariants.{Register, Memory, File}
@@ -16,7 +17,6 @@ use Rattle.net_model.specs.Widths.{IsTyped, IsState, WordFits}
 use Rattle.net_model.specs.Clock.{clash_in, clock, next_cells, next_regs, outcome_of, next_state, word_at, Next, Clash}
 use Rattle.net_model.specs.CheckedRules.{StorageKeeps}
 use Rattle.net_model.proofs.Effects.{next_is_state}
-use Rattle.net_model.proofs.NextStates.{set_fits}
 use Rattle.cycle_sim.specs.declared.edge.Port.{Port}
 use Rattle.cycle_sim.specs.Inner.Ports.{port_of, memory_port_width, HasPortWidth}
 
@@ -73,7 +73,7 @@ set_long netlist s address value h InMemory = length-set s.cells address value �
 set_long netlist s address value h InFile = h.cells InFile
 
 set_fit : (netlist : Netlist) (s : State) (address value : ℕ) → IsState netlist s → value < 2 ^ memory_width netlist.storages → (space : Space) (a : ℕ) → slice_index (held (with_cells s address value) space) a < 2 ^ width_in space netlist.storages
-set_fit netlist s address value h k InMemory a = set_fits s.cells address value (2 ^ memory_width netlist.storages) (h.fits.cells InMemory) k a
+set_fit netlist s address value h k InMemory a = set_below (2 ^ memory_width netlist.storages) s.cells address value (h.fits.cells InMemory) k a
 set_fit netlist s address value h k InFile a = h.fits.cells InFile a
 
 pub set_is_state : (netlist : Netlist) (s : State) (address value : ℕ) → IsState netlist s → value < 2 ^ memory_width netlist.storages → IsState netlist (record s { cells = slice_set s.cells address value })

@@ -1,8 +1,8 @@
 -- The layout of two memories holds the variables: each has its cells in one of them, behind the
 -- temporary ones, and none where another has.
-use Rattle.std.proofs.Common.{◌≡◌, ℕ, ◌+◌, ◌*◌, ◌-◌, ◌%◌, ◌^◌, ◌<◌, ◌≤◌, ◌⊎◌, inl, inr, Bool, true, false, if◌then◌else◌, List, [], ◌∷◌, length, Some, refl, ap, ◌∙◌, arith}
-use Rattle.std.proofs.Math.Nat.{mod-eq_of_lt, mod-eq-sub-mod, pow-suc}
-use Rattle.std.proofs.Math.Numerals.{add-one}
+use Rattle.std.proofs.Common.{◌≡◌, ℕ, ◌+◌, ◌*◌, ◌-◌, ◌%◌, ◌^◌, ◌<◌, ◌≤◌, ◌⊎◌, inl, inr, Bool, true, false, if◌then◌else◌, List, [], ◌∷◌, length, Some, refl, ap, arith}
+use Rattle.std.proofs.Math.Nat.{mod-eq_of_lt, mod-eq-sub-mod}
+use Rattle.std.proofs.lemmas.Grind.{pow_more}
 use Rattle.rec_bits.specs.Faults.{same_name}
 use Rattle.src_model.specs.declared.program.Var.{Var as Declared}
 use Rattle.src_model.specs.Names.{declared}
@@ -14,9 +14,6 @@ use Rattle.src_trees.specs.Lowered.{base_of}
 use Rattle.src_trees.specs.Held.{StandFor, LieWithin, IsAlone, AreAlone, HoldsVars, HasCellRoom}
 use Rattle.dual_bank.specs.Banked.{joined_memory}
 use Rattle.dual_bank.specs.Layouts.{bank_cells, memory_cells, places_by, bank_layout, FitsBanks}
-
-pub twice : (k : ℕ) → 2 ^ (k + 1) ≡ 2 ^ k * 2
-twice k = ap (λ n. 2 ^ n) (add-one k) ∙ pow-suc 2 k
 
 -- ---- places from two addresses on
 
@@ -126,7 +123,7 @@ module _ (word k bank : ℕ) (in_bank : List Bool) (l : ProgramModel) (fits : Fi
         some = omega arith;
         narrow = omega (arith, wide);
         stand = stand (temp_count word l) (2 ^ k) in_bank l.vars fits.flags;
-        within = within (temp_count word l) (2 ^ (k + 1)) (temp_count word l) (2 ^ k) in_bank l.vars (omega arith) (omega (arith, memory)) (omega (arith, twice k, memory)) (omega (arith, twice k, enough, least));
+        within = within (temp_count word l) (2 ^ (k + 1)) (temp_count word l) (2 ^ k) in_bank l.vars (omega arith) (omega (arith, memory)) (omega (arith, pow_more 2 k, memory)) (omega (arith, pow_more 2 k, enough, least));
         alone = alone (temp_count word l) (2 ^ k) in_bank l.vars memory;
       }
 

@@ -2,6 +2,7 @@
 -- the jobs of two memories do what those of one do.
 use Rattle.std.proofs.Common.{ℕ, ◌≡◌, ◌+◌, ◌-◌, ◌^◌, ◌<◌, ◌≤◌, ◌∙◌, ap, arith, subst, sym, nat_lt, refl, Bool, true, false, if◌then◌else◌, List, length, Option, Some, None, inl, inr}
 use Rattle.std.proofs.lemmas.Bool.{ltb-true, ltb-false}
+use Rattle.std.proofs.lemmas.Grind.{pow_more}
 use Rattle.rec_bits.proofs.Booleans.{both, and_left, and_right}
 use Rattle.rec_bits.specs.declared.operator.Op2.TheVariants.{Add}
 use Rattle.net_model.specs.Exprs.{ExprModel, bin, const, slice, expr_width}
@@ -24,7 +25,7 @@ use Rattle.src_trees.proofs.Following.{own_meaning, program_does}
 use Rattle.src_trees.proofs.Meant.{addressed, meant, tree_width}
 use Rattle.dual_bank.specs.Banked.{AddressLies, AllIndexesLie, DestinationIndexesLie, IndexesLie, JobIndexesLie, job_of_banked, jobs_of_banked, joined_memory}
 use Rattle.dual_bank.specs.Layouts.{FitsBanks, bank_layout}
-use Rattle.dual_bank.proofs.Held.{AreInOne, IsInOne, bank_held, bank_in_one, cell_in_one, twice, var_in_one}
+use Rattle.dual_bank.proofs.Held.{AreInOne, IsInOne, bank_held, bank_in_one, cell_in_one, var_in_one}
 use Rattle.dual_bank.proofs.Joined.{all_same, done_same, first_same, job_lies}
 
 -- the trees of a comparison, either way round
@@ -42,8 +43,8 @@ compared_lie k cells Sge w x y a b = ((a, b), tt)
 
 -- a variable's address has a bit more than those of one memory
 base_fits : (k base len i : ℕ) → IsInOne (2 ^ k) base len → i < len → base < 2 ^ (k + 1)
-base_fits k base len i (inl le) lt = omega (arith, twice k, le, lt)
-base_fits k base len i (inr le) lt = omega (arith, twice k, le.1, lt)
+base_fits k base len i (inl le) lt = omega (arith, pow_more 2 k, le, lt)
+base_fits k base len i (inr le) lt = omega (arith, pow_more 2 k, le.1, lt)
 
 module _ (word k : ℕ) (places : List VariablePlace) (temps : ℕ) (vars : List Declared) (some : 1 ≤ k) (wide : k + 2 ≤ word) (held : HoldsVars temps vars (joined_memory word k places)) (ones : AreInOne (2 ^ k) places) where
   abbrev memory : MemoryMap

@@ -3,6 +3,7 @@
 use Rattle.std.proofs.Common.{ℕ, ◌≡◌, ◌+◌, ◌*◌, ◌-◌, ◌%◌, ◌^◌, ◌<◌, ◌≤◌, ◌&&◌, ◌∙◌, ap, refl, arith, nat_lt, Bool, true, false, if◌then◌else◌, cond, List, [], ◌∷◌, map}
 use Rattle.std.proofs.lemmas.Bool.{ne_eqb}
 use Rattle.rec_bits.specs.declared.operator.Op2.TheVariants.{Add}
+use Rattle.rec_bits.proofs.Booleans.{and-true}
 use Rattle.net_model.specs.declared.hardware.Space.TheVariants.{Memory as InMemory, File as InFile}
 use Rattle.net_model.specs.Exprs.{ExprModel, word, reg, const, read, un, bin, slice, cat, zext, sext, select, size_of}
 use Rattle.form_model.specs.Forms.{DestinationModel, into, cell, filed, stored, temporary, tested}
@@ -19,10 +20,6 @@ whole k width base index below =
     let address = zext (slice (bin Add index (const width (base % 2 ^ k))) (k - 1) 0) (k + 1) in
     cond below address (bin Add address (const (k + 1) (2 ^ k)))
 
-and_true : (b : Bool) → (b && true) ≡ b
-and_true true = refl
-and_true false = refl
-
 -- ---- trees
 
 module _ (k : ℕ) where
@@ -31,7 +28,7 @@ module _ (k : ℕ) where
     where
       by : (b : Bool) → is_tree (whole k width base index b) ≡ (is_tree index && true)
       by true = refl
-      by false = and_true (is_tree index && true)
+      by false = and-true (is_tree index && true)
   address_tree t = refl
 
   tree_kept : (t : ExprModel) → is_tree (banked_tree k t) ≡ is_tree t

@@ -1,6 +1,7 @@
 -- A cover has as many steps as it costs.
 use Rattle.std.proofs.Common.{◌≡◌, ℕ, zero, suc, ◌+◌, Bool, true, false, List, [], ◌∷◌, length, drop, refl, sym, ap, ◌∙◌, subst, arith, length-append}
 use Rattle.std.specs.Prelude.{slice_get, remove, insert}
+use Rattle.rec_bits.proofs.Lists.{length_inserted}
 use Rattle.net_model.specs.Exprs.{ExprModel}
 use Rattle.form_model.specs.declared.forms.Step.{Step}
 use Rattle.form_model.specs.Forms.{FormModel, DestinationModel, into, filed, cell, stored, temporary, tested}
@@ -22,11 +23,6 @@ total_insert xs zero x = refl
 total_insert [] (suc i) x = refl
 total_insert (y ∷ xs) (suc i) x = let e = total_insert xs i x in omega (arith, e)
 
-long_insert : {X : Type 0} (xs : List X) (i : ℕ) (x : X) → length (insert xs i x) ≡ suc (length xs)
-long_insert xs zero x = refl
-long_insert [] (suc i) x = refl
-long_insert (y ∷ xs) (suc i) x = let e = long_insert xs i x in omega (arith, e)
-
 woven_long : (leaves : List LeafModel) (xs ys : List (List Step)) → length xs ≡ length (operands_of leaves) → length ys ≡ length (cuts_of leaves) → length (woven leaves xs ys) ≡ total_steps xs + total_steps ys
 woven_long [] [] [] p q = refl
 woven_long [] [] (y ∷ ys) p q = absurd (omega arith)
@@ -47,8 +43,8 @@ module _ (stock : StockModel) where
       omega (
         arith,
         e,
-        long_insert (inside_operands stock ps (remove left i)) i (cut_steps stock p cells.first (home_destination cells.operand.home) cells.operand.tree cells.operand.whole),
-        long_insert (operand_counts ps) i (cut_count p),
+        length_inserted (inside_operands stock ps (remove left i)) i (cut_steps stock p cells.first (home_destination cells.operand.home) cells.operand.tree cells.operand.whole),
+        length_inserted (operand_counts ps) i (cut_count p),
       )
 
   cells_long : (cs : CoverCutsModel) (cuts : List CutCellsModel) → length (into_cells stock cs cuts) ≡ length (cut_counts cs)

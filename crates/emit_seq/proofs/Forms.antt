@@ -3,6 +3,7 @@ use Rattle.std.proofs.Common.{◌≡◌, ℕ, ◌<◌, ◌≤◌, ◌==◌, ◌&
 use Rattle.std.specs.Int.{bit_at}
 use Rattle.std.proofs.lemmas.Nat.Bits.{bit_at-zero, bit_at_or}
 use Rattle.std.proofs.lemmas.Bool.{true≢false, eqb-true, and_parts, cases_Bool}
+use Rattle.rec_bits.proofs.Options.{picked}
 use Rattle.net_model.specs.declared.states.State.{State}
 use Rattle.net_model.specs.Exprs.{ExprModel, const, expr_width}
 use Rattle.net_model.specs.Meaning.{mean}
@@ -16,7 +17,7 @@ use Rattle.form_model.specs.Steps.{CutCellsModel, bits_or_none, cell_in, tied_ce
 use Rattle.form_model.specs.Bits.{uses}
 use Rattle.emit_seq.specs.Formed.{IsOnce, CellsShown, IsTied, IsIntoReg, IsIntoMemory, IsIntoFile, IsFormed}
 use Rattle.emit_seq.specs.Leaves.{ReadsFrom, placed, DestinationReads}
-use Rattle.form_model.proofs.SettingLaws.{picked, IsSetting, shape_sets}
+use Rattle.form_model.proofs.SettingLaws.{IsSetting, shape_sets}
 use Rattle.emit_seq.proofs.BitUnions.{or_left, or_right}
 use Rattle.emit_seq.proofs.Matched.{Joined, joined, some_bits, shown_below, settled_some, Holds, Split, split, open_bits, bits_in, none_open, IsMeant, AreMeant, two_meant, matched_meant}
 use Rattle.emit_seq.proofs.Tied.{HasHomes, matched_homes}

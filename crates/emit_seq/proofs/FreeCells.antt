@@ -4,7 +4,8 @@ use Rattle.std.proofs.Common.{◌≡◌, ℕ, zero, suc, ◌+◌, ◌-◌, ◌<�
 use Rattle.std.specs.Prelude.{slice_get, insert}
 use Rattle.std.specs.Int.{bit_at}
 use Rattle.std.proofs.lemmas.Bool.{cases_eq, eqb-true, eq-eqb, ne_eqb}
-use Rattle.std.proofs.lemmas.Nat.Bits.{bit_at-zero, bit_at_or, bit_at-lt, bit_at-pow_same, bit_at-pow_other}
+use Rattle.std.proofs.lemmas.Nat.Bits.{bit_at-zero, bit_at_or, bit_at-lt}
+use Rattle.rec_bits.proofs.Bits.{set_same, set_other}
 use Rattle.form_model.specs.Forms.{FormModel, GoalModel, into_reg, into_memory, into_file, jumps, branches}
 use Rattle.form_model.specs.CoverModels.{CoverModel, use_form, CoverOperandsModel, no_operands, operand_then}
 use Rattle.form_model.specs.Covers.{StockModel, cells_of_goal, form_cells, left_cells, need, operands_need}
@@ -50,13 +51,6 @@ least_free held (suc n) h =
           (omega (arith, s, lt), ap (bit_at held) s ∙ z)
     ]
 
--- one cell more is held
-pub held_same : (held c : ℕ) → bit_at (bit_or held (2 ^ c)) c ≡ 1
-held_same held c = let l = bit_at-lt held c in omega (arith, bit_at_or held (2 ^ c) c, bit_at-pow_same c, l)
-
-pub held_other : (held c i : ℕ) → (i ≡ c → ⊥) → bit_at (bit_or held (2 ^ c)) i ≡ bit_at held i
-held_other held c i ne = omega (arith, bit_at_or held (2 ^ c) i, bit_at-pow_other c i ne)
-
 pub held_more : (held c i : ℕ) → bit_at held i ≡ 1 → bit_at (bit_or held (2 ^ c)) i ≡ 1
 held_more held c i h = let l = bit_at-lt (2 ^ c) i in omega (arith, bit_at_or held (2 ^ c) i, h, l)
 
@@ -67,7 +61,7 @@ count_past : (held c n : ℕ) → n ≤ c → free_count (bit_or held (2 ^ c)) n
 count_past held c zero h = refl
 count_past held c (suc n) h =
     let e = count_past held c n (omega (arith, h)) in
-    let o = held_other held c n (λ z. omega (arith, z, h)) in
+    let o = set_other held c n (λ z. omega (arith, z, h)) in
     omega (arith, e, o)
 
 pub one_less : (held c n : ℕ) → c < n → bit_at held c ≡ 0 → free_count (bit_or held (2 ^ c)) n + 1 ≡ free_count held n
@@ -76,12 +70,12 @@ one_less held c (suc n) lt z =
     elim (cases_eq c n) as (λ _. free_count (bit_or held (2 ^ c)) (suc n) + 1 ≡ free_count held (suc n)) [
       | inl e ↦
           let past = count_past held c n (omega (arith, e)) in
-          let here : bit_at (bit_or held (2 ^ c)) n ≡ 1 = ap (bit_at (bit_or held (2 ^ c))) (sym e) ∙ held_same held c in
+          let here : bit_at (bit_or held (2 ^ c)) n ≡ 1 = ap (bit_at (bit_or held (2 ^ c))) (sym e) ∙ set_same held c in
           let was : bit_at held n ≡ 0 = ap (bit_at held) (sym e) ∙ z in
           omega (arith, past, here, was)
       | inr ne ↦
           let h = one_less held c n (omega (arith, lt, ne)) z in
-          let o = held_other held c n (λ q. ne (sym q)) in
+          let o = set_other held c n (λ q. ne (sym q)) in
           omega (arith, h, o)
     ]
 

@@ -1,11 +1,12 @@
 -- The accumulator machine's forms are as the laws want them, so its covers leave their trees'
 -- values.
-use Rattle.std.proofs.Common.{◌≡◌, ◌∙◌, ◌%◌, ◌^◌, ◌||◌, Bool, false, ℕ, zero, suc, ◌≤◌, ◌<◌, ◌+◌, List, [], ◌∷◌, length, Some, None, true, refl, ap, subst, sym, slice_get, arith}
+use Rattle.std.proofs.Common.{◌≡◌, ◌∙◌, ◌%◌, ◌^◌, false, ℕ, zero, suc, ◌≤◌, ◌<◌, ◌+◌, List, [], ◌∷◌, length, Some, None, true, refl, ap, subst, sym, slice_get, arith}
 use Rattle.net_model.specs.declared.hardware.Space.TheVariants.{Memory as InMemory}
 use Rattle.net_model.specs.declared.states.State.{State}
 use Rattle.std.specs.Int.{bit_at}
 use Rattle.std.proofs.lemmas.Bool.{true≢false}
 use Rattle.rec_bits.specs.declared.operator.Op2.TheVariants.{Add, Sub}
+use Rattle.rec_bits.proofs.Booleans.{or_comm}
 use Rattle.net_model.specs.Meaning.{mean}
 use Rattle.net_model.specs.Exprs.{ExprModel, reg, const, read, bin, zext, write, expr_width}
 use Rattle.form_model.specs.Forms.{FormModel, GoalModel, into_reg, cell}
@@ -33,12 +34,6 @@ no_bit a b f k h = absurd (true≢false (sym h ∙ f k))
 into : (form : FormModel) (r : ℕ) (value : ExprModel) → slice_get acc_patterns form.pattern ≡ Some (record { storage = r; move = write value }) → MeansAlike form.value value → IsOnce form.value → CellsShown 0 form.value
     → bit_at form.clobbers r ≡ 1 → r < 3 → IsIntoReg acc_patterns 3 0 form r
 into form r value e a o q c b = record { value = value; is = e; alike = a; once = o; shown = q; clobbered = c; below = b }
-
-or_comm : (a b : Bool) → (a || b) ≡ (b || a)
-or_comm true true = refl
-or_comm true false = refl
-or_comm false true = refl
-or_comm false false = refl
 
 sum_alike : (a b : ExprModel) → expr_width a ≡ expr_width b → MeansAlike (bin Add a b) (bin Add b a)
 sum_alike a b e = record {

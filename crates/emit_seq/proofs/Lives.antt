@@ -2,6 +2,7 @@
 use Rattle.std.proofs.Common.{◌≡◌, ℕ, zero, suc, ◌||◌, ◌&&◌, ◌⊎◌, inl, inr, not, Bool, true, false, List, [], ◌∷◌, ◌++◌, refl, sym, ap, ◌∙◌}
 use Rattle.std.specs.Prelude.{insert}
 use Rattle.std.proofs.lemmas.Bool.{true≢false, cases_Bool}
+use Rattle.rec_bits.proofs.Booleans.{or_left, or_right}
 use Rattle.form_model.specs.declared.forms.Step.{Step}
 use Rattle.form_model.specs.Matches.{LeafModel, operand, cut}
 use Rattle.form_model.specs.Effects.{Operation, register, reads, writes}
@@ -69,10 +70,6 @@ module _ {A : Type 0} (m : A → Operation) (c : A → Regs) (pc : ℕ) where
   each_in P [] (suc i) x p h = (p, tt)
   each_in P (y ∷ xs) (suc i) x p h = (h.0, each_in P xs i x p h.1)
 
-  or_some : (a b : Bool) → (a || b) ≡ true → (a ≡ true) ⊎ (b ≡ true)
-  or_some true b h = inl refl
-  or_some false b h = inr h
-
   -- what is live at the start is known, so each read is given
   pub given_of : (xs : List A) (known after : Regs) → ((r : ℕ) → live_before m (singles xs) after r ≡ true → known r ≡ true) → AreDefined m known xs after
   given_of [] known after h = h
@@ -88,14 +85,6 @@ module _ {A : Type 0} (m : A → Operation) (c : A → Regs) (pc : ℕ) where
       kept_live false true false e f = refl
       kept_live false true true e f = absurd (true≢false f)
       kept_live false false d e f = absurd (true≢false (sym e))
-
-      or_left : (a b : Bool) → a ≡ true → (a || b) ≡ true
-      or_left true b e = refl
-      or_left false b e = absurd (true≢false (sym e))
-
-      or_right : (a b : Bool) → b ≡ true → (a || b) ≡ true
-      or_right true b e = refl
-      or_right false b e = e
 
       later : (r : ℕ) → live_before m (singles xs) after r ≡ true → (writes (m x) r ≡ true) ⊎ (writes (m x) r ≡ false) → (known r || writes (m x) r) ≡ true
       later r e (inl w) = or_right (known r) _ w

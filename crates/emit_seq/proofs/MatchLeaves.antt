@@ -4,6 +4,8 @@ use Rattle.std.proofs.lemmas.Bool.{true≢false, eqb-true}
 use Rattle.rec_bits.specs.declared.operator.Op1.{Op1}
 use Rattle.rec_bits.specs.declared.operator.Op2.{Op2}
 use Rattle.rec_bits.specs.declared.operator.Op2.TheVariants.{Add}
+use Rattle.rec_bits.proofs.Booleans.{or_cases, or_from}
+use Rattle.rec_bits.proofs.Options.{picked}
 use Rattle.net_model.specs.declared.hardware.Space.TheVariants.{Memory as InMemory, File as InFile}
 use Rattle.net_model.specs.declared.states.State.{State}
 use Rattle.net_model.specs.Exprs.{ExprModel, word, reg, const, read, un, bin, slice, cat, zext, sext, select, expr_width}
@@ -15,7 +17,6 @@ use Rattle.form_model.specs.Effects.{register, expr_reads}
 use Rattle.form_model.proofs.SumNumbers.{sum_is_with}
 use Rattle.emit_seq.specs.Formed.{CellsShown}
 use Rattle.emit_seq.specs.Leaves.{ReadsFrom}
-use Rattle.form_model.proofs.SettingLaws.{picked}
 use Rattle.emit_seq.proofs.Matched.{Joined, joined, Literal, literal, opened}
 
 -- a register of an operand
@@ -52,17 +53,13 @@ plain_unread (word w) i r h = refl
 plain_unread (slice a hi lo) i r h = field_unread (slice a hi lo) i r h
 plain_unread t i r h = absurd (true≢false (sym h))
 
-no_read : (a b : Bool) → a ≡ false → b ≡ false → (a || b) ≡ false
-no_read true b p q = p
-no_read false b p q = q
-
 -- a sum has a constant and a plain part
 sum_unread : (a b : ExprModel) (s : Sum) (i r : ℕ) → summands a b ≡ Some s → is_plain s.to ≡ true → (expr_reads i a (register r) || expr_reads i b (register r)) ≡ false
 sum_unread (const w c) b s i r e p =
     let same = (sum_is_with w c b s e).is in plain_unread b i r (ap (λ (z : Sum). is_plain z.to) same ∙ p)
 sum_unread a (const w c) s i r e p =
     let same = (sum_is_with w c a s e).is in
-    no_read (expr_reads i a (register r)) false (plain_unread a i r (ap (λ (z : Sum). is_plain z.to) same ∙ p)) refl
+    or_from (expr_reads i a (register r)) false (plain_unread a i r (ap (λ (z : Sum). is_plain z.to) same ∙ p)) refl
 sum_unread a b s i r e p = absurd (cc)
 
 pub shape_unread : (t : ExprModel) (i r : ℕ) → is_shape t ≡ true → expr_reads i t (register r) ≡ false
@@ -82,10 +79,6 @@ shape_unread t i r h = absurd (true≢false (sym h))
 chosen : (b : Bool) (x y : Option MatchModel) (f : MatchModel) → (if b then x else y) ≡ Some f → ((b ≡ true) × (x ≡ Some f)) ⊎ (y ≡ Some f)
 chosen true x y f h = inl (refl, h)
 chosen false x y f h = inr h
-
-or_some : (a b : Bool) → (a || b) ≡ true → (a ≡ true) ⊎ (b ≡ true)
-or_some true b h = inl refl
-or_some false b h = inr h
 
 module _ (temps : ℕ) (before : State) where
   -- the trees of the leaves read nothing below the temporary cells
@@ -153,7 +146,7 @@ module _ (temps : ℕ) (before : State) where
         leaves = λ k. subst (λ (z : MatchModel). LeavesRead z.leaves) j.is (read-append j.first.leaves j.second.leaves (m.leaves k.0) (n.leaves k.1));
         given = λ size q i r k. subst (λ (z : MatchModel). IsIdOf (operands_of z.leaves) r) j.is
             (subst (λ z. IsIdOf z r) (sym (operands-append j.first.leaves j.second.leaves))
-            (elim (or_some (expr_reads i a (register r)) (expr_reads i b (register r)) k) as (λ _. IsIdOf (operands_of j.first.leaves ++ operands_of j.second.leaves) r) [
+            (elim (or_cases (expr_reads i a (register r)) (expr_reads i b (register r)) k) as (λ _. IsIdOf (operands_of j.first.leaves ++ operands_of j.second.leaves) r) [
               | inl u ↦ id_left _ _ r (m.given size q.0 i r u)
               | inr u ↦ id_right (operands_of j.first.leaves) _ r (n.given size q.1 i r u)
             ]));

@@ -6,9 +6,10 @@ use Rattle.std.specs.Int.{bit_at}
 use Rattle.std.proofs.lemmas.Nat.Bits.{bit_at-zero, bit_at_or}
 use Rattle.std.proofs.lemmas.Bool.{true≢false, eqb-true, and_parts}
 use Rattle.rec_bits.specs.declared.operator.Op1.{Op1}
-use Rattle.rec_bits.specs.declared.operator.Op1.TheVariants.{Not, Neg}
 use Rattle.rec_bits.specs.declared.operator.Op2.{Op2}
-use Rattle.rec_bits.specs.declared.operator.Op2.TheVariants.{Add, Sub, Mul, And, Or, Xor, Shl, Shr, Sar, Eq, Ltu, Lts}
+use Rattle.rec_bits.proofs.Booleans.{or_parts, or_left as true_left, or_right as true_right, either}
+use Rattle.rec_bits.proofs.Options.{picked}
+use Rattle.rec_bits.proofs.Equality.{op1_is, op2_is}
 use Rattle.net_model.specs.declared.hardware.Space.TheVariants.{Memory as InMemory, File as InFile}
 use Rattle.net_model.specs.declared.states.State.{State}
 use Rattle.net_model.specs.Exprs.{ExprModel, word, reg, const, read, un, bin, slice, cat, zext, sext, select, expr_width}
@@ -21,30 +22,10 @@ use Rattle.form_model.specs.Steps.{CutCellsModel, bits_or_none, cells_setting, h
 use Rattle.form_model.specs.Bits.{uses}
 use Rattle.emit_seq.specs.Formed.{BitsApart, IsOnce, CellsShown}
 use Rattle.emit_seq.specs.Leaves.{ReadsFrom}
-use Rattle.form_model.proofs.SettingLaws.{picked, IsSetting, shape_sets}
+use Rattle.form_model.proofs.SettingLaws.{IsSetting, shape_sets}
 use Rattle.emit_seq.proofs.BitUnions.{or_left}
 
 -- ---- equal operators
-
-pub same_one : (a b : Op1) → same_op1 a b ≡ true → a ≡ b
-same_one Not Not h = refl
-same_one Neg Neg h = refl
-same_one a b h = absurd (true≢false (sym h))
-
-pub same_two : (a b : Op2) → same_op2 a b ≡ true → a ≡ b
-same_two Add Add h = refl
-same_two Sub Sub h = refl
-same_two Mul Mul h = refl
-same_two And And h = refl
-same_two Or Or h = refl
-same_two Xor Xor h = refl
-same_two Shl Shl h = refl
-same_two Shr Shr h = refl
-same_two Sar Sar h = refl
-same_two Eq Eq h = refl
-same_two Ltu Ltu h = refl
-same_two Lts Lts h = refl
-same_two a b h = absurd (true≢false (sym h))
 
 -- ---- parts of a match
 
@@ -84,10 +65,6 @@ literal shape t f h = absurd (cc)
 pub opened : (b : Bool) (leaf : LeafModel) (f : MatchModel) → open_if b leaf ≡ Some f → (b ≡ true) × (record { setting = 0; leaves = leaf ∷ [] } ≡ f)
 opened true leaf f h = (refl, cc)
 opened false leaf f h = absurd (cc)
-
-pub either : (b : Bool) (x y : Option MatchModel) (f : MatchModel) → (if b then x else y) ≡ Some f → (x ≡ Some f) ⊎ (y ≡ Some f)
-either true x y f h = inl h
-either false x y f h = inr h
 
 -- ---- a shape that shows each number below a bound shows this one
 
@@ -225,17 +202,6 @@ shape_meant temps size before now e t f cuts homes h k =
       means = λ i u. shown.means now i (λ j w. u j w ∙ set j) ∙ ap (λ z. mean z before 0) (sym l.is_tree);
     }
 
-or_parts : (a b : Bool) → (a || b) ≡ false → (a ≡ false) × (b ≡ false)
-or_parts true b e = absurd (true≢false e)
-or_parts false b e = (refl, e)
-
-or_one : (a b : Bool) → a ≡ true → (a || b) ≡ true
-or_one a b e = rw e refl
-
-or_two : (a b : Bool) → b ≡ true → (a || b) ≡ true
-or_two true b e = refl
-or_two false b e = e
-
 -- the bits of two matches that have no bit in common
 pub pair_bits : (x y : MatchModel) (f : MatchModel) (cuts front back : List CutCellsModel) (homes fronts backs : List (Option ℕ)) → record { setting = bit_or x.setting y.setting; leaves = x.leaves ++ y.leaves } ≡ f
     → ((k : ℕ) → bit_at (open_bits (x.leaves ++ y.leaves) cuts homes) k ≡ max (bit_at (open_bits x.leaves front fronts) k) (bit_at (open_bits y.leaves back backs) k))
@@ -267,8 +233,8 @@ module _ (temps size : ℕ) (before now : State) where
     first_width = m.width;
     second_width = n.width;
     within = λ k v. let w : (uses a k ≡ false) × (uses b k ≡ false) = or_parts _ _ v in omega (arith, set k, m.within k w.0, n.within k w.1);
-    first = λ i v. m.means i (λ k w. v k (or_one _ (uses b k) w) ∙ omega (arith, set k, n.within k (p k w)));
-    second = λ i v. n.means i (λ k w. v k (or_two (uses a k) _ w) ∙ omega (arith, set k, m.within k (q k w)));
+    first = λ i v. m.means i (λ k w. v k (true_left _ (uses b k) w) ∙ omega (arith, set k, n.within k (p k w)));
+    second = λ i v. n.means i (λ k w. v k (true_right (uses a k) _ w) ∙ omega (arith, set k, m.within k (q k w)));
   }
     where
       set : (k : ℕ) → bit_at (bits_in f cuts homes) k ≡ max (bit_at (bits_in x front fronts) k) (bit_at (bits_in y back backs) k)
@@ -337,7 +303,7 @@ module _ (temps size : ℕ) (before now : State) (same : (c : ℕ) → temps ≤
   un_meant a op ih (un o b) f cuts homes h r k =
       let p : (same_op1 o op ≡ true) × (matched temps a b false ≡ Some f) = picked _ _ _ h in
       let m : IsMeant temps size before now a b f cuts homes = ih b false f cuts homes p.1 r k in
-      let e : o ≡ op = same_one o op p.0 in
+      let e : o ≡ op = op1_is o op p.0 in
       record { width = m.width; within = m.within; means = λ i u. cc (e, m.width, m.means i u) }
   un_meant a op ih t f cuts homes h r k = absurd (cc)
 
@@ -346,7 +312,7 @@ module _ (temps size : ℕ) (before now : State) (same : (c : ℕ) → temps ≤
       → Holds temps size before now f.leaves cuts homes → IsMeant temps size before now (bin op a b) t f cuts homes
   bin_meant a b op iha ihb ab ba (bin o c d) f cuts homes h r k =
       let p : (same_op2 o op ≡ true) × (both (matched temps a c false) (matched temps b d false) ≡ Some f) = picked _ _ _ h in
-      let e : o ≡ op = same_two o op p.0 in
+      let e : o ≡ op = op2_is o op p.0 in
       let j : Joined (matched temps a c false) (matched temps b d false) f = joined _ _ _ p.1 in
       let s : Split temps size before now j.first.leaves j.second.leaves cuts homes =
       split temps size before now j.first.leaves j.second.leaves cuts homes (subst (λ (z : MatchModel). Holds temps size before now z.leaves cuts homes) (sym j.is) k) in
@@ -415,7 +381,7 @@ module _ (temps size : ℕ) (before now : State) (same : (c : ℕ) → temps ≤
   cell_meant a w t whole f cuts homes h r k =
       let p : ((w == expr_width t) ≡ true)
       × ((if is_cell t then literal_match a t else open_if (not whole && shows_below a temps) (cut a t)) ≡ Some f) = picked _ _ _ h in
-      elim (either (is_cell t) (literal_match a t) (open_if (not whole && shows_below a temps) (cut a t)) f p.1)
+      elim (either (is_cell t) (literal_match a t) (open_if (not whole && shows_below a temps) (cut a t)) (Some f) p.1)
       as (λ _. IsMeant temps size before now (read InMemory a w) t f cuts homes) [
         | inl l ↦ at_number a w t f cuts homes (eqb-true w (expr_width t) p.0) l r k
         | inr l ↦ at_cut a w t (not whole) f cuts homes (eqb-true w (expr_width t) p.0) l k
@@ -464,25 +430,25 @@ module _ (temps size : ℕ) (before now : State) (same : (c : ℕ) → temps ≤
   matched_meant (reg id w) o q t whole f cuts homes h r k = reg_meant id w t whole f cuts homes h r k
   matched_meant (read InFile a w) o q t whole f cuts homes h r k = file_meant a w q.1 t whole f cuts homes h r k
   matched_meant (read InMemory a w) o q t whole f cuts homes h r k =
-      elim (either (is_shape a) (cell_match temps a w t whole) (read_match (matched temps a) w t) f h) as (λ _. IsMeant temps size before now (read InMemory a w) t f cuts homes) [
+      elim (either (is_shape a) (cell_match temps a w t whole) (read_match (matched temps a) w t) (Some f) h) as (λ _. IsMeant temps size before now (read InMemory a w) t f cuts homes) [
         | inl l ↦ cell_meant a w t whole f cuts homes l r k
         | inr l ↦ read_meant a w (matched_meant a o q) t f cuts homes l r k
       ]
   matched_meant (un op a) o q t whole f cuts homes h r k = un_meant a op (matched_meant a o q) t f cuts homes h r k
   matched_meant (bin op a b) o q t whole f cuts homes h r k =
-      elim (either (is_shape (bin op a b)) (shape_match (bin op a b) t) (bin_match (matched temps a) (matched temps b) op t) f h) as (λ _. IsMeant temps size before now (bin op a b) t f cuts homes) [
+      elim (either (is_shape (bin op a b)) (shape_match (bin op a b) t) (bin_match (matched temps a) (matched temps b) op t) (Some f) h) as (λ _. IsMeant temps size before now (bin op a b) t f cuts homes) [
         | inl l ↦ shape_meant temps size before now (bin op a b) t f cuts homes l k
         | inr l ↦ bin_meant a b op (matched_meant a o.0 q.0) (matched_meant b o.1 q.1) o.2 o.3 t f cuts homes l r k
       ]
   matched_meant (slice (word w) hi lo) o q t whole f cuts homes h r k = shape_meant temps size before now (slice (word w) hi lo) t f cuts homes h k
   matched_meant (slice a hi lo) o q t whole f cuts homes h r k = slice_meant a hi lo (λ j. refl) (matched_meant a o q) t f cuts homes h r k
   matched_meant (zext a w) o q t whole f cuts homes h r k =
-      elim (either (is_shape (zext a w)) (shape_match (zext a w) t) (zext_match (matched temps a) (expr_width a) w t) f h) as (λ _. IsMeant temps size before now (zext a w) t f cuts homes) [
+      elim (either (is_shape (zext a w)) (shape_match (zext a w) t) (zext_match (matched temps a) (expr_width a) w t) (Some f) h) as (λ _. IsMeant temps size before now (zext a w) t f cuts homes) [
         | inl l ↦ shape_meant temps size before now (zext a w) t f cuts homes l k
         | inr l ↦ zext_meant a w (matched_meant a o q) t f cuts homes l r k
       ]
   matched_meant (sext a w) o q t whole f cuts homes h r k =
-      elim (either (is_shape (sext a w)) (shape_match (sext a w) t) (sext_match (matched temps a) (expr_width a) w t) f h) as (λ _. IsMeant temps size before now (sext a w) t f cuts homes) [
+      elim (either (is_shape (sext a w)) (shape_match (sext a w) t) (sext_match (matched temps a) (expr_width a) w t) (Some f) h) as (λ _. IsMeant temps size before now (sext a w) t f cuts homes) [
         | inl l ↦ shape_meant temps size before now (sext a w) t f cuts homes l k
         | inr l ↦ sext_meant a w (matched_meant a o q) t f cuts homes l r k
       ]

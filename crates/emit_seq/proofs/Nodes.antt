@@ -1,8 +1,10 @@
 -- The leaves of a match take disjoint parts of a tree.
-use Rattle.std.proofs.Common.{◌≡◌, ℕ, ◌+◌, ◌≤◌, ◌==◌, ◌&&◌, ◌⊎◌, inl, inr, not, Bool, true, false, if◌then◌else◌, List, [], ◌∷◌, ◌++◌, Option, Some, None, refl, sym, ap, ◌∙◌, subst, arith}
+use Rattle.std.proofs.Common.{◌≡◌, ℕ, ◌+◌, ◌≤◌, ◌==◌, ◌&&◌, inl, inr, not, Bool, true, false, if◌then◌else◌, List, [], ◌∷◌, ◌++◌, Option, Some, None, refl, sym, ap, ◌∙◌, subst, arith}
 use Rattle.std.proofs.lemmas.Bool.{and_parts, eq-eqb, eqb-true}
 use Rattle.rec_bits.specs.declared.operator.Op1.{Op1}
 use Rattle.rec_bits.specs.declared.operator.Op2.{Op2}
+use Rattle.rec_bits.proofs.Booleans.{either}
+use Rattle.rec_bits.proofs.Options.{picked}
 use Rattle.net_model.specs.declared.hardware.Space.TheVariants.{Memory as InMemory, File as InFile}
 use Rattle.net_model.specs.Exprs.{ExprModel, word, reg, const, read, un, bin, slice, cat, zext, sext, select, expr_width}
 use Rattle.form_model.specs.Trees.{is_number, is_cell}
@@ -13,7 +15,6 @@ use Rattle.form_model.specs.Covers.{Operand, operands_of, cuts_of}
 use Rattle.form_model.specs.WideNodes.{wide_below, wide_nodes}
 use Rattle.form_model.proofs.WideLaws.{below_nodes, one_more}
 use Rattle.emit_seq.specs.ReadWords.{ReadsWords, AddressReadsWords}
-use Rattle.form_model.proofs.SettingLaws.{picked}
 use Rattle.emit_seq.proofs.Matched.{Joined, joined, Literal, literal, opened, settled_some}
 
 module _ (temps bits : ℕ) where
@@ -160,38 +161,34 @@ module _ (temps bits : ℕ) where
       parts (kind_sum b false f (ih b false f p.1))
   sext_kind a w ih t whole f h = absurd (cc)
 
-  pick : (b : Bool) (x y : Option MatchModel) (f : MatchModel) → (if b then x else y) ≡ Some f → (x ≡ Some f) ⊎ (y ≡ Some f)
-  pick true x y f h = inl h
-  pick false x y f h = inr h
-
   pub matched_kind : (e : ExprModel) → ReadsWords bits e → MatchKinds e
   matched_kind (word w) o t whole f h = shape_kind (word w) t whole f h
   matched_kind (const w v) o t whole f h = shape_kind (const w v) t whole f h
   matched_kind (reg id w) o t whole f h = reg_kind id w t whole f h
   matched_kind (read InFile a w) o t whole f h = file_kind a w t whole f h
   matched_kind (read InMemory a w) o t whole f h =
-      elim (pick (is_shape a) (cell_match temps a w t whole) (read_match (matched temps a) w t) f h) as (λ _. MatchKind t whole f) [
+      elim (either (is_shape a) (cell_match temps a w t whole) (read_match (matched temps a) w t) (Some f) h) as (λ _. MatchKind t whole f) [
         | inl l ↦ cell_kind a w t whole f o.0 l
         | inr l ↦ read_kind a w (matched_kind a o.1) t whole f l
       ]
   matched_kind (un op a) o t whole f h = un_kind a op (matched_kind a o) t whole f h
   matched_kind (bin op a b) o t whole f h =
-      elim (pick (is_shape (bin op a b)) (shape_match (bin op a b) t) (bin_match (matched temps a) (matched temps b) op t) f h) as (λ _. MatchKind t whole f) [
+      elim (either (is_shape (bin op a b)) (shape_match (bin op a b) t) (bin_match (matched temps a) (matched temps b) op t) (Some f) h) as (λ _. MatchKind t whole f) [
         | inl l ↦ shape_kind (bin op a b) t whole f l
         | inr l ↦ bin_kind a b op (matched_kind a o.0) (matched_kind b o.1) t whole f l
       ]
   matched_kind (slice a hi lo) o t whole f h =
-      elim (pick (is_shape (slice a hi lo)) (shape_match (slice a hi lo) t) (slice_match (matched temps a) (expr_width a) hi lo t) f h) as (λ _. MatchKind t whole f) [
+      elim (either (is_shape (slice a hi lo)) (shape_match (slice a hi lo) t) (slice_match (matched temps a) (expr_width a) hi lo t) (Some f) h) as (λ _. MatchKind t whole f) [
         | inl l ↦ shape_kind (slice a hi lo) t whole f l
         | inr l ↦ slice_kind a hi lo (matched_kind a o) t whole f l
       ]
   matched_kind (zext a w) o t whole f h =
-      elim (pick (is_shape (zext a w)) (shape_match (zext a w) t) (zext_match (matched temps a) (expr_width a) w t) f h) as (λ _. MatchKind t whole f) [
+      elim (either (is_shape (zext a w)) (shape_match (zext a w) t) (zext_match (matched temps a) (expr_width a) w t) (Some f) h) as (λ _. MatchKind t whole f) [
         | inl l ↦ shape_kind (zext a w) t whole f l
         | inr l ↦ zext_kind a w (matched_kind a o) t whole f l
       ]
   matched_kind (sext a w) o t whole f h =
-      elim (pick (is_shape (sext a w)) (shape_match (sext a w) t) (sext_match (matched temps a) (expr_width a) w t) f h) as (λ _. MatchKind t whole f) [
+      elim (either (is_shape (sext a w)) (shape_match (sext a w) t) (sext_match (matched temps a) (expr_width a) w t) (Some f) h) as (λ _. MatchKind t whole f) [
         | inl l ↦ shape_kind (sext a w) t whole f l
         | inr l ↦ sext_kind a w (matched_kind a o) t whole f l
       ]

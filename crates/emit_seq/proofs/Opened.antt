@@ -4,6 +4,8 @@ use Rattle.std.specs.Prelude.{slice_get, remove}
 use Rattle.std.specs.Int.{bit_at}
 use Rattle.std.proofs.lemmas.Nat.Bits.{bit_at-zero, bit_at_and, bit_at_or, bit_at-pow_same, bit_at-lt}
 use Rattle.std.proofs.lemmas.Bool.{eqb-true}
+use Rattle.rec_bits.proofs.Options.{picked}
+use Rattle.rec_bits.proofs.Lists.{length_inserted}
 use Rattle.net_model.specs.declared.states.State.{State}
 use Rattle.net_model.specs.Exprs.{ExprModel}
 use Rattle.net_model.specs.Patterns.{Pattern}
@@ -15,10 +17,9 @@ use Rattle.form_model.specs.Covers.{StockModel, Operand, operands_of, cuts_of, f
 use Rattle.form_model.specs.Steps.{OperandCellsModel, holding, cell_of, operand_homes, cut_count, operands_count, cuts_count, operand_counts, cut_counts, form_or_none, match_or_none, operand_cells_or_none, form_at, match_at}
 use Rattle.emit_seq.specs.Formed.{IsFormed}
 use Rattle.emit_seq.specs.Leaves.{ReadsFrom, DestinationReads}
-use Rattle.form_model.proofs.SettingLaws.{picked}
 use Rattle.emit_seq.proofs.Matched.{Joined, joined, settled_some}
 use Rattle.emit_seq.proofs.MatchLeaves.{LeavesRead, read-append, matched_taken}
-use Rattle.form_model.proofs.Zips.{get_mapped, length_in, length_out, map-remove, total, total-insert}
+use Rattle.form_model.proofs.Zips.{get_mapped, length_out, map-remove, total, total-insert}
 use Rattle.emit_seq.specs.Inner.CellLists.{operands_in}
 use Rattle.emit_seq.proofs.Walks.{past_leaves, past_total}
 
@@ -71,14 +72,14 @@ pub operands_long : (stock : StockModel) (ps : CoverOperandsModel) (left : List 
 operands_long stock no_operands left c = sym (ap length c)
 operands_long stock (operand_then i p ps) left c =
     let h = operands_long stock ps (remove left i) c.4 in
-    omega (arith, h, length_in (operand_counts ps) i (cut_count p), length_out left i c.0 c.1)
+    omega (arith, h, length_inserted (operand_counts ps) i (cut_count p), length_out left i c.0 c.1)
 
 -- as many homes as there are operands
 pub homes_places : (stock : StockModel) (ps : CoverOperandsModel) (held : ℕ) → length (operand_homes stock ps held) ≡ length (operand_counts ps)
 homes_places stock no_operands held = refl
 homes_places stock (operand_then i p ps) held =
     let h = homes_places stock ps (holding held (cell_of stock p held)) in
-    length_in (operand_homes stock ps (holding held (cell_of stock p held))) i _ ∙ ap (λ n. suc n) h ∙ sym (length_in (operand_counts ps) i (cut_count p))
+    length_inserted (operand_homes stock ps (holding held (cell_of stock p held))) i _ ∙ ap (λ n. suc n) h ∙ sym (length_inserted (operand_counts ps) i (cut_count p))
 
 pub homes_long : (stock : StockModel) (ps : CoverOperandsModel) (left : List Operand) (held : ℕ) → AreOrderly stock left ps → length (operand_homes stock ps held) ≡ length left
 homes_long stock ps left held c = homes_places stock ps held ∙ operands_long stock ps left c

@@ -3,6 +3,7 @@ use Rattle.std.proofs.Common.{◌≡◌, ℕ, suc, ◌<◌, Bool, false, List, �
 use Rattle.std.specs.Prelude.{IsSome, slice_get, remove}
 use Rattle.std.proofs.lemmas.Option.{slice_get_within}
 use Rattle.std.proofs.lemmas.List.{length-map}
+use Rattle.rec_bits.proofs.Lists.{length_inserted}
 use Rattle.net_model.specs.Exprs.{ExprModel}
 use Rattle.form_model.specs.declared.forms.Form.{Form}
 use Rattle.form_model.specs.Forms.{FormModel, model_of_form, models_of_forms, DestinationModel, temporary}
@@ -10,7 +11,7 @@ use Rattle.form_model.specs.Matches.{taken}
 use Rattle.form_model.specs.CoverModels.{CoverModel, use_form, CoverOperandsModel, no_operands, operand_then, CoverCutsModel, cut_then}
 use Rattle.form_model.specs.Covers.{StockModel, Operand, home_destination, IsOrderly, AreOrderly, AreCut}
 use Rattle.form_model.specs.Steps.{OperandCellsModel, cut_count, operand_counts, cut_counts, inside_operands, match_at}
-use Rattle.form_model.proofs.Zips.{get_mapped, length_in, length_out, map-remove}
+use Rattle.form_model.proofs.Zips.{get_mapped, length_out, map-remove}
 use Rattle.emit_seq.specs.declared.cells.CutCells.{CutCells}
 use Rattle.emit_seq.specs.declared.cells.OperandCells.{OperandCells}
 use Rattle.emit_seq.specs.declared.roots.Root.{Root}
@@ -102,7 +103,7 @@ pub inside_long : (stock : StockModel) (ps : CoverOperandsModel) (left : List Op
 inside_long stock no_operands left = refl
 inside_long stock (operand_then i p ps) left =
     let h = inside_long stock ps (remove left i) in
-    length_in (inside_operands stock ps (remove left i)) i _ ∙ ap (λ n. suc n) h ∙ sym (length_in (operand_counts ps) i (cut_count p))
+    length_inserted (inside_operands stock ps (remove left i)) i _ ∙ ap (λ n. suc n) h ∙ sym (length_inserted (operand_counts ps) i (cut_count p))
 
 -- ---- a cut
 

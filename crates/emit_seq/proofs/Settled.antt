@@ -1,8 +1,10 @@
 -- Each step of an orderly cover is one of a form of the list, with values for its bits alone.
-use Rattle.std.proofs.Common.{◌≡◌, ℕ, zero, suc, ◌+◌, ◌<◌, ◌==◌, ◌&&◌, ◌⊎◌, inl, inr, min, bit_and, bit_or, Bool, true, false, List, [], ◌∷◌, ◌++◌, Option, Some, None, refl, sym, ap, ◌∙◌, subst, arith}
+use Rattle.std.proofs.Common.{◌≡◌, ℕ, zero, suc, ◌+◌, ◌==◌, ◌&&◌, bit_and, bit_or, Bool, true, false, List, [], ◌∷◌, ◌++◌, Option, Some, None, refl, sym, ap, ◌∙◌, subst}
 use Rattle.std.specs.Prelude.{slice_get, remove, insert}
 use Rattle.std.specs.Int.{bit_at}
-use Rattle.std.proofs.lemmas.Nat.Bits.{bit_at-zero, bit_at_and, bit_at-lt, same_from_bits}
+use Rattle.std.proofs.lemmas.Nat.Bits.{bit_at-zero}
+use Rattle.rec_bits.proofs.Options.{picked}
+use Rattle.rec_bits.proofs.Bits.{within_mask}
 use Rattle.net_model.specs.Exprs.{ExprModel}
 use Rattle.net_model.specs.Fields.{fields}
 use Rattle.form_model.specs.declared.forms.Step.{Step}
@@ -14,7 +16,6 @@ use Rattle.form_model.specs.Covers.{StockModel, operands_of, home_destination, I
 use Rattle.form_model.specs.Steps.{OperandCellsModel, CutCellsModel, cut_count, operand_counts, cut_counts, cover_operand_cells, cover_cut_cells, operand_cells_or_none, holding, cell_of, operand_homes, own_setting, whole_setting, form_at, match_at, own_steps, operand_steps, woven, cut_steps, inside_operands, into_cells, cover_setting, branch_setting, form_step, cover_steps}
 use Rattle.emit_seq.specs.Leaves.{condition_of}
 use Rattle.emit_seq.specs.Settles.{addr_fields, form_fields, IsStepping, AreOfForms}
-use Rattle.form_model.proofs.SettingLaws.{picked}
 use Rattle.emit_seq.proofs.BitUnions.{or_zero, zero_left, zero_right}
 use Rattle.emit_seq.proofs.Matched.{Joined, joined, settled_some, open_bits, none_open, bits_in}
 use Rattle.emit_seq.proofs.Within.{shape_within, none_within, Named, cuts_named, NamedSplit, named_split, IsIn, pair_in, matched_in}
@@ -84,20 +85,10 @@ own_in (cell a) o own home k z = bit_at-zero k
 own_in (stored a) o own home k z = bit_at-zero k
 own_in tested o own home k z = bit_at-zero k
 
--- a number whose bits are among those of a mask
-masked : (n mask : ℕ) → ((k : ℕ) → bit_at mask k ≡ 0 → bit_at n k ≡ 0) → bit_and n mask ≡ n
-masked n mask f = same_from_bits (bit_and n mask) n (λ k. bit_at_and n mask k ∙ lesser (bit_at n k) (bit_at mask k) (bit_at-lt n k) (bit_at-lt mask k) (f k))
-  where
-    lesser : (a b : ℕ) → a < 2 → b < 2 → (b ≡ 0 → a ≡ 0) → min a b ≡ a
-    lesser a b p q g = elim (zero_or_one b q) as (λ _. min a b ≡ a) [ inl e ↦ omega (arith, e, g e) | inr e ↦ omega (arith, e, p) ]
-      where
-        zero_or_one : (n : ℕ) → n < 2 → (n ≡ 0) ⊎ (n ≡ 1)
-        zero_or_one n h = grind arith
-
 setting_in : (temps : ℕ) (form : FormModel) (destination : DestinationModel) (tree : ExprModel) (whole : Bool) (found : MatchModel) (rs : List CutCellsModel) (hs : List (Option ℕ)) (own : ℕ) (home : Option ℕ) → goal_match temps form form.goal destination tree whole ≡ Some found
     → Named found.leaves rs hs → bit_and (whole_setting form destination found rs hs own home) (form_fields form) ≡ whole_setting form destination found rs hs own home
 setting_in temps form destination tree whole found rs hs own home h n =
-    masked (whole_setting form destination found rs hs own home) (form_fields form) (λ k z.
+    within_mask (whole_setting form destination found rs hs own home) (form_fields form) (λ k z.
     or_zero (bits_in found rs hs) (own_setting destination form.addr own home) k (goal_in temps form form.goal destination tree whole found rs hs h n k z)
     (own_in destination form.addr own home k (zero_left (addr_fields form.addr) (fields form.value) k z)))
 
@@ -233,6 +224,6 @@ module _ (stock : StockModel) where
       let w : IsOpened stock k ps cs tested tree true = opened_cover stock k ps cs tested tree true o in
       let found : MatchModel = match_at stock k tested tree true in
       let cuts : List CutCellsModel = cover_cut_cells found.leaves ps cs 0 in
-      masked (branch_setting stock tree (use_form k ps cs)) (fields (form_at stock k).value) (λ j z.
+      within_mask (branch_setting stock tree (use_form k ps cs)) (fields (form_at stock k).value) (λ j z.
       or_zero (bits_in found cuts (operand_homes stock ps 0)) 0 j
       (test_in stock.temps (form_at stock k) (form_at stock k).goal tree true found cuts (operand_homes stock ps 0) w.takes (cuts_named found.leaves (operand_counts ps) (cut_counts cs) 0 (operand_homes stock ps 0) (homes_long stock ps (operands_of found.leaves) 0 w.operands)) j z) (bit_at-zero j))

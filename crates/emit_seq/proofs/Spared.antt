@@ -4,6 +4,8 @@ use Rattle.std.specs.Prelude.{slice_get, remove}
 use Rattle.std.specs.Int.{bit_at}
 use Rattle.std.proofs.lemmas.Nat.Bits.{bit_at_or, bit_at-lt}
 use Rattle.std.proofs.lemmas.Bool.{true≢false, eqb-true, eq-eqb, cases_Bool, and_parts}
+use Rattle.rec_bits.proofs.Booleans.{or_cases}
+use Rattle.rec_bits.proofs.Options.{picked}
 use Rattle.net_model.specs.Exprs.{ExprModel}
 use Rattle.net_model.specs.Symbolic.{no_state}
 use Rattle.net_model.specs.Patterns.{Pattern}
@@ -19,7 +21,6 @@ use Rattle.form_model.specs.Steps.{OperandCellsModel, CutCellsModel, holding, ce
 use Rattle.emit_seq.specs.Formed.{CellsShown, IsIntoMemory, IsIntoFile, IsFormed, AreFormed}
 use Rattle.emit_seq.specs.Leaves.{IsOfJob}
 use Rattle.emit_seq.specs.Spares.{clobbers_of, step_clobbers, AreShared, ReadsCounter, AreDefined, wanted, AreSpare}
-use Rattle.form_model.proofs.SettingLaws.{picked}
 use Rattle.emit_seq.proofs.Matched.{Joined, joined}
 use Rattle.emit_seq.proofs.MatchLeaves.{IsIdOf, operands-append, id_left, id_right, shape_unread, matched_taken}
 use Rattle.form_model.proofs.Zips.{Each}
@@ -45,10 +46,6 @@ record IsFormStep (file_storage : Option ℕ) (patterns : List Pattern) (form : 
   owns : (i r : ℕ) → IsOwn destination r → writes (operation_of file_storage patterns (record { pattern = form.pattern; setting = i })) r ≡ true
   owned : (i r : ℕ) → writes (operation_of file_storage patterns (record { pattern = form.pattern; setting = i })) r ≡ true → IsOwn destination r
 
-or_some : (a b : Bool) → (a || b) ≡ true → (a ≡ true) ⊎ (b ≡ true)
-or_some true b h = inl refl
-or_some false b h = inr h
-
 address_given : (temps size : ℕ) (at : ExprModel) (destination : DestinationModel) (x : MatchModel) → CellsShown size at → address_match temps (Some at) destination ≡ Some x → (i r : ℕ) → expr_reads i at (register r) ≡ true
     → IsIdOf (operands_of x.leaves) r
 address_given temps size at (cell a) x q h i r e =
@@ -71,7 +68,7 @@ memory_step temps size file_storage patterns form destination tree whole found f
     let e' : (expr_reads i f.addr (register r) || expr_reads i f.value (register r)) ≡ true = sym (ap (λ (p : Option Pattern). reads (operation_or_none file_storage p i) (register r)) f.is) ∙ e in
     subst (λ (z : MatchModel). IsIdOf (operands_of z.leaves) r) j.is
     (subst (λ z. IsIdOf z r) (sym (operands-append j.first.leaves j.second.leaves))
-    (elim (or_some (expr_reads i f.addr (register r)) (expr_reads i f.value (register r)) e') as (λ _. IsIdOf (operands_of j.first.leaves ++ operands_of j.second.leaves) r) [
+    (elim (or_cases (expr_reads i f.addr (register r)) (expr_reads i f.value (register r)) e') as (λ _. IsIdOf (operands_of j.first.leaves ++ operands_of j.second.leaves) r) [
       | inl u ↦ id_left (operands_of j.first.leaves) (operands_of j.second.leaves) r
           (address_given temps size f.at destination j.first f.shown_addr (ap (λ z. address_match temps z destination) (sym f.has) ∙ j.is_first) i r (f.alike_addr.reads i r ∙ u))
       | inr u ↦ id_right (operands_of j.first.leaves) (operands_of j.second.leaves) r
@@ -87,7 +84,7 @@ file_read : (temps size : ℕ) (file_storage : Option ℕ) (patterns : List Patt
     → reads (operation_of file_storage patterns (record { pattern = form.pattern; setting = i })) (register r) ≡ true → IsIdOf (operands_of found.leaves) r
 file_read temps size file_storage patterns form tree whole found f h i r e =
     let e' : (expr_reads i f.addr (register r) || expr_reads i f.value (register r)) ≡ true = sym (ap (λ (p : Option Pattern). reads (operation_or_none file_storage p i) (register r)) f.is) ∙ e in
-    elim (or_some (expr_reads i f.addr (register r)) (expr_reads i f.value (register r)) e') as (λ _. IsIdOf (operands_of found.leaves) r) [
+    elim (or_cases (expr_reads i f.addr (register r)) (expr_reads i f.value (register r)) e') as (λ _. IsIdOf (operands_of found.leaves) r) [
       | inl u ↦ absurd (true≢false (sym (f.alike_addr.reads i r ∙ u) ∙ shape_unread f.at i r f.shape))
       | inr u ↦ (matched_taken temps no_state form.value tree whole found h).given size f.shown_value i r (f.alike_value.reads i r ∙ u)
     ]

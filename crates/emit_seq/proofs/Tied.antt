@@ -7,6 +7,9 @@ use Rattle.std.proofs.lemmas.Bool.{true≢false, cases_lt}
 use Rattle.rec_bits.specs.declared.operator.Op1.{Op1}
 use Rattle.rec_bits.specs.declared.operator.Op2.{Op2}
 use Rattle.rec_bits.specs.declared.operator.Op2.TheVariants.{Add}
+use Rattle.rec_bits.proofs.Booleans.{or_left, or_right, either}
+use Rattle.rec_bits.proofs.Options.{picked}
+use Rattle.rec_bits.proofs.Lists.{get_left_some}
 use Rattle.net_model.specs.declared.hardware.Space.TheVariants.{Memory as InMemory, File as InFile}
 use Rattle.net_model.specs.declared.states.State.{State}
 use Rattle.net_model.specs.Exprs.{ExprModel, word, reg, const, read, un, bin, slice, cat, zext, sext, select, expr_width}
@@ -17,20 +20,12 @@ use Rattle.form_model.specs.Steps.{CutCellsModel, bits_or_none}
 use Rattle.form_model.specs.Bits.{uses}
 use Rattle.emit_seq.specs.Formed.{BitsApart, IsOnce, CellsShown, homes_in}
 use Rattle.emit_seq.specs.Leaves.{ReadsFrom}
-use Rattle.form_model.proofs.SettingLaws.{picked}
 use Rattle.form_model.proofs.SumNumbers.{sum_is_with}
-use Rattle.emit_seq.proofs.Matched.{Joined, joined, Literal, literal, opened, either, bits_in, Holds, Split, split, pair_bits, IsMeant, matched_meant, file_bits}
+use Rattle.emit_seq.proofs.Matched.{Joined, joined, Literal, literal, opened, bits_in, Holds, Split, split, pair_bits, IsMeant, matched_meant, file_bits}
 
 decided : (b : Bool) (x y : Option MatchModel) (f : MatchModel) → (if b then x else y) ≡ Some f → ((b ≡ true) × (x ≡ Some f)) ⊎ ((b ≡ false) × (y ≡ Some f))
 decided true x y f h = inl (refl, h)
 decided false x y f h = inr (refl, h)
-
-or_one : (a b : Bool) → a ≡ true → (a || b) ≡ true
-or_one a b e = rw e refl
-
-or_two : (a b : Bool) → b ≡ true → (a || b) ≡ true
-or_two true b e = refl
-or_two false b e = e
 
 -- ---- an item of two lists
 
@@ -43,12 +38,6 @@ get_back : {X : Type 0} (xs ys : List X) (i : ℕ) (x : X) → length xs ≤ i �
 get_back [] ys i x le h = let e : i - 0 ≡ i = omega arith in ap (slice_get ys) e ∙ h
 get_back (z ∷ xs) ys zero x le h = absurd (omega (arith, le))
 get_back (z ∷ xs) ys (suc i) x le h = let e : suc i - suc (length xs) ≡ i - length xs = omega arith in ap (slice_get ys) e ∙ get_back xs ys i x (omega (arith, le)) h
-
-put_front : {X : Type 0} (xs ys : List X) (i : ℕ) (x : X) → slice_get xs i ≡ Some x → slice_get (xs ++ ys) i ≡ Some x
-put_front [] ys zero x h = absurd (cc)
-put_front [] ys (suc i) x h = absurd (cc)
-put_front (z ∷ xs) ys zero x h = h
-put_front (z ∷ xs) ys (suc i) x h = put_front xs ys i x h
 
 put_back : {X : Type 0} (xs ys : List X) (i : ℕ) (x : X) → length xs ≤ i → slice_get ys (i - length xs) ≡ Some x → slice_get (xs ++ ys) i ≡ Some x
 put_back [] ys i x le h = let e : i ≡ i - 0 = omega arith in ap (slice_get ys) e ∙ h
@@ -107,8 +96,8 @@ home_used (read InFile b w) (suc place) a j h u = absurd (cc)
 home_used (un o b) place a j h u = home_used b place a j h u
 home_used (bin o b c) place a j h u =
     elim (cases_lt place (length (homes_in b))) as (λ _. (uses b j || uses c j) ≡ true) [
-      | inl lt ↦ or_one (uses b j) (uses c j) (home_used b place a j (get_front (homes_in b) (homes_in c) place (in_file a) lt h) u)
-      | inr le ↦ or_two (uses b j) (uses c j) (home_used c (place - length (homes_in b)) a j (get_back (homes_in b) (homes_in c) place (in_file a) le h) u)
+      | inl lt ↦ or_left (uses b j) (uses c j) (home_used b place a j (get_front (homes_in b) (homes_in c) place (in_file a) lt h) u)
+      | inr le ↦ or_right (uses b j) (uses c j) (home_used c (place - length (homes_in b)) a j (get_back (homes_in b) (homes_in c) place (in_file a) le h) u)
     ]
 home_used (slice (word w) hi lo) place a j h u = absurd (cc)
 home_used (slice (reg r w) hi lo) place a j h u = home_used (reg r w) place a j h u
@@ -123,20 +112,20 @@ home_used (slice (sext b w) hi lo) place a j h u = home_used (sext b w) place a 
 home_used (slice (select b c d) hi lo) place a j h u = home_used (select b c d) place a j h u
 home_used (cat b c) place a j h u =
     elim (cases_lt place (length (homes_in b))) as (λ _. (uses b j || uses c j) ≡ true) [
-      | inl lt ↦ or_one (uses b j) (uses c j) (home_used b place a j (get_front (homes_in b) (homes_in c) place (in_file a) lt h) u)
-      | inr le ↦ or_two (uses b j) (uses c j) (home_used c (place - length (homes_in b)) a j (get_back (homes_in b) (homes_in c) place (in_file a) le h) u)
+      | inl lt ↦ or_left (uses b j) (uses c j) (home_used b place a j (get_front (homes_in b) (homes_in c) place (in_file a) lt h) u)
+      | inr le ↦ or_right (uses b j) (uses c j) (home_used c (place - length (homes_in b)) a j (get_back (homes_in b) (homes_in c) place (in_file a) le h) u)
     ]
 home_used (zext b w) place a j h u = home_used b place a j (chosen_used (is_shape (zext b w)) (homes_in b) place a h) u
 home_used (sext b w) place a j h u = home_used b place a j (chosen_used (is_shape (sext b w)) (homes_in b) place a h) u
 home_used (select b c d) place a j h u =
     elim (cases_lt place (length (homes_in b))) as (λ _. (uses b j || (uses c j || uses d j)) ≡ true) [
-      | inl lt ↦ or_one (uses b j) (uses c j || uses d j) (home_used b place a j (get_front (homes_in b) (homes_in c ++ homes_in d) place (in_file a) lt h) u)
-      | inr le ↦ or_two (uses b j) (uses c j || uses d j)
+      | inl lt ↦ or_left (uses b j) (uses c j || uses d j) (home_used b place a j (get_front (homes_in b) (homes_in c ++ homes_in d) place (in_file a) lt h) u)
+      | inr le ↦ or_right (uses b j) (uses c j || uses d j)
           (let rest = place - length (homes_in b) in
           let k = get_back (homes_in b) (homes_in c ++ homes_in d) place (in_file a) le h in
           elim (cases_lt rest (length (homes_in c))) as (λ _. (uses c j || uses d j) ≡ true) [
-            | inl lt ↦ or_one (uses c j) (uses d j) (home_used c rest a j (get_front (homes_in c) (homes_in d) rest (in_file a) lt k) u)
-            | inr more ↦ or_two (uses c j) (uses d j) (home_used d (rest - length (homes_in c)) a j (get_back (homes_in c) (homes_in d) rest (in_file a) more k) u)
+            | inl lt ↦ or_left (uses c j) (uses d j) (home_used c rest a j (get_front (homes_in c) (homes_in d) rest (in_file a) lt k) u)
+            | inr more ↦ or_right (uses c j) (uses d j) (home_used d (rest - length (homes_in c)) a j (get_back (homes_in c) (homes_in d) rest (in_file a) more k) u)
           ])
     ]
 
@@ -192,7 +181,7 @@ module _ (temps size : ℕ) (before now : State) (same : (c : ℕ) → temps ≤
   cell_homes e shape w t whole f cuts homes n h k =
       let p : ((w == expr_width t) ≡ true)
       × ((if is_cell t then literal_match shape t else open_if (not whole && shows_below shape temps) (cut shape t)) ≡ Some f) = picked _ _ _ h in
-      elim (either (is_cell t) (literal_match shape t) (open_if (not whole && shows_below shape temps) (cut shape t)) f p.1) as (λ _. HasHomes e f cuts homes) [
+      elim (either (is_cell t) (literal_match shape t) (open_if (not whole && shows_below shape temps) (cut shape t)) (Some f) p.1) as (λ _. HasHomes e f cuts homes) [
         | inl l ↦ literal_homes e shape t f cuts homes n l k
         | inr l ↦ cut_homes e (not whole && shows_below shape temps) shape t f cuts homes n l k
       ]
@@ -263,7 +252,7 @@ module _ (temps size : ℕ) (before now : State) (same : (c : ℕ) → temps ≤
         filed = λ place e u. elim (cases_lt place (length (homes_in a))) as (λ _. (v : ℕ) × (slice_get homes place ≡ Some (Some v))) [
           | inl lt ↦
               let (v, at) = x.filed place e (get_front (homes_in a) (homes_in b) place (in_file e) lt u) in
-              (v, ap (λ z. slice_get z place) s.joins ∙ put_front s.fronts s.backs place (Some v) at)
+              (v, ap (λ z. slice_get z place) s.joins ∙ get_left_some s.fronts s.backs place (Some v) at)
           | inr le ↦
               let (v, at) = y.filed (place - length (homes_in a)) e (get_back (homes_in a) (homes_in b) place (in_file e) le u) in
               let lx = x.long in

@@ -16,11 +16,13 @@ use Rattle.form_model.specs.Steps.{CutCellsModel, bits_or_none, cells_setting, h
 use Rattle.rec_bits.specs.declared.operator.Op1.{Op1}
 use Rattle.rec_bits.specs.declared.operator.Op2.{Op2}
 use Rattle.rec_bits.specs.declared.operator.Op2.TheVariants.{Add}
+use Rattle.rec_bits.proofs.Booleans.{either}
+use Rattle.rec_bits.proofs.Options.{picked}
 use Rattle.form_model.proofs.FieldLaws.{then_some_true}
-use Rattle.form_model.proofs.SettingLaws.{picked, up_low, up_high}
+use Rattle.form_model.proofs.SettingLaws.{up_low, up_high}
 use Rattle.emit_seq.proofs.BitUnions.{zero_left, zero_right}
 use Rattle.form_model.proofs.SumNumbers.{sum_is_with}
-use Rattle.emit_seq.proofs.Matched.{Joined, joined, Literal, literal, opened, either, pair_bits, open_bits, none_open, bits_in}
+use Rattle.emit_seq.proofs.Matched.{Joined, joined, Literal, literal, opened, pair_bits, open_bits, none_open, bits_in}
 
 -- ---- a shape's setting has none but its bits
 
@@ -258,7 +260,7 @@ module _ (temps : ℕ) where
   cell_in a w t whole f cuts homes h n =
       let p : ((w == expr_width t) ≡ true)
       × ((if is_cell t then literal_match a t else open_if (not whole && shows_below a temps) (cut a t)) ≡ Some f) = picked _ _ _ h in
-      elim (either (is_cell t) (literal_match a t) (open_if (not whole && shows_below a temps) (cut a t)) f p.1) as (λ _. IsIn (fields a) f cuts homes) [
+      elim (either (is_cell t) (literal_match a t) (open_if (not whole && shows_below a temps) (cut a t)) (Some f) p.1) as (λ _. IsIn (fields a) f cuts homes) [
         | inl l ↦ number_in a t f cuts homes l n
         | inr l ↦ cut_in a t _ f cuts homes l n
       ]
@@ -284,25 +286,25 @@ module _ (temps : ℕ) where
   matched_in (reg id w) t whole f cuts homes h n = reg_in id w t whole f cuts homes h n
   matched_in (read InFile a w) t whole f cuts homes h n = file_in a w t whole f cuts homes h n
   matched_in (read InMemory a w) t whole f cuts homes h n =
-      elim (either (is_shape a) (cell_match temps a w t whole) (read_match (matched temps a) w t) f h) as (λ _. IsIn (fields a) f cuts homes) [
+      elim (either (is_shape a) (cell_match temps a w t whole) (read_match (matched temps a) w t) (Some f) h) as (λ _. IsIn (fields a) f cuts homes) [
         | inl l ↦ cell_in a w t whole f cuts homes l n
         | inr l ↦ read_in a w (matched_in a) t f cuts homes l n
       ]
   matched_in (un op a) t whole f cuts homes h n = un_in a op (matched_in a) t f cuts homes h n
   matched_in (bin op a b) t whole f cuts homes h n =
-      elim (either (is_shape (bin op a b)) (shape_match (bin op a b) t) (bin_match (matched temps a) (matched temps b) op t) f h) as (λ _. IsIn (bit_or (fields a) (fields b)) f cuts homes) [
+      elim (either (is_shape (bin op a b)) (shape_match (bin op a b) t) (bin_match (matched temps a) (matched temps b) op t) (Some f) h) as (λ _. IsIn (bit_or (fields a) (fields b)) f cuts homes) [
         | inl l ↦ shape_in (bin op a b) t f cuts homes l n
         | inr l ↦ bin_in a b op (matched_in a) (matched_in b) t f cuts homes l n
       ]
   matched_in (slice (word w) hi lo) t whole f cuts homes h n = shape_in (slice (word w) hi lo) t f cuts homes h n
   matched_in (slice a hi lo) t whole f cuts homes h n = slice_in a hi lo (matched_in a) t f cuts homes h n
   matched_in (zext a w) t whole f cuts homes h n =
-      elim (either (is_shape (zext a w)) (shape_match (zext a w) t) (zext_match (matched temps a) (expr_width a) w t) f h) as (λ _. IsIn (fields a) f cuts homes) [
+      elim (either (is_shape (zext a w)) (shape_match (zext a w) t) (zext_match (matched temps a) (expr_width a) w t) (Some f) h) as (λ _. IsIn (fields a) f cuts homes) [
         | inl l ↦ shape_in (zext a w) t f cuts homes l n
         | inr l ↦ zext_in a w (matched_in a) t f cuts homes l n
       ]
   matched_in (sext a w) t whole f cuts homes h n =
-      elim (either (is_shape (sext a w)) (shape_match (sext a w) t) (sext_match (matched temps a) (expr_width a) w t) f h) as (λ _. IsIn (fields a) f cuts homes) [
+      elim (either (is_shape (sext a w)) (shape_match (sext a w) t) (sext_match (matched temps a) (expr_width a) w t) (Some f) h) as (λ _. IsIn (fields a) f cuts homes) [
         | inl l ↦ shape_in (sext a w) t f cuts homes l n
         | inr l ↦ sext_in a w (matched_in a) t f cuts homes l n
       ]

@@ -5,6 +5,7 @@ use Rattle.std.specs.Int.{bit_at}
 use Rattle.std.specs.List.{AllZip}
 use Rattle.std.proofs.lemmas.Nat.Bits.{bit_at-zero}
 use Rattle.std.proofs.lemmas.List.{get_or-set_same, get_or-set_other, length-set}
+use Rattle.rec_bits.proofs.Bits.{set_same}
 use Rattle.net_model.specs.declared.states.State.{State}
 use Rattle.net_model.specs.Exprs.{ExprModel}
 use Rattle.net_model.specs.Meaning.{mean}
@@ -27,7 +28,7 @@ use Rattle.emit_seq.specs.Inner.CellLists.{operands_in, trees_in}
 use Rattle.emit_seq.proofs.Walks.{effect-steps, cells_operands, cells_trees, past_leaves, OperandCount, CutCount, operands_counted, cuts_counted, operands_below, cuts_below, operands_read, cuts_read, holds_of, IsLocal, IsKept, kept_local, Fills, Stores, IsFilled, IsWalked, walk}
 use Rattle.emit_seq.proofs.Opened.{IsOpened, opened_cover, IsOpenedOperand, opened_operand, operands_long, cuts_long, past_cover, into_formed, writes_own, goal_leaves}
 use Rattle.emit_seq.proofs.Forms.{OwnBelow, OwnIn, form_done}
-use Rattle.emit_seq.proofs.FreeCells.{free_count, all_free, held_same, held_more, IsFree, left_some, left_none, room_left, cell_free, tied_is}
+use Rattle.emit_seq.proofs.FreeCells.{free_count, all_free, held_more, IsFree, left_some, left_none, room_left, cell_free, tied_is}
 
 module _ (stock : StockModel) (file_storage : Option ℕ) (patterns : List Pattern) (before : State) where
   abbrev m : Step → Operation
@@ -249,7 +250,7 @@ module _ (stock : StockModel) (file_storage : Option ℕ) (patterns : List Patte
             let waits : AtHome low size before end home cell cells.operand.tree =
             held_at home cell cells.operand.tree end (within_size cell free) given
             (λ r q. e.kept r (w.apart r q) ∙ h.at_register r q)
-            (λ q one ex. e.stay q (ap (λ o. bit_at (holding held o) q) ex ∙ held_same held q) ∙ h.at_cell q one ex) in
+            (λ q one ex. e.stay q (ap (λ o. bit_at (holding held o) q) ex ∙ set_same held q) ∙ h.at_cell q one ex) in
             subst (λ q. IsEvaluated (operand_then i p ps) held left s q) (sym all) (record {
               cells = e.cells ∙ h.cells ∙ d.cells;
               regs = e.regs ∙ h.regs ∙ d.regs;

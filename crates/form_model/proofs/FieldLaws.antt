@@ -3,6 +3,7 @@ use Rattle.std.proofs.Common.{lit<, ◌≡◌, ℕ, ◌+◌, ◌-◌, ◌*◌, �
 use Rattle.std.specs.Prelude.{is_some}
 use Rattle.std.proofs.lemmas.Nat.{pow_pos, mod_below, shl_below}
 use Rattle.std.proofs.Math.Nat.{pow-le-pow_right}
+use Rattle.std.proofs.lemmas.Bool.{ltb-true, lt-ltb}
 use Rattle.net_model.specs.Exprs.{ExprModel, word, reg, const, read, un, bin, slice, cat, zext, sext, select, expr_width}
 use Rattle.net_model.specs.Symbolic.{no_state}
 use Rattle.net_model.specs.Meaning.{mean}
@@ -18,12 +19,6 @@ pub then_some_is : (b : Bool) (n : ℕ) → b ≡ true → is_some (then_some b 
 then_some_is true n e = refl
 then_some_is false n e = absurd (true≢false (sym e))
 
-pub less_true : (a b : ℕ) → nat_lt a b ≡ true → a < b
-less_true a b e = grind (arith, e)
-
-pub true_less : (a b : ℕ) → a < b → nat_lt a b ≡ true
-true_less a b e = grind (arith, e)
-
 -- ---- a field
 
 slice_fits : (bits hi lo v : ℕ) → lo ≤ hi → hi < bits → v < 2 ^ (hi + 1 - lo) → v * 2 ^ lo < 2 ^ bits
@@ -36,10 +31,10 @@ slice_fits bits hi lo v p q h =
 pub field_setting_fits : (bits : ℕ) (t : ExprModel) → FieldFits bits t → (v b : ℕ) → field_setting t v ≡ Some b → b < 2 ^ bits
 field_setting_fits bits (word w) f v b e =
     let g = then_some_true (nat_lt v (2 ^ w)) v b e in
-    subst (λ n. n < 2 ^ bits) g.1 (subst (λ k. v < 2 ^ k) f (less_true v (2 ^ w) g.0))
+    subst (λ n. n < 2 ^ bits) g.1 (subst (λ k. v < 2 ^ k) f (ltb-true v (2 ^ w) g.0))
 field_setting_fits bits (slice (word w) hi lo) f v b e =
     let g = then_some_true (nat_lt v (2 ^ (hi + 1 - lo))) (v * 2 ^ lo) b e in
-    let lt : v < 2 ^ (hi + 1 - lo) = less_true v (2 ^ (hi + 1 - lo)) g.0 in
+    let lt : v < 2 ^ (hi + 1 - lo) = ltb-true v (2 ^ (hi + 1 - lo)) g.0 in
     subst (λ n. n < 2 ^ bits) g.1 (slice_fits bits hi lo v f.1 (subst (λ k. hi < k) f.0 f.2) lt)
 field_setting_fits bits e f v b h = absurd (cc)
 
@@ -60,8 +55,8 @@ field_small bits (select a c d) p f i lt = absurd (true≢false (sym p))
 
 -- and has each of these under some word
 pub field_has_setting : (bits : ℕ) (t : ExprModel) → is_field t ≡ true → FieldFits bits t → (v : ℕ) → v < 2 ^ expr_width t → is_some (field_setting t v) ≡ true
-field_has_setting bits (word w) p f v lt = then_some_is (nat_lt v (2 ^ w)) v (true_less v (2 ^ w) lt)
-field_has_setting bits (slice (word w) hi lo) p f v lt = then_some_is (nat_lt v (2 ^ (hi + 1 - lo))) (v * 2 ^ lo) (true_less v (2 ^ (hi + 1 - lo)) lt)
+field_has_setting bits (word w) p f v lt = then_some_is (nat_lt v (2 ^ w)) v (lt-ltb v (2 ^ w) lt)
+field_has_setting bits (slice (word w) hi lo) p f v lt = then_some_is (nat_lt v (2 ^ (hi + 1 - lo))) (v * 2 ^ lo) (lt-ltb v (2 ^ (hi + 1 - lo)) lt)
 field_has_setting bits (reg r w) p f v lt = absurd (true≢false (sym p))
 field_has_setting bits (const w c) p f v lt = absurd (true≢false (sym p))
 field_has_setting bits (read space a w) p f v lt = absurd (true≢false (sym p))

@@ -5,12 +5,13 @@ use Rattle.std.proofs.lemmas.Bool.{eqb-true, eq-eqb}
 use Rattle.std.proofs.lemmas.Nat.{pow_pos, pow-add, mod_low, pow_below}
 use Rattle.std.proofs.Math.Nat.{pow-le-pow_right, mod-eq_of_lt}
 use Rattle.rec_bits.specs.Operators.{sext_of, is_negative_of}
+use Rattle.rec_bits.proofs.Options.{picked}
 use Rattle.net_model.specs.Exprs.{ExprModel, word, reg, const, read, un, bin, slice, cat, zext, sext, select, expr_width}
 use Rattle.net_model.specs.Symbolic.{no_state}
 use Rattle.net_model.specs.Meaning.{mean}
 use Rattle.form_model.specs.Shapes.{FieldFits, IsReach, PlainFits, field_setting, is_field, is_plain, plain_reach, plain_setting}
 use Rattle.form_model.proofs.FieldLaws.{field_setting_fits, field_has_setting, field_small, then_some_is, then_some_true}
-use Rattle.form_model.proofs.SettingLaws.{field_means, picked}
+use Rattle.form_model.proofs.SettingLaws.{field_means}
 
 -- ---- numbers
 

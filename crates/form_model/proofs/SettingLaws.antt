@@ -1,18 +1,20 @@
 -- What a shape means under the bits that its setting has.
-use Rattle.std.proofs.Common.{◌≡◌, ℕ, ◌+◌, ◌-◌, ◌*◌, ◌/◌, ◌%◌, ◌^◌, ◌<◌, ◌≤◌, ◌==◌, ◌&&◌, ◌||◌, ◌⊎◌, inl, inr, nat_lt, nat_le, Bool, true, false, if◌then◌else◌, Option, Some, None, refl, sym, ap, subst, ◌∙◌, arith}
+use Rattle.std.proofs.Common.{◌≡◌, ℕ, ◌+◌, ◌-◌, ◌*◌, ◌/◌, ◌%◌, ◌^◌, ◌<◌, ◌≤◌, ◌==◌, ◌&&◌, ◌||◌, ◌⊎◌, inl, inr, nat_lt, nat_le, Bool, true, false, Option, Some, None, refl, sym, ap, subst, ◌∙◌, arith}
 use Rattle.std.specs.Int.{bit_at}
 use Rattle.std.proofs.lemmas.Nat.{pow_pos}
 use Rattle.std.proofs.lemmas.Nat.Bits.{bit_at-zero, bit_at_cat_low, bit_at_cat_high, bit_at_above, same_from_bits, same_from_bits_below}
-use Rattle.std.proofs.lemmas.Bool.{true≢false, eqb-true, le-leb, cases_lt}
+use Rattle.std.proofs.lemmas.Bool.{true≢false, eqb-true, le-leb, cases_lt, ltb-true}
 use Rattle.std.proofs.Math.Nat.{add_comm}
 use Rattle.rec_bits.specs.declared.operator.Op2.TheVariants.{Add}
 use Rattle.rec_bits.specs.Operators.{slice_of, sext_of}
+use Rattle.rec_bits.proofs.Booleans.{left_false}
+use Rattle.rec_bits.proofs.Options.{picked}
 use Rattle.net_model.specs.declared.states.State.{State}
 use Rattle.net_model.specs.Exprs.{ExprModel, word, const, bin, slice, zext, sext, expr_width}
 use Rattle.net_model.specs.Meaning.{mean}
 use Rattle.form_model.specs.Bits.{uses}
 use Rattle.form_model.specs.Shapes.{Sum, field_setting, less_by, plain_setting, shape_setting, sum_setting, summands}
-use Rattle.form_model.proofs.FieldLaws.{less_true, then_some_true}
+use Rattle.form_model.proofs.FieldLaws.{then_some_true}
 use Rattle.form_model.proofs.SumNumbers.{added_back, sum_is_with}
 
 -- the bits give a shape a value: they are among those that occur in it, and each word that has the
@@ -20,11 +22,6 @@ use Rattle.form_model.proofs.SumNumbers.{added_back, sum_is_with}
 pub record IsSetting (e : ExprModel) (v bits : ℕ) : Type 0 where
   pub within : (k : ℕ) → uses e k ≡ false → bit_at bits k ≡ 0
   pub means : (s : State) (i : ℕ) → ((k : ℕ) → uses e k ≡ true → bit_at i k ≡ bit_at bits k) → mean e s i ≡ v
-
--- a choice that gives something
-pub picked : {X : Type 0} (b : Bool) (o : Option X) (x : X) → (if b then o else None) ≡ Some x → (b ≡ true) × (o ≡ Some x)
-picked true o x h = (refl, h)
-picked false o x h = absurd (cc)
 
 -- ---- numbers shifted up
 
@@ -91,7 +88,7 @@ field_sets (word w) v bits h =
     record { within = λ k f. absurd (true≢false f); means = λ s i f. same_from_bits i v (λ k. f k refl ∙ ap (λ n. bit_at n k) (sym e)) }
 field_sets (slice (word w) hi lo) v bits h =
     let p : (nat_lt v (2 ^ (hi + 1 - lo)) ≡ true) × (v * 2 ^ lo ≡ bits) = then_some_true _ _ _ h in
-    let l : v < 2 ^ (hi + 1 - lo) = less_true v (2 ^ (hi + 1 - lo)) p.0 in
+    let l : v < 2 ^ (hi + 1 - lo) = ltb-true v (2 ^ (hi + 1 - lo)) p.0 in
     record {
       within = λ k f. ap (λ n. bit_at n k) (sym p.1) ∙ slice_outside v hi lo k l f;
       means = λ s i f. slice_inside v hi lo i l (λ k u. f k u ∙ ap (λ n. bit_at n k) (sym p.1));
@@ -111,10 +108,6 @@ plain_sets (word w) v bits h = field_sets (word w) v bits h
 plain_sets (slice a hi lo) v bits h = field_sets (slice a hi lo) v bits h
 plain_sets e v bits h = absurd (cc)
 
-left_unused : (b : Bool) → (b || false) ≡ false → b ≡ false
-left_unused true h = h
-left_unused false h = refl
-
 -- a sum has the bits of its other part
 sum_sets : (a b : ExprModel) (s : Sum) (v bits : ℕ) → summands a b ≡ Some s → v < 2 ^ s.width → plain_setting s.to (less_by s.width v s.added) ≡ Some bits → IsSetting (bin Add a b) v bits
 sum_sets (const w c) b s v bits e lt h =
@@ -130,7 +123,7 @@ sum_sets a (const w c) s v bits e lt h =
     let r : IsSetting a (less_by w v c) bits = plain_sets a (less_by w v c) bits (subst (λ (z : Sum). plain_setting z.to (less_by z.width v z.added) ≡ Some bits) (sym x.is) h) in
     let lt' : v < 2 ^ w = subst (λ (z : Sum). v < 2 ^ z.width) (sym x.is) lt in
     record {
-      within = λ k f. r.within k (left_unused (uses a k) f);
+      within = λ k f. r.within k (left_false (uses a k) false f);
       means = λ st i f.
           ap (λ n. (n + c) % 2 ^ expr_width a) (r.means st i (λ k u. f k (ap (λ b. b || false) u)))
           ∙ (ap (λ k. (less_by w v c + c) % 2 ^ k) x.wide ∙ (ap (λ n. n % 2 ^ w) (add_comm (less_by w v c) c) ∙ added_back w v c x.small lt'));
@@ -144,7 +137,7 @@ shape_sets (bin Add a b) v bits h = by (summands a b) refl h
     by None e h = absurd (cc)
     by (Some s) e h =
         let p : (nat_lt v (2 ^ s.width) ≡ true) × (plain_setting s.to (less_by s.width v s.added) ≡ Some bits) = picked _ _ _ h in
-        sum_sets a b s v bits e (less_true v (2 ^ s.width) p.0) p.1
+        sum_sets a b s v bits e (ltb-true v (2 ^ s.width) p.0) p.1
 shape_sets (bin _ a b) v bits h = absurd (cc)
 shape_sets (const w c) v bits h = plain_sets (const w c) v bits h
 shape_sets (zext a w) v bits h = plain_sets (zext a w) v bits h

@@ -1,18 +1,19 @@
 -- Which numbers the sum of a constant and a plain shape has, and up to where it has them all.
-use Rattle.std.proofs.Common.{◌≡◌, ◌⊎◌, inl, inr, ℕ, zero, suc, ◌+◌, ◌-◌, ◌*◌, ◌%◌, ◌^◌, ◌<◌, ◌≤◌, ◌==◌, nat_lt, Bool, true, false, true≢false, cond, Some, None, refl, sym, ap, subst, ◌∙◌, arith}
+use Rattle.std.proofs.Common.{◌≡◌, ◌⊎◌, inl, inr, ℕ, zero, ◌+◌, ◌-◌, ◌%◌, ◌^◌, ◌<◌, ◌≤◌, ◌==◌, nat_lt, Bool, true, false, true≢false, cond, Some, None, refl, sym, ap, subst, ◌∙◌, arith}
 use Rattle.std.specs.Prelude.{is_some, nat_le}
-use Rattle.std.proofs.lemmas.Bool.{eqb-true, eq-eqb}
+use Rattle.std.proofs.lemmas.Bool.{eqb-true, eq-eqb, lt-ltb}
 use Rattle.std.proofs.lemmas.Nat.{pow_pos, mod_below, pow_below}
-use Rattle.std.proofs.Math.Nat.{add_comm, pow-suc}
+use Rattle.std.proofs.Math.Nat.{add_comm}
 use Rattle.rec_bits.specs.declared.operator.Op2.{Op2}
 use Rattle.rec_bits.specs.declared.operator.Op2.TheVariants.{Add}
 use Rattle.rec_bits.specs.Operators.{sext_of, is_negative_of}
+use Rattle.rec_bits.proofs.Options.{picked}
+use Rattle.rec_bits.proofs.Bits.{double_half}
 use Rattle.net_model.specs.Exprs.{ExprModel, word, reg, const, read, un, bin, slice, cat, zext, sext, select, expr_width}
 use Rattle.net_model.specs.Symbolic.{no_state}
 use Rattle.net_model.specs.Meaning.{mean}
 use Rattle.form_model.specs.Shapes.{FieldFits, IsReach, PlainFits, ShapeFits, Shows, Sum, SummandFits, is_field, is_plain, less_by, moved_reach, plain_setting, sum_reach, sum_of, sum_setting, summands}
-use Rattle.form_model.proofs.FieldLaws.{field_small, true_less}
-use Rattle.form_model.proofs.SettingLaws.{picked}
+use Rattle.form_model.proofs.FieldLaws.{field_small}
 use Rattle.form_model.proofs.SumNumbers.{added_back, back_added, cases_le, less_around, less_back, sum_is_with}
 use Rattle.form_model.proofs.PlainLaws.{plain_setting_fits, plain_has_setting, field_reach, sext_reach}
 
@@ -101,7 +102,7 @@ part_shows bits t s sum i v lt e =
 pub sum_has_setting : (bits : ℕ) (t : ExprModel) (s : Sum) → IsSum bits t s → (i v : ℕ) → i < 2 ^ bits → mean t no_state i ≡ v → is_some (sum_setting (Some s) v) ≡ true
 sum_has_setting bits t s sum i v lt e =
     let p = part_shows bits t s sum i v lt e in
-    subst (λ below. is_some (cond below (plain_setting s.to (less_by s.width v s.added)) None) ≡ true) (sym (true_less v (2 ^ s.width) p.0))
+    subst (λ below. is_some (cond below (plain_setting s.to (less_by s.width v s.added)) None) ≡ true) (sym (lt-ltb v (2 ^ s.width) p.0))
     (plain_has_setting bits s.to sum.plain (plain_fits bits s.to sum.fits) i (less_by s.width v s.added) lt p.1)
 
 -- ---- up to where all numbers are shown
@@ -168,14 +169,6 @@ zext_reaches bits a w c p f small false e =
           let below = zext_below bits a w (less_by w (2 ^ expr_width a + c - 2 ^ w) c) p f.0 h in absurd (omega (arith, at, below, small)));
     }
 
--- half of the numbers of a width
-halves : (n : ℕ) → 1 ≤ n → 2 ^ (n - 1) + 2 ^ (n - 1) ≡ 2 ^ n
-halves zero h = absurd (omega (arith, h))
-halves (suc n) h = ap (λ k. 2 ^ k + 2 ^ k) (let e : suc n - 1 ≡ n = omega arith in e) ∙ doubled n
-  where
-    doubled : (k : ℕ) → 2 ^ k + 2 ^ k ≡ 2 ^ suc k
-    doubled k = (let e : 2 ^ suc k ≡ 2 ^ k * 2 = pow-suc 2 k in omega (arith, e))
-
 sext_high : (bits : ℕ) (a : ExprModel) (w y : ℕ) → is_field a ≡ true → PlainFits bits (sext a w) → 2 ^ w ≤ y + 2 ^ (expr_width a - 1) → y < 2 ^ w → Shows bits (sext a w) y
 sext_high bits a w y p f high lt = shown
   where
@@ -183,7 +176,7 @@ sext_high bits a w y p f high lt = shown
     wide = pow_below (expr_width a) w f.2
 
     half : 2 ^ (expr_width a - 1) + 2 ^ (expr_width a - 1) ≡ 2 ^ expr_width a
-    half = halves (expr_width a) f.1
+    half = sym (double_half (expr_width a) f.1)
 
     low : ℕ
     low = y - (2 ^ w - 2 ^ expr_width a)
@@ -209,7 +202,7 @@ sext_parts bits a w y p f h = by (is_negative_of (expr_width a) x) refl h.is
     by true e q =
         let top : 2 ^ (expr_width a - 1) ≤ x = grind (arith, e) in
         let wide = pow_below (expr_width a) w f.2 in
-        let half = halves (expr_width a) f.1 in
+        let half = sym (double_half (expr_width a) f.1) in
         inr (omega (arith, q, top, wide, half))
     by false e q = (let low : x < 2 ^ (expr_width a - 1) = grind (arith, e) in inl (omega (arith, q, low)))
 
@@ -225,7 +218,7 @@ sext_reaches : (bits : ℕ) (a : ExprModel) (w c : ℕ) → is_field a ≡ true 
 sext_reaches bits a w c p f small true e =
     let under : c ≤ 2 ^ (expr_width a - 1) = grind (arith, e) in
     let wide = pow_below (expr_width a) w f.2 in
-    let half = halves (expr_width a) f.1 in
+    let half = sym (double_half (expr_width a) f.1) in
     record {
       below = λ v lt. (let less : v < 2 ^ w = omega (arith, lt, under, wide, half) in (less, near v lt less (cases_le c v)));
       unshown = λ less h. (let at : less_by w (2 ^ (expr_width a - 1) + c) c ≡ 2 ^ (expr_width a - 1) = less_back w (2 ^ (expr_width a - 1) + c) c (omega arith) less ∙ omega arith in
@@ -241,7 +234,7 @@ sext_reaches bits a w c p f small true e =
 sext_reaches bits a w c p f small false e =
     let over : 2 ^ (expr_width a - 1) < c = grind (arith, e) in
     let wide = pow_below (expr_width a) w f.2 in
-    let half = halves (expr_width a) f.1 in
+    let half = sym (double_half (expr_width a) f.1) in
     record {
       below = λ v lt. (let less : v < c = omega (arith, lt, wide, half) in
           let at = less_around w v c less small in

@@ -1,12 +1,11 @@
 -- The numbers that are added in a sum.
 use Rattle.std.proofs.Common.{◌≡◌, ◌⊎◌, inl, inr, ℕ, ◌+◌, ◌-◌, ◌*◌, ◌%◌, ◌^◌, ◌<◌, ◌≤◌, ◌==◌, nat_lt, ◌&&◌, Bool, true, false, cond, Some, None, refl, ap, ◌∙◌, arith}
 use Rattle.std.specs.Prelude.{nat_le}
-use Rattle.std.proofs.lemmas.Bool.{eqb-true}
+use Rattle.std.proofs.lemmas.Bool.{eqb-true, ltb-true}
 use Rattle.std.proofs.lemmas.Nat.{mod_low}
 use Rattle.std.proofs.Math.Nat.{mod-eq_of_lt}
 use Rattle.net_model.specs.Exprs.{ExprModel, expr_width}
 use Rattle.form_model.specs.Shapes.{Sum, less_by, sum_with}
-use Rattle.form_model.proofs.FieldLaws.{less_true}
 
 pub less_back : (w v c : ℕ) → c ≤ v → v < 2 ^ w → less_by w v c ≡ v - c
 less_back w v c le lt =
@@ -55,7 +54,7 @@ pub sum_is_with : (w c : ℕ) (t : ExprModel) (s : Sum) → sum_with w c t ≡ S
 sum_is_with w c t s e = by (nat_le w 64) (nat_lt c (2 ^ w)) (expr_width t == w) refl refl e
   where
     by : (a b d : Bool) → nat_lt c (2 ^ w) ≡ b → (expr_width t == w) ≡ d → cond (a && (b && d)) (Some (record { width = w; added = c; to = t })) None ≡ Some s → IsSumWith w c t s
-    by true true true lt eq e = record { is = cc; small = less_true c (2 ^ w) lt; wide = eqb-true _ _ eq }
+    by true true true lt eq e = record { is = cc; small = ltb-true c (2 ^ w) lt; wide = eqb-true _ _ eq }
     by false b d lt eq e = absurd (cc)
     by true false d lt eq e = absurd (cc)
     by true true false lt eq e = absurd (cc)

@@ -1,8 +1,8 @@
 -- A tree is an expression in which no register and no instruction bit occurs.
-use Rattle.std.proofs.Common.{◌≡◌, ℕ, ◌||◌, Bool, true, false, true≢false, refl, sym}
+use Rattle.std.proofs.Common.{◌≡◌, ℕ, true, false, true≢false, refl, sym}
 use Rattle.std.specs.Prelude.{bit_or}
 use Rattle.std.proofs.lemmas.Bool.{and_from}
-use Rattle.rec_bits.proofs.Booleans.{both}
+use Rattle.rec_bits.proofs.Booleans.{both, or_from}
 use Rattle.net_model.specs.declared.hardware.Space.TheVariants.{Memory as InMemory, File as InFile}
 use Rattle.net_model.specs.Exprs.{ExprModel, word, reg, const, read, un, bin, slice, cat, zext, sext, select}
 use Rattle.net_model.specs.Fields.{fields}
@@ -20,10 +20,6 @@ tree_is (Slice' p a hi lo) = tree_is a
 tree_is (Zext' p a w) = tree_is a
 tree_is (Sext' p a w) = tree_is a
 
-neither : (a b : Bool) → a ≡ false → b ≡ false → (a || b) ≡ false
-neither true b p q = p
-neither false b p q = q
-
 no_bits : (a b : ℕ) → a ≡ 0 → b ≡ 0 → bit_or a b ≡ 0
 no_bits a b p q = rw (p, q) refl
 
@@ -33,7 +29,7 @@ no_register r (read InMemory a w) h = no_register r a h
 no_register r (read InFile a w) h = absurd (true≢false (sym h))
 no_register r (un o a) h = no_register r a h
 no_register r (bin o a b) h =
-    (let p = both (is_tree a) (is_tree b) h in neither (occurs r a) (occurs r b) (no_register r a p.0) (no_register r b p.1))
+    (let p = both (is_tree a) (is_tree b) h in or_from (occurs r a) (occurs r b) (no_register r a p.0) (no_register r b p.1))
 no_register r (slice a hi lo) h = no_register r a h
 no_register r (zext a w) h = no_register r a h
 no_register r (sext a w) h = no_register r a h

@@ -52,11 +52,6 @@ get_mapped f (x ∷ xs) (suc i) y h = get_mapped f xs i y h
 
 -- ---- lengths and sums
 
-pub length_in : {X : Type 0} (xs : List X) (i : ℕ) (x : X) → length (insert xs i x) ≡ suc (length xs)
-length_in xs zero x = refl
-length_in [] (suc i) x = refl
-length_in (y ∷ xs) (suc i) x = let e = length_in xs i x in omega (arith, e)
-
 pub length_out : {X : Type 0} (xs : List X) (i : ℕ) (x : X) → slice_get xs i ≡ Some x → length xs ≡ suc (length (remove xs i))
 length_out [] i x e = absurd (cc)
 length_out (y ∷ xs) zero x e = refl

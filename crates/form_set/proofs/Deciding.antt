@@ -1,9 +1,9 @@
 -- When the words that can be brought into a set by other bits are all words.
-use Rattle.std.proofs.Common.{lit<, ◌≡◌, ◌↔◌, ℕ, ◌-◌, ◌^◌, ◌<◌, ◌≤◌, ◌==◌, true, length, sym, ap, subst, ◌∙◌, arith}
+use Rattle.std.proofs.Common.{◌≡◌, ◌↔◌, ℕ, ◌-◌, ◌^◌, ◌<◌, ◌≤◌, ◌==◌, true, length, sym, ap, subst, ◌∙◌, arith}
 use Rattle.std.specs.Prelude.{bit_and, bit_xor}
 use Rattle.std.proofs.lemmas.Bool.{eqb-true, eq-eqb}
 use Rattle.std.proofs.lemmas.Nat.{and_le_r}
-use Rattle.std.proofs.Math.Nat.{pow-le-pow_right}
+use Rattle.rec_bits.proofs.Bits.{below_64}
 use Rattle.bit_bdd.specs.Diagrams.{Diagrams, CanReach, IsCanonical, has_word}
 use Rattle.form_set.specs.Inner.PatternIds.{InSet}
 use Rattle.form_set.specs.Words.{ForEachSetting}
@@ -13,9 +13,6 @@ use Rattle.form_set.proofs.Bits.{differ_same, same_differ, setting_of}
 pub record IsReached (old new : Diagrams) (set fields reached : ℕ) : Type 0 where
   pub within : reached < length new.nodes
   pub words : (word : ℕ) → word < 2 ^ old.bits → (has_word new reached word ≡ true) ↔ CanReach old set (bit_xor (2 ^ 64 - 1) fields) word
-
-below_64 : (n bits : ℕ) → bits ≤ 64 → n < 2 ^ bits → n < 2 ^ 64
-below_64 n bits few lt = (let q : 2 ^ bits ≤ 2 ^ 64 = pow-le-pow_right (lit< tt) few in omega (arith, q, lt))
 
 -- each setting is that of some word
 reached_each : (old new : Diagrams) (set fields reached : ℕ) → IsReached old new set fields reached → old.bits ≤ 64 → fields < 2 ^ old.bits

@@ -1,10 +1,11 @@
 -- What it means that an expression is linear: no register but the free ones and no instruction bit
 -- occurs twice.
-use Rattle.std.proofs.Common.{◌≡◌, ◌↔◌, ℕ, ◌+◌, ◌≤◌, ◌==◌, ◌&&◌, min, nat_lt, nat_le, Bool, true, false, true≢false, cond, refl, sym, ap, arith, inl, inr}
+use Rattle.std.proofs.Common.{◌≡◌, ◌↔◌, ℕ, ◌+◌, ◌≤◌, ◌==◌, ◌&&◌, min, nat_lt, nat_le, Bool, true, false, cond, refl, ap, arith, inl, inr}
 use Rattle.std.specs.Prelude.{bit_and, bit_or, ◌⊎◌}
 use Rattle.std.specs.Int.{bit_at}
 use Rattle.std.proofs.lemmas.Bool.{eqb-true, eq-eqb}
 use Rattle.std.proofs.lemmas.Nat.Bits.{bit_at_and, bit_at_or, bit_at-lt, bit_at-zero, same_from_bits}
+use Rattle.rec_bits.proofs.Booleans.{and_from, both, bit_within}
 use Rattle.net_model.specs.Exprs.{ExprModel, word, reg, const, read, un, bin, slice, cat, zext, sext, select, TransferModel, keep, write, write_at}
 use Rattle.net_model.specs.Fields.{fields}
 use Rattle.net_model.specs.Occurs.{IsLinear, bit_uses, register_uses, registers}
@@ -30,14 +31,6 @@ bits_meet set a b h = eq-eqb (bit_or (bit_and a b) set) set (same_from_bits (bit
 
 -- ---- two operands
 
-split_and : (a b : Bool) → (a && b) ≡ true → (a ≡ true) × (b ≡ true)
-split_and true b e = (refl, e)
-split_and false b e = absurd (true≢false (sym e))
-
-join_and : (a b : Bool) → a ≡ true → b ≡ true → (a && b) ≡ true
-join_and true b p q = q
-join_and false b p q = p
-
 -- two expressions have nothing in common: what occurs in one doesn't in the other
 pub record AreApart (free : ℕ) (a b : ExprModel) : Type 0 where
   pub registers : (r : ℕ) → bit_at free r ≡ 0 → min (register_uses r a) (register_uses r b) ≡ 0
@@ -45,11 +38,11 @@ pub record AreApart (free : ℕ) (a b : ExprModel) : Type 0 where
 
 apart_is : (free : ℕ) (a b : ExprModel) → (are_apart free a b ≡ true) ↔ AreApart free a b
 apart_is free a b = (
-  (λ e. let s = split_and (meet_in free (registers a) (registers b)) (meet_in 0 (fields a) (fields b)) e in record {
+  (λ e. let s = both (meet_in free (registers a) (registers b)) (meet_in 0 (fields a) (fields b)) e in record {
     registers = λ r z. (let m = meet_bits free (registers a) (registers b) s.0 r z in let x = registers_has r a in let y = registers_has r b in omega (arith, m, x, y));
     bits = λ k. (let m = meet_bits 0 (fields a) (fields b) s.1 k (bit_at-zero k) in let x = fields_has k a in let y = fields_has k b in omega (arith, m, x, y));
   }),
-  λ h. join_and (meet_in free (registers a) (registers b)) (meet_in 0 (fields a) (fields b))
+  λ h. and_from (meet_in free (registers a) (registers b)) (meet_in 0 (fields a) (fields b))
       (bits_meet free (registers a) (registers b) (λ r z. let m = h.registers r z in let x = registers_has r a in let y = registers_has r b in omega (arith, m, x, y)))
       (bits_meet 0 (fields a) (fields b) (λ k z. let m = h.bits k in let x = fields_has k a in let y = fields_has k b in omega (arith, m, x, y))),
 )
@@ -64,31 +57,19 @@ once_two free a b h x y = (
 -- ---- linear is: at most once
 
 pub linear_once : (free : ℕ) (t : ExprModel) → is_linear free t ≡ true → IsLinear free (write t)
-linear_once free (word w) e = record { registers = λ r z. omega arith; bits = λ k. small (nat_lt k w) }
-  where
-    small : (b : Bool) → cond b 1 0 ≤ 1
-    small true = omega arith
-    small false = omega arith
-linear_once free (reg r w) e = record { registers = λ q z. small (r == q); bits = λ k. omega arith }
-  where
-    small : (b : Bool) → cond b 1 0 ≤ 1
-    small true = omega arith
-    small false = omega arith
+linear_once free (word w) e = record { registers = λ r z. omega arith; bits = λ k. bit_within (nat_lt k w) }
+linear_once free (reg r w) e = record { registers = λ q z. bit_within (r == q); bits = λ k. omega arith }
 linear_once free (const w v) e = record { registers = λ r z. omega arith; bits = λ k. omega arith }
 linear_once free (read space a w) e = (let h = linear_once free a e in record { registers = h.registers; bits = h.bits })
 linear_once free (un o a) e = (let h = linear_once free a e in record { registers = h.registers; bits = h.bits })
 linear_once free (bin o a b) e =
-    (let s = split_and (are_apart free a b) (is_linear free a && is_linear free b) e in
-    let u = split_and (is_linear free a) (is_linear free b) s.1 in
+    (let s = both (are_apart free a b) (is_linear free a && is_linear free b) e in
+    let u = both (is_linear free a) (is_linear free b) s.1 in
     let two = once_two free a b ((apart_is free a b).0 s.0) (linear_once free a u.0) (linear_once free b u.1) in record { registers = two.0; bits = two.1 })
 linear_once free (slice a hi lo) e = slice_once (linear_once free a e)
   where
-    small : (b : Bool) → cond b 1 0 ≤ 1
-    small true = omega arith
-    small false = omega arith
-
     slice_bits : (t : ExprModel) → ((k : ℕ) → bit_uses k t ≤ 1) → (k : ℕ) → bit_uses k (slice t hi lo) ≤ 1
-    slice_bits (word w) h k = small (nat_le lo k && nat_le k hi)
+    slice_bits (word w) h k = bit_within (nat_le lo k && nat_le k hi)
     slice_bits (reg r w) h k = h k
     slice_bits (const w v) h k = h k
     slice_bits (read space a w) h k = h k
@@ -103,17 +84,17 @@ linear_once free (slice a hi lo) e = slice_once (linear_once free a e)
     slice_once : IsLinear free (write a) → IsLinear free (write (slice a hi lo))
     slice_once h = record { registers = h.registers; bits = slice_bits a h.bits }
 linear_once free (cat a b) e =
-    (let s = split_and (are_apart free a b) (is_linear free a && is_linear free b) e in
-    let u = split_and (is_linear free a) (is_linear free b) s.1 in
+    (let s = both (are_apart free a b) (is_linear free a && is_linear free b) e in
+    let u = both (is_linear free a) (is_linear free b) s.1 in
     let two = once_two free a b ((apart_is free a b).0 s.0) (linear_once free a u.0) (linear_once free b u.1) in record { registers = two.0; bits = two.1 })
 linear_once free (zext a w) e = (let h = linear_once free a e in record { registers = h.registers; bits = h.bits })
 linear_once free (sext a w) e = (let h = linear_once free a e in record { registers = h.registers; bits = h.bits })
 linear_once free (select c a b) e =
-    (let s = split_and (are_apart free c a && (are_apart free c b && are_apart free a b)) (is_linear free c && (is_linear free a && is_linear free b)) e in
-    let p = split_and (are_apart free c a) (are_apart free c b && are_apart free a b) s.0 in
-    let q = split_and (are_apart free c b) (are_apart free a b) p.1 in
-    let u = split_and (is_linear free c) (is_linear free a && is_linear free b) s.1 in
-    let v = split_and (is_linear free a) (is_linear free b) u.1 in
+    (let s = both (are_apart free c a && (are_apart free c b && are_apart free a b)) (is_linear free c && (is_linear free a && is_linear free b)) e in
+    let p = both (are_apart free c a) (are_apart free c b && are_apart free a b) s.0 in
+    let q = both (are_apart free c b) (are_apart free a b) p.1 in
+    let u = both (is_linear free c) (is_linear free a && is_linear free b) s.1 in
+    let v = both (is_linear free a) (is_linear free b) u.1 in
     let x = (apart_is free c a).0 p.0 in
     let y = (apart_is free c b).0 q.0 in
     let z = (apart_is free a b).0 q.1 in
@@ -128,9 +109,9 @@ linear_once free (select c a b) e =
 two_linear : (free : ℕ) (a b : ExprModel) → ((r : ℕ) → bit_at free r ≡ 0 → register_uses r a + register_uses r b ≤ 1) → ((k : ℕ) → bit_uses k a + bit_uses k b ≤ 1)
     → (IsLinear free (write a) → is_linear free a ≡ true) → (IsLinear free (write b) → is_linear free b ≡ true) → (are_apart free a b && (is_linear free a && is_linear free b)) ≡ true
 two_linear free a b p q f g =
-    join_and (are_apart free a b) (is_linear free a && is_linear free b)
+    and_from (are_apart free a b) (is_linear free a && is_linear free b)
     ((apart_is free a b).1 (record { registers = λ r z. omega (arith, p r z); bits = λ k. omega (arith, q k) }))
-    (join_and (is_linear free a) (is_linear free b)
+    (and_from (is_linear free a) (is_linear free b)
     (f (record { registers = λ r z. omega (arith, p r z); bits = λ k. omega (arith, q k) }))
     (g (record { registers = λ r z. omega (arith, p r z); bits = λ k. omega (arith, q k) })))
 
@@ -160,15 +141,15 @@ once_linear free (cat a b) h = two_linear free a b (λ r z. h.registers r z) (λ
 once_linear free (zext a w) h = once_linear free a (record { registers = h.registers; bits = h.bits })
 once_linear free (sext a w) h = once_linear free a (record { registers = h.registers; bits = h.bits })
 once_linear free (select c a b) h =
-    join_and (are_apart free c a && (are_apart free c b && are_apart free a b)) (is_linear free c && (is_linear free a && is_linear free b))
-    (join_and (are_apart free c a) (are_apart free c b && are_apart free a b)
+    and_from (are_apart free c a && (are_apart free c b && are_apart free a b)) (is_linear free c && (is_linear free a && is_linear free b))
+    (and_from (are_apart free c a) (are_apart free c b && are_apart free a b)
     ((apart_is free c a).1 (record { registers = λ r z. omega (arith, h.registers r z); bits = λ k. omega (arith, h.bits k) }))
-    (join_and (are_apart free c b) (are_apart free a b)
+    (and_from (are_apart free c b) (are_apart free a b)
     ((apart_is free c b).1 (record { registers = λ r z. omega (arith, h.registers r z); bits = λ k. omega (arith, h.bits k) }))
     ((apart_is free a b).1 (record { registers = λ r z. omega (arith, h.registers r z); bits = λ k. omega (arith, h.bits k) }))))
-    (join_and (is_linear free c) (is_linear free a && is_linear free b)
+    (and_from (is_linear free c) (is_linear free a && is_linear free b)
     (once_linear free c (record { registers = λ r z. omega (arith, h.registers r z); bits = λ k. omega (arith, h.bits k) }))
-    (join_and (is_linear free a) (is_linear free b)
+    (and_from (is_linear free a) (is_linear free b)
     (once_linear free a (record { registers = λ r z. omega (arith, h.registers r z); bits = λ k. omega (arith, h.bits k) }))
     (once_linear free b (record { registers = λ r z. omega (arith, h.registers r z); bits = λ k. omega (arith, h.bits k) }))))
 
@@ -179,8 +160,8 @@ two_parts free a e h = two_linear free a e (λ r z. h.registers r z) (λ k. h.bi
 
 parts_two : (free : ℕ) (a e : ExprModel) → (are_apart free a e && (is_linear free a && is_linear free e)) ≡ true → IsLinear free (write_at a e)
 parts_two free a e t =
-    let s = split_and (are_apart free a e) (is_linear free a && is_linear free e) t in
-    let u = split_and (is_linear free a) (is_linear free e) s.1 in
+    let s = both (are_apart free a e) (is_linear free a && is_linear free e) t in
+    let u = both (is_linear free a) (is_linear free e) s.1 in
     let two = once_two free a e ((apart_is free a e).0 s.0) (linear_once free a u.0) (linear_once free e u.1) in
     record { registers = two.0; bits = two.1 }
 

@@ -14,6 +14,7 @@ use Rattle.net_model.proofs.Far.{reads_far}
 use Rattle.net_model.proofs.KeptRules.{few_storages, sound_of}
 use Rattle.net_model.proofs.Storages.{storage_within}
 use Rattle.rec_bits.specs.declared.operator.Op2.{Op2}
+use Rattle.rec_bits.proofs.Booleans.{or_left, or_right, or_comm}
 use Rattle.transfer_set.specs.declared.stepping.Counter.{Counter}
 use Rattle.transfer_set.specs.Stepping.{is_next}
 use Rattle.form_model.specs.Registers.{AreLow, IsLow, IsLowGoal, IsLowExpr}
@@ -27,22 +28,9 @@ use Rattle.form_set.proofs.FormLaws.{form_at}
 
 -- ---- swaps
 
-or_turned : (a b : Bool) → (b || a) ≡ (a || b)
-or_turned true true = refl
-or_turned true false = refl
-or_turned false true = refl
-or_turned false false = refl
-
-either_left : (a b : Bool) → a ≡ true → (a || b) ≡ true
-either_left a b e = ap (λ x. x || b) e
-
-either_right : (a b : Bool) → b ≡ true → (a || b) ≡ true
-either_right true b e = refl
-either_right false b e = e
-
 module _ (q : ℕ) where
   turned : (o : Op2) (a b : ExprModel) (swaps : Bool) → occurs q (ordered swaps o a b) ≡ (occurs q a || occurs q b)
-  turned o a b true = or_turned (occurs q a) (occurs q b)
+  turned o a b true = or_comm (occurs q b) (occurs q a)
   turned o a b false = refl
 
   -- the same registers occur after swaps
@@ -76,7 +64,7 @@ if_test false when_one c to parts e = absurd (cc)
 
 -- what occurs in it occurs in the value of its pattern
 test_occurs : (q edition : ℕ) (pc : Counter) (reach : ℕ) (t : ExprModel) (parts : Branch) → expr_branch edition pc reach t ≡ Some parts → occurs q parts.test ≡ true → occurs q t ≡ true
-test_occurs q edition pc reach (select c a b) parts e k = either_left (occurs q c) (occurs q a || occurs q b) (ap (occurs q) test ∙ k)
+test_occurs q edition pc reach (select c a b) parts e k = or_left (occurs q c) (occurs q a || occurs q b) (ap (occurs q) test ∙ k)
   where
     test : c ≡ parts.test
     test = elim (first_some (branch_if (is_next pc b) true c (allowed_target edition pc reach a)) (branch_if (is_next pc a) false c (allowed_target edition pc reach b)) parts e) [
@@ -102,13 +90,13 @@ addr_low choice (write v) low a e = absurd (cc)
 addr_low choice (write_at x v) low a e =
     let chosen : Path → Bool = λ path. picks choice (swap_paths (sides_of (write_at x v))) (0 ∷ path) in
     let same : swap_at chosen x ≡ a = cc in
-    λ q k. low q (either_left (occurs q x) (occurs q v) (sym (swap_occurs q chosen x) ∙ ap (occurs q) same ∙ k))
+    λ q k. low q (or_left (occurs q x) (occurs q v) (sym (swap_occurs q chosen x) ∙ ap (occurs q) same ∙ k))
 
 value_low : (choice : ℕ) (m : TransferModel) → ((q : ℕ) → transfer_occurs q m ≡ true → q < 16) → IsLowExpr (swapped choice (sides_of m)).value
 value_low choice keep low q k = absurd (true≢false (sym k))
 value_low choice (write v) low q k = low q (sym (swap_occurs q (λ path. picks choice (swap_paths (sides_of (write v))) (1 ∷ path)) v) ∙ k)
 value_low choice (write_at a v) low q k =
-    low q (either_right (occurs q a) (occurs q v) (sym (swap_occurs q (λ path. picks choice (swap_paths (sides_of (write_at a v))) (1 ∷ path)) v) ∙ k))
+    low q (or_right (occurs q a) (occurs q v) (sym (swap_occurs q (λ path. picks choice (swap_paths (sides_of (write_at a v))) (1 ∷ path)) v) ∙ k))
 
 module _ (netlist : Netlist) (order : List ℕ) (keeps : KeepsRules netlist order) where
   pattern_low : (p : Pattern) → IsPattern netlist p → (q : ℕ) → transfer_occurs q p.move ≡ true → q < 16

@@ -2,6 +2,7 @@
 use Rattle.std.proofs.Common.{◌≡◌, ◌↔◌, ℕ, zero, suc, ◌+◌, ◌^◌, ◌<◌, ◌==◌, ◌&&◌, Bool, true, false, true≢false, cond, List, [], ◌∷◌, ◌++◌, Some, None, slice_get, refl, sym, ap, subst, ◌∙◌, arith, inl, inr}
 use Rattle.std.specs.Prelude.{◌⊎◌}
 use Rattle.std.proofs.lemmas.Nat.{pow_pos, and_le_l}
+use Rattle.rec_bits.proofs.Booleans.{and_from, both}
 use Rattle.net_model.specs.declared.hardware.Netlist.{Netlist}
 use Rattle.net_model.specs.Nets.{counter_of, counter_width, memory_id}
 use Rattle.net_model.specs.Patterns.{Pattern}
@@ -20,14 +21,6 @@ use Rattle.form_set.proofs.RuleLists.{branch_not_jump, plain_not_jump}
 
 -- ---- lists
 
-and_both : (a b : Bool) → (a && b) ≡ true → (a ≡ true) × (b ≡ true)
-and_both true b e = (refl, e)
-and_both false b e = absurd (true≢false (sym e))
-
-both_and : (a b : Bool) → a ≡ true → b ≡ true → (a && b) ≡ true
-both_and true b p q = q
-both_and false b p q = p
-
 all_append : (q : FormModel → Bool) (xs ys : List FormModel) → all_form_models q (xs ++ ys) ≡ (all_form_models q xs && all_form_models q ys)
 all_append q [] ys = refl
 all_append q (x ∷ xs) ys = by (q x) (all_append q xs ys)
@@ -38,13 +31,13 @@ all_append q (x ∷ xs) ys = by (q x) (all_append q xs ys)
 
 all_each : (q : FormModel → Bool) (f : ℕ → FormModel) → ((k : ℕ) → q (f k) ≡ true) → (n : ℕ) → all_form_models q (map_below f n) ≡ true
 all_each q f h zero = refl
-all_each q f h (suc n) = all_append q (map_below f n) (f n ∷ []) ∙ both_and (all_form_models q (map_below f n)) (all_form_models q (f n ∷ [])) (all_each q f h n) (both_and (q (f n)) true (h n) refl)
+all_each q f h (suc n) = all_append q (map_below f n) (f n ∷ []) ∙ and_from (all_form_models q (map_below f n)) (all_form_models q (f n ∷ [])) (all_each q f h n) (and_from (q (f n)) true (h n) refl)
 
 none_each : (q : FormModel → Bool) (f : ℕ → FormModel) → ((k : ℕ) → q (f k) ≡ false) → (n : ℕ) → 0 < n → all_form_models q (map_below f n) ≡ true → ⊥
 none_each q f h zero lt e = omega (arith, lt)
 none_each q f h (suc n) lt e =
-    let s = and_both (all_form_models q (map_below f n)) (all_form_models q (f n ∷ [])) (sym (all_append q (map_below f n) (f n ∷ [])) ∙ e) in
-    true≢false (sym (and_both (q (f n)) true s.1).0 ∙ h n)
+    let s = both (all_form_models q (map_below f n)) (all_form_models q (f n ∷ [])) (sym (all_append q (map_below f n) (f n ∷ [])) ∙ e) in
+    true≢false (sym (both (q (f n)) true s.1).0 ∙ h n)
 
 -- ---- goals
 
@@ -112,8 +105,8 @@ module _ (netlist : Netlist) (reach : ℕ) (q : FormModel → Bool) (P : Pattern
       let f = one number x h.0 h.2 in
       let r = none_is (number + 1) ps h.1 h.3 in
       let e = ap (all_form_models q) h.4 ∙ all_append q h.0 h.1 in (
-        (λ t. (let s = and_both (all_form_models q h.0) (all_form_models q h.1) (sym e ∙ t) in here s.0 s.1 f.0 r.0)),
-        λ never. e ∙ both_and (all_form_models q h.0) (all_form_models q h.1) (f.1 (λ y. never 0 x refl y)) (r.1 (λ k p at y. never (suc k) p at y)),
+        (λ t. (let s = both (all_form_models q h.0) (all_form_models q h.1) (sym e ∙ t) in here s.0 s.1 f.0 r.0)),
+        λ never. e ∙ and_from (all_form_models q h.0) (all_form_models q h.1) (f.1 (λ y. never 0 x refl y)) (r.1 (λ k p at y. never (suc k) p at y)),
       )
     where
       here : all_form_models q h.0 ≡ true → all_form_models q h.1 ≡ true → (all_form_models q h.0 ≡ true → P x → ⊥) → (all_form_models q h.1 ≡ true → (k : ℕ) (p : Pattern) → slice_get ps k ≡ Some p → P p → ⊥)

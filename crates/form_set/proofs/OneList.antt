@@ -1,6 +1,7 @@
 -- The forms of a netlist leave no choice: two lists of them are one.
-use Rattle.std.proofs.Common.{◌≡◌, ℕ, zero, suc, ◌+◌, ◌^◌, max, List, [], ◌∷◌, ◌++◌, Option, Some, length, refl, sym, ap, subst, ◌∙◌}
+use Rattle.std.proofs.Common.{◌≡◌, ℕ, zero, suc, ◌+◌, ◌^◌, max, List, [], ◌∷◌, ◌++◌, Some, length, refl, sym, ap, subst, ◌∙◌}
 use Rattle.std.specs.Prelude.{bit_or, bit_xor}
+use Rattle.rec_bits.proofs.Options.{one_Some}
 use Rattle.net_model.specs.declared.hardware.Netlist.{Netlist}
 use Rattle.net_model.specs.Patterns.{Pattern}
 use Rattle.net_model.specs.Exprs.{ExprModel, TransferModel, write}
@@ -42,13 +43,10 @@ clobbers_one netlist p a b h k =
 write_one : (m : TransferModel) (a b : ExprModel) → m ≡ write a → m ≡ write b → a ≡ b
 write_one m a b e f = cc
 
-some_one : {A : Type 0} (o : Option A) (a b : A) → o ≡ Some a → o ≡ Some b → a ≡ b
-some_one o a b e f = cc
-
 parts_one : (netlist : Netlist) (reach : ℕ) (p : Pattern) (a b : Branch) → IsBranch netlist reach p a → IsBranch netlist reach p b → a ≡ b
 parts_one netlist reach p a b h k =
     let e = write_one p.move h.value k.value h.move k.move in
-    some_one (expr_branch netlist.edition (counter_at netlist) reach k.value) a b (subst (λ t. expr_branch netlist.edition (counter_at netlist) reach t ≡ Some a) e h.parts) k.parts
+    one_Some (expr_branch netlist.edition (counter_at netlist) reach k.value) a b (subst (λ t. expr_branch netlist.edition (counter_at netlist) reach t ≡ Some a) e h.parts) k.parts
 
 of_one : (netlist : Netlist) (reach number : ℕ) (p : Pattern) (xs ys : List FormModel) → AreFormModelsOf netlist reach number p xs → AreFormModelsOf netlist reach number p ys → xs ≡ ys
 of_one netlist reach number p xs ys (plain a h c e) (plain b k d f) = e ∙ ap (plain_form_models netlist number p) (clobbers_one netlist p a b c d) ∙ sym f

@@ -6,9 +6,11 @@ use Rattle.std.specs.Int.Bits.{or_zero_l, or_zero_r}
 use Rattle.std.proofs.lemmas.Nat.{and_mask, shl-shr}
 use Rattle.std.proofs.lemmas.Nat.Bits.{and_high}
 use Rattle.std.proofs.Math.Nat.{mod-eq_of_lt}
+use Rattle.std.proofs.lemmas.Bool.{ltb-true}
 use Rattle.rec_bits.specs.declared.operator.Op2.{Op2}
 use Rattle.rec_bits.specs.declared.operator.Op2.TheVariants.{Add}
 use Rattle.rec_bits.specs.Operators.{apply2_of, sext_of}
+use Rattle.rec_bits.proofs.Bits.{and_zero_r}
 use Rattle.net_model.specs.declared.hardware.Netlist.{Netlist}
 use Rattle.net_model.specs.declared.states.State.{State}
 use Rattle.net_model.specs.Fields.{WordFitsExpr, bits_between, fields}
@@ -23,7 +25,7 @@ use Rattle.transfer_set.specs.TextMarks.{IsExprOf}
 use Rattle.form_model.specs.Shapes.{FieldFits, PlainFits, ShapeFits, Sum, SummandFits, field_setting, is_field, is_plain, is_plain_sum, is_shape, less_by, plain_setting, shape_setting, sum_of, sum_setting, sum_with, summands}
 use Rattle.form_model.proofs.SumNumbers.{sum_is_with}
 use Rattle.form_model.proofs.SumLaws.{IsSum, sum_is}
-use Rattle.form_model.proofs.FieldLaws.{field_small, less_true, then_some_true}
+use Rattle.form_model.proofs.FieldLaws.{field_small, then_some_true}
 use Rattle.form_model.proofs.PlainLaws.{sext_low}
 use Rattle.form_model.proofs.ShapeLaws.{setting_of_shape}
 
@@ -37,11 +39,11 @@ slice_bits n hi lo h =
 
 field_only : (bits : ℕ) (t : ExprModel) → is_field t ≡ true → FieldFits bits t → (v b : ℕ) → field_setting t v ≡ Some b → bit_and b (fields t) ≡ b
 field_only bits (word w) i f v b e =
-    (let g = then_some_true _ v b e in subst (λ n. bit_and n (2 ^ w - 1) ≡ n) g.1 (and_mask v w ∙ mod-eq_of_lt (less_true v (2 ^ w) g.0)))
+    (let g = then_some_true _ v b e in subst (λ n. bit_and n (2 ^ w - 1) ≡ n) g.1 (and_mask v w ∙ mod-eq_of_lt (ltb-true v (2 ^ w) g.0)))
 field_only bits (slice (word w) hi lo) i f v b e =
     (let g = then_some_true _ (v * 2 ^ lo) b e in
     subst (λ n. bit_and n (bits_between hi lo) ≡ n) g.1
-    (slice_bits (v * 2 ^ lo) hi lo f.1 ∙ ap (λ n. (n % 2 ^ (hi + 1 - lo)) * 2 ^ lo) (shl-shr v lo) ∙ ap (λ n. n * 2 ^ lo) (mod-eq_of_lt (less_true v (2 ^ (hi + 1 - lo)) g.0))))
+    (slice_bits (v * 2 ^ lo) hi lo f.1 ∙ ap (λ n. (n % 2 ^ (hi + 1 - lo)) * 2 ^ lo) (shl-shr v lo) ∙ ap (λ n. n * 2 ^ lo) (mod-eq_of_lt (ltb-true v (2 ^ (hi + 1 - lo)) g.0))))
 field_only bits (reg r w) i f v b e = absurd (true≢false (sym i))
 field_only bits (const w c) i f v b e = absurd (true≢false (sym i))
 field_only bits (read space a w) i f v b e = absurd (true≢false (sym i))
@@ -230,7 +232,7 @@ shape_set bits t h f v b e s i lt is =
 field_meant : (bits : ℕ) (t : ExprModel) → is_field t ≡ true → FieldFits bits t → (v b : ℕ) → field_setting t v ≡ Some b → (i : ℕ) → mean t no_state i ≡ v → bit_and i (fields t) ≡ b
 field_meant bits (word w) h f v b e i is =
     (let g = then_some_true _ v b e in
-    ap (λ n. bit_and n (2 ^ w - 1)) is ∙ and_mask v w ∙ mod-eq_of_lt (less_true v (2 ^ w) g.0) ∙ g.1)
+    ap (λ n. bit_and n (2 ^ w - 1)) is ∙ and_mask v w ∙ mod-eq_of_lt (ltb-true v (2 ^ w) g.0) ∙ g.1)
 field_meant bits (slice (word w) hi lo) h f v b e i is =
     (let g = then_some_true _ (v * 2 ^ lo) b e in slice_bits i hi lo f.1 ∙ ap (λ n. n * 2 ^ lo) is ∙ g.1)
 field_meant bits (slice _ hi lo) h f v b e i is = absurd (true≢false (sym h))
@@ -244,11 +246,8 @@ field_meant bits (zext a w) h f v b e i is = absurd (true≢false (sym h))
 field_meant bits (sext a w) h f v b e i is = absurd (true≢false (sym h))
 field_meant bits (select a c d) h f v b e i is = absurd (true≢false (sym h))
 
-no_bits : (i : ℕ) → bit_and i 0 ≡ 0
-no_bits i = and_mask i 0 ∙ (let one : i % 2 ^ 0 ≡ 0 = omega arith in one)
-
 pub plain_meant : (bits : ℕ) (t : ExprModel) → is_plain t ≡ true → ShapeFits bits t → (v b : ℕ) → plain_setting t v ≡ Some b → (i : ℕ) → i < 2 ^ bits → mean t no_state i ≡ v → bit_and i (fields t) ≡ b
-plain_meant bits (const w c) h f v b e i lt is = (let g = then_some_true (v == c) 0 b e in no_bits i ∙ g.1)
+plain_meant bits (const w c) h f v b e i lt is = (let g = then_some_true (v == c) 0 b e in and_zero_r i ∙ g.1)
 plain_meant bits (zext a w) h f v b e i lt is = field_meant bits a h f.0 v b e i is
 plain_meant bits (sext a w) h f v b e i lt is = by (sext_of (v % 2 ^ expr_width a) (expr_width a) w == v) e
   where

@@ -1,27 +1,17 @@
 -- Which numbers a field shape shows.
 use Rattle.std.proofs.Common.{◌≡◌, ℕ, ◌+◌, ◌-◌, ◌*◌, ◌%◌, ◌^◌, ◌<◌, ◌==◌, nat_lt, Bool, true, false, true≢false, cond, Option, Some, None, refl, sym, ap, ◌∙◌, arith}
 use Rattle.std.specs.Prelude.{is_some}
-use Rattle.std.proofs.lemmas.Bool.{ltb-false}
+use Rattle.std.proofs.lemmas.Bool.{lt-ltb}
 use Rattle.std.proofs.lemmas.Nat.{mod_below, pow_pos}
 use Rattle.rec_bits.specs.Operators.{sext_of}
+use Rattle.rec_bits.proofs.Options.{some_given}
 use Rattle.net_model.specs.Exprs.{ExprModel, word, reg, const, read, un, bin, slice, cat, zext, sext, select, expr_width}
-use Rattle.form_model.specs.Shapes.{field_setting, then_some, is_field, is_plain, plain_setting, shows, shows_below}
+use Rattle.form_model.specs.Shapes.{field_setting, is_field, is_plain, plain_setting, shows, shows_below}
 use Rattle.form_model.proofs.ShapeLaws.{below_is}
 
-given_is : (b : Bool) (n : ℕ) → is_some (then_some b n) ≡ b
-given_is true n = refl
-given_is false n = refl
-
-less_is : (a b : ℕ) → a < b → nat_lt a b ≡ true
-less_is a b lt = by (nat_lt a b) refl
-  where
-    by : (c : Bool) → nat_lt a b ≡ c → c ≡ true
-    by true e = refl
-    by false e = absurd (omega (arith, ltb-false a b e, lt))
-
 pub field_shows : (a : ExprModel) → is_field a ≡ true → (v : ℕ) → is_some (field_setting a v) ≡ nat_lt v (2 ^ expr_width a)
-field_shows (word w) h v = given_is (nat_lt v (2 ^ w)) v
-field_shows (slice (word w) hi lo) h v = given_is (nat_lt v (2 ^ (hi + 1 - lo))) (v * 2 ^ lo)
+field_shows (word w) h v = some_given (nat_lt v (2 ^ w)) v
+field_shows (slice (word w) hi lo) h v = some_given (nat_lt v (2 ^ (hi + 1 - lo))) (v * 2 ^ lo)
 field_shows (reg r w) h v = absurd (true≢false (sym h))
 field_shows (const w c) h v = absurd (true≢false (sym h))
 field_shows (read space a w) h v = absurd (true≢false (sym h))
@@ -39,7 +29,7 @@ some_cond false o = refl
 
 -- which numbers a shape shows that is no sum
 pub const_shows : (t : ExprModel) (w c v : ℕ) → t ≡ const w c → (v == c) ≡ is_some (plain_setting t v)
-const_shows t w c v e = sym (given_is (v == c) 0) ∙ ap (λ z. is_some (plain_setting z v)) (sym e)
+const_shows t w c v e = sym (some_given (v == c) 0) ∙ ap (λ z. is_some (plain_setting z v)) (sym e)
 
 pub zext_shows : (t a : ExprModel) (w v : ℕ) → t ≡ zext a w → is_plain t ≡ true → nat_lt v (2 ^ expr_width a) ≡ is_some (plain_setting t v)
 zext_shows t a w v e h = sym (field_shows a (ap is_plain (sym e) ∙ h) v) ∙ ap (λ z. is_some (plain_setting z v)) (sym e)
@@ -50,7 +40,7 @@ sext_shows t a w v e h =
     ∙ sym (some_cond (sext_of (v % 2 ^ expr_width a) (expr_width a) w == v) (field_setting a (v % 2 ^ expr_width a))) ∙ ap (λ z. is_some (plain_setting z v)) (sym e)
   where
     low : is_some (field_setting a (v % 2 ^ expr_width a)) ≡ true
-    low = field_shows a (ap is_plain (sym e) ∙ h) (v % 2 ^ expr_width a) ∙ less_is (v % 2 ^ expr_width a) (2 ^ expr_width a) (mod_below v (2 ^ expr_width a) (pow_pos (expr_width a)))
+    low = field_shows a (ap is_plain (sym e) ∙ h) (v % 2 ^ expr_width a) ∙ lt-ltb (v % 2 ^ expr_width a) (2 ^ expr_width a) (mod_below v (2 ^ expr_width a) (pow_pos (expr_width a)))
 
     by : (b : Bool) → b ≡ cond b (is_some (field_setting a (v % 2 ^ expr_width a))) false
     by true = sym low

@@ -1,11 +1,10 @@
 -- The tied read of a transfer.
-use Rattle.std.proofs.Common.{◌≡◌, ◌↔◌, ℕ, ◌+◌, ◌==◌, ◌&&◌, ◌||◌, nat_eq, if◌then◌else◌, Bool, true, false, true≢false, Option, Some, None, refl, sym, ap, ◌∙◌}
+use Rattle.std.proofs.Common.{◌≡◌, ◌↔◌, ℕ, ◌+◌, ◌==◌, ◌&&◌, ◌||◌, nat_eq, if◌then◌else◌, true, true≢false, Option, Some, None, refl, sym, ap, ◌∙◌}
 use Rattle.std.specs.Prelude.{is_some, option_map}
 use Rattle.std.proofs.lemmas.Bool.{eqb-true, eq-eqb, and_from, and_parts}
-use Rattle.rec_bits.specs.declared.operator.Op1.{Op1}
-use Rattle.rec_bits.specs.declared.operator.Op1.TheVariants.{Not, Neg}
-use Rattle.rec_bits.specs.declared.operator.Op2.{Op2}
-use Rattle.rec_bits.specs.declared.operator.Op2.TheVariants.{Add, Sub, Mul, And, Or, Xor, Shl, Shr, Sar, Eq, Ltu, Lts}
+use Rattle.rec_bits.proofs.Booleans.{same_truth}
+use Rattle.rec_bits.proofs.Options.{some_given}
+use Rattle.rec_bits.proofs.Equality.{op1_is, op2_is, op1_self, op2_self}
 use Rattle.net_model.specs.declared.hardware.Space.{Space}
 use Rattle.net_model.specs.declared.hardware.Space.TheVariants.{Memory as InMemory, File as InFile}
 use Rattle.net_model.specs.Exprs.{ExprModel, word, reg, const, read, un, bin, slice, cat, zext, sext, select}
@@ -20,26 +19,6 @@ space_is : (s t : Space) → same_space s t ≡ true → s ≡ t
 space_is InMemory InMemory h = refl
 space_is InFile InFile h = refl
 space_is s t h = absurd (true≢false (sym h))
-
-op1_is : (a b : Op1) → same_op1 a b ≡ true → a ≡ b
-op1_is Not Not h = refl
-op1_is Neg Neg h = refl
-op1_is a b h = absurd (true≢false (sym h))
-
-op2_is : (a b : Op2) → same_op2 a b ≡ true → a ≡ b
-op2_is Add Add h = refl
-op2_is Sub Sub h = refl
-op2_is Mul Mul h = refl
-op2_is And And h = refl
-op2_is Or Or h = refl
-op2_is Xor Xor h = refl
-op2_is Shl Shl h = refl
-op2_is Shr Shr h = refl
-op2_is Sar Sar h = refl
-op2_is Eq Eq h = refl
-op2_is Ltu Ltu h = refl
-op2_is Lts Lts h = refl
-op2_is a b h = absurd (true≢false (sym h))
 
 pub expr_is : (t u : ExprModel) → same_expr t u ≡ true → t ≡ u
 expr_is (word w) (word x) h = ap word (eqb-true w x h)
@@ -71,24 +50,6 @@ space_self : (s : Space) → same_space s s ≡ true
 space_self InMemory = refl
 space_self InFile = refl
 
-op1_self : (o : Op1) → same_op1 o o ≡ true
-op1_self Not = refl
-op1_self Neg = refl
-
-op2_self : (o : Op2) → same_op2 o o ≡ true
-op2_self Add = refl
-op2_self Sub = refl
-op2_self Mul = refl
-op2_self And = refl
-op2_self Or = refl
-op2_self Xor = refl
-op2_self Shl = refl
-op2_self Shr = refl
-op2_self Sar = refl
-op2_self Eq = refl
-op2_self Ltu = refl
-op2_self Lts = refl
-
 pub expr_self : (t : ExprModel) → same_expr t t ≡ true
 expr_self (word w) = eq-eqb w w refl
 expr_self (reg r w) = and_from _ _ (eq-eqb r r refl) (eq-eqb w w refl)
@@ -104,22 +65,13 @@ expr_self (select c a b) = and_from _ _ (expr_self c) (and_from _ _ (expr_self a
 
 -- ---- whether there is a tied read
 
-some_if : (b : Bool) (n : ℕ) → is_some (if b then Some n else None) ≡ b
-some_if true n = refl
-some_if false n = refl
-
-same_truth : (a b : Bool) → (a ≡ true → b ≡ true) → (b ≡ true → a ≡ true) → a ≡ b
-same_truth true b f g = sym (f refl)
-same_truth false true f g = g refl
-same_truth false false f g = refl
-
 -- a read of the file is the tied one where its address has the same id
 pub cell_tied : (at x : ExprModel) (i j : ℕ) → (x ≡ at) ↔ (i ≡ j) → (i == j) ≡ is_some {T = ℕ} (if same_expr x at then Some 0 else None)
 cell_tied at x i j h =
     same_truth (i == j) (same_expr x at)
     (λ e. ap (λ z. same_expr z at) (h.1 (eqb-true i j e)) ∙ expr_self at)
     (λ e. eq-eqb i j (h.0 (expr_is x at e)))
-    ∙ sym (some_if (same_expr x at) 0)
+    ∙ sym (some_given (same_expr x at) 0)
 
 pub either_tied : (a : ExprModel) (p q : Option ℕ) → is_some (first_of p (behind a q)) ≡ (is_some p || is_some q)
 either_tied a (Some p) q = refl

@@ -3,13 +3,13 @@ use Rattle.std.proofs.Common.{◌≡◌, ℕ, zero, suc, ◌+◌, ◌-◌, ◌*�
 use Rattle.std.proofs.lemmas.List.{append-nil, map-append}
 use Rattle.std.proofs.lemmas.Option.{same_Some}
 use Rattle.std.proofs.lemmas.Bool.{lt-ltb, le-leb}
-use Rattle.std.proofs.lemmas.Nat.{pow-add}
 use Rattle.std.proofs.Math.Nat.{pow-le-pow_right}
 use Rattle.rec_bits.proofs.Lists.{all_append}
 use Rattle.text_lines.proofs.Parts.{joined-lines}
 use Rattle.std.specs.Prelude.{slice_get, Result, Ok, Err, IfOk, IfErr, MatchResult}
 use Rattle.rec_bits.specs.declared.fault.ParseFault.{ParseFault}
 use Rattle.rec_bits.specs.declared.fault.ParseFault.TheVariants.{Text, Memory}
+use Rattle.rec_bits.proofs.Bits.{bytes_power}
 use Rattle.std.specs.List.{AllByRecursion, concat}
 use Rattle.code_model.specs.declared.image.Image.{Image}
 use Rattle.code_model.specs.declared.image.Mark.{Mark}
@@ -74,17 +74,10 @@ spells limits from (line ∷ lines) to n h e =
 
 -- ---- the lines of an image are read
 
-power : (n : ℕ) → 256 ^ n ≡ 2 ^ (8 * n)
-power zero = refl
-power (suc n) =
-    let e : suc n ≡ 1 + n = omega arith in
-    let f : 8 + 8 * n ≡ 8 * suc n = omega arith in
-    ap (λ k. 256 ^ k) e ∙ pow-add 256 1 n ∙ ap (λ x. 256 * x) (power n) ∙ sym (pow-add 2 8 (8 * n)) ∙ ap (λ k. 2 ^ k) f
-
 within_bytes : (limits : Limits) (word : ℕ) → word < 2 ^ limits.bits → word < 256 ^ bytes_of limits.bits
 within_bytes limits word h =
     let p : 2 ^ limits.bits ≤ 2 ^ (8 * bytes_of limits.bits) = pow-le-pow_right {n = 2} (omega arith) (omega arith) in
-    omega (arith, p, power (bytes_of limits.bits))
+    omega (arith, p, bytes_power (bytes_of limits.bits))
 
 go_on : (limits : Limits) (front next : Front) (item : Item) (lines : List (List ℕ)) → Narrow limits → IsSayable item → IsWithin (bytes_of limits.bits) item → step limits front item ≡ Some next →
     reads limits front (line_in limits item ∷ lines) ≡ reads limits next lines

@@ -4,6 +4,7 @@ use Rattle.std.specs.Prelude.{slice_get, slice_set, remove, ◌==◌, ◌&&◌}
 use Rattle.std.proofs.lemmas.Bool.{cases_eq}
 use Rattle.std.proofs.lemmas.List.{length-set}
 use Rattle.std.proofs.lemmas.List.Sums.{sum_by-set}
+use Rattle.rec_bits.proofs.Options.{picked}
 use Rattle.net_model.specs.Exprs.{ExprModel, size_of}
 use Rattle.form_model.specs.Registers.{AreLow}
 use Rattle.form_model.specs.Trees.{model_of_tree}
@@ -26,7 +27,7 @@ use Rattle.least_costs.specs.Slots.{place, IsEntry, IsSlot, IsLowHome, entry_des
 use Rattle.least_costs.specs.Rows.{Row, entry, row_subgoal, Sound, IsBelow, IsBlank, IsLift, IsRoomy, NoneAbove, IsCheapOffer, Noted, unfilled, unfilled_in}
 use Rattle.least_costs.specs.Searches.{search_stock, search_nodes, open_operand, open_operands, open_cuts, AreParts}
 use Rattle.least_costs.specs.Matched.{AreLowLeaves}
-use Rattle.least_costs.proofs.SizeLemmas.{Small, picked, size_pos, total_parts, rest_less}
+use Rattle.least_costs.proofs.SizeLemmas.{Small, size_pos, total_parts, rest_less}
 use Rattle.least_costs.proofs.LowLemmas.{taken_low}
 use Rattle.least_costs.proofs.SlotLemmas.{place_within, place_once, slot_entry}
 use Rattle.least_costs.proofs.RowLemmas.{entry_same, entry_there, entry_other, raised_sound, roomy_set, unfilled_le, entered_low}

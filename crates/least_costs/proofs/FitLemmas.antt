@@ -10,7 +10,7 @@ use Rattle.form_model.specs.declared.forms.Form.{Form}
 use Rattle.form_model.specs.Trees.{model_of_tree}
 use Rattle.tree_grammar.specs.declared.parts.Match.{Match}
 use Rattle.tree_grammar.specs.Leaves.{model_of_destination, model_of_match, models_of_leaves, AreAt, Stands}
-use Rattle.std.proofs.lemmas.Bool.{cases_eq}
+use Rattle.std.proofs.lemmas.Bool.{cases_eq, ltb-true, ltb-false}
 use Rattle.std.proofs.lemmas.Option.{slice_get_within}
 use Rattle.form_model.specs.CoverModels.{CoverModel, use_form, CoverOperandsModel, CoverCutsModel, cost, operands_cost, cuts_cost}
 use Rattle.least_costs.specs.declared.fits.BestFit.{BestFit}
@@ -30,7 +30,7 @@ use Rattle.least_costs.proofs.NodeLemmas.{stands_size}
 use Rattle.least_costs.proofs.FewLemmas.{opened_low, order_few, cuts_few}
 use Rattle.least_costs.proofs.LowLemmas.{taken_low}
 use Rattle.least_costs.proofs.StartLemmas.{form_at}
-use Rattle.least_costs.proofs.LeastLemmas.{nat_lt_true, nat_lt_false, some_form}
+use Rattle.least_costs.proofs.LeastLemmas.{some_form}
 
 pub want_at : (search : Search) (w : Subgoal) (o : Option Match) (m : Match) → StandsGoal search w → IfSome o (λ x. (nodes : List ExprModel) → Stands nodes w.at (model_of_destination w.destination) (model_of_tree w.tree.now) → AreAt nodes x.parts.items) → o ≡ Some m → AreAt (search_nodes search) m.parts.items
 want_at search w o m stands at is =
@@ -146,15 +146,15 @@ module _ (stock : StockModel) (limits : Limits) (ask : SubgoalModel) (n : ℕ) w
         fits = is;
         least = λ j ps cs lt sparing. elim (cases_eq j n) [
           | inl at ↦ by_last f is j ps cs at sparing
-          | inr other ↦ (let x = h.least j ps cs (omega arith) sparing in let y = nat_lt_true (fit_cost f) (fit_cost b.fit) e in omega (arith, x, y))
+          | inr other ↦ (let x = h.least j ps cs (omega arith) sparing in let y = ltb-true (fit_cost f) (fit_cost b.fit) e in omega (arith, x, y))
         ];
-        first = λ j ps cs lt sparing. (let x = h.least j ps cs lt sparing in let y = nat_lt_true (fit_cost f) (fit_cost b.fit) e in omega (arith, x, y));
+        first = λ j ps cs lt sparing. (let x = h.least j ps cs lt sparing in let y = ltb-true (fit_cost f) (fit_cost b.fit) e in omega (arith, x, y));
       }
       go false e = record {
         within = (let w = h.within in omega (arith, w));
         fits = h.fits;
         least = λ j ps cs lt sparing. elim (cases_eq j n) [
-          | inl at ↦ (let x = by_last f is j ps cs at sparing in let y = nat_lt_false (fit_cost f) (fit_cost b.fit) e in omega (arith, x, y))
+          | inl at ↦ (let x = by_last f is j ps cs at sparing in let y = ltb-false (fit_cost f) (fit_cost b.fit) e in omega (arith, x, y))
           | inr other ↦ h.least j ps cs (omega arith) sparing
         ];
         first = h.first;

@@ -4,6 +4,7 @@ use Rattle.std.specs.Prelude.{slice_get, remove, if◌then◌else◌}
 use Rattle.std.specs.Option.{option_map}
 use Rattle.std.proofs.lemmas.List.{take_all}
 use Rattle.std.proofs.lemmas.Option.{slice_get-map}
+use Rattle.rec_bits.proofs.Equality.{number_self}
 use Rattle.net_model.specs.Exprs.{ExprModel, size_of}
 use Rattle.form_model.specs.Trees.{model_of_tree}
 use Rattle.form_model.specs.Forms.{DestinationModel}
@@ -19,7 +20,6 @@ use Rattle.least_costs.specs.Slots.{IsLowHome, IsSlot, home_slot}
 use Rattle.least_costs.specs.Rows.{row_subgoal}
 use Rattle.least_costs.specs.Searches.{open_operand, open_operands, open_cuts, OperandsAt, CutsAt}
 use Rattle.least_costs.proofs.OfferLemmas.{slot_home}
-use Rattle.least_costs.proofs.SizeLemmas.{eq_self}
 
 pub inputs_at : (is : List OpenOperand) (i : ℕ) (x : OpenOperand) → slice_get is i ≡ Some x → slice_get (open_operands is) i ≡ Some (open_operand x)
 inputs_at is i x h = slice_get-map open_operand is i ∙ ap (option_map open_operand) h
@@ -103,4 +103,4 @@ rank_le file limits = go (is_free file limits)
 
 -- where all is free
 pub rank_free : (file : ℕ) → rank file (record { avoid = 0; allowed = file }) ≡ 0
-rank_free file = ap (λ b. if b then 0 else 1) (eq_self file)
+rank_free file = ap (λ b. if b then 0 else 1) (number_self file)

@@ -1,8 +1,7 @@
 -- The least cost, from the parts.
 use Rattle.std.proofs.Common.{◌≡◌, ℕ, zero, suc, ◌+◌, ◌-◌, ◌<◌, ◌≤◌, List, [], ◌∷◌, length, refl, ap, subst, Option, Some, None, Bool, true, false, arith, nat_lt, ◌⊎◌, inl, inr}
 use Rattle.std.specs.Prelude.{slice_get, remove, if◌then◌else◌}
-use Rattle.std.proofs.lemmas.Bool.{cases_eq}
-use Rattle.std.proofs.lemmas.Bool.Decides.{nat_tests}
+use Rattle.std.proofs.lemmas.Bool.{cases_eq, ltb-true, ltb-false}
 use Rattle.std.proofs.lemmas.Option.{slice_get_within}
 use Rattle.net_model.specs.Exprs.{ExprModel}
 use Rattle.form_model.specs.Forms.{FormModel}
@@ -26,12 +25,6 @@ both_at_most None b m n h k = h
 both_at_most (Some i) None m n h k = k
 both_at_most (Some i) (Some j) m n h k = omega arith
 
-pub nat_lt_true : (a b : ℕ) → nat_lt a b ≡ true → a < b
-nat_lt_true a b e = grind (arith, nat_tests)
-
-pub nat_lt_false : (a b : ℕ) → nat_lt a b ≡ false → b ≤ a
-nat_lt_false a b e = grind (arith, nat_tests)
-
 lesser_least : (a b : Option ℕ) (n : ℕ) → AtMost a n ⊎ AtMost b n → AtMost (lesser a b) n
 lesser_least None b n (inl h) = absurd h
 lesser_least None b n (inr h) = h
@@ -40,10 +33,10 @@ lesser_least (Some k) None n (inr h) = absurd h
 lesser_least (Some k) (Some m) n h = go (nat_lt m k) refl h
   where
     go : (b : Bool) → nat_lt m k ≡ b → (k ≤ n) ⊎ (m ≤ n) → AtMost (if b then Some m else Some k) n
-    go true e (inl h) = let lt = nat_lt_true m k e in omega (arith, lt)
+    go true e (inl h) = let lt = ltb-true m k e in omega (arith, lt)
     go true e (inr h) = h
     go false e (inl h) = h
-    go false e (inr h) = let le = nat_lt_false m k e in omega (arith, le)
+    go false e (inr h) = let le = ltb-false m k e in omega (arith, le)
 
 lesser_is : (P : Option ℕ → Type 0) (a b : Option ℕ) → P a → P b → P (lesser a b)
 lesser_is P None b pa pb = pb

@@ -2,7 +2,10 @@
 use Rattle.std.proofs.Common.{◌≡◌, ℕ, ◌+◌, ◌<◌, List, [], ◌∷◌, ◌++◌, length, length-append, refl, ap, ◌∙◌, subst, Option, Some, None, Bool, true, false, arith, inl, inr}
 use Rattle.std.specs.Prelude.{slice_get}
 use Rattle.std.proofs.lemmas.Option.{slice_get_within}
+use Rattle.std.proofs.lemmas.Bool.{eqb-true}
 use Rattle.rec_bits.proofs.Lists.{pushed_at}
+use Rattle.rec_bits.proofs.Options.{picked}
+use Rattle.rec_bits.proofs.Bits.{and_zero_r}
 use Rattle.net_model.specs.Exprs.{ExprModel}
 use Rattle.form_model.specs.Forms.{FormModel, GoalModel, into_reg, into_memory, into_file, jumps, branches, DestinationModel, into, filed, cell, stored, temporary, tested}
 use Rattle.form_model.specs.Matches.{MatchModel, goal_match, matched}
@@ -14,12 +17,11 @@ use Rattle.least_costs.specs.Made.{IsCover, IsLeastCost, HoldsParts, IsMade, Are
 use Rattle.least_costs.specs.Subgoals.{SubgoalModel, IsSparing, free}
 use Rattle.least_costs.specs.Least.{IsLeast, IsLeastForm}
 use Rattle.least_costs.specs.Inner.Made.{NeverMakes, TellsMade, AreMadeBelow}
-use Rattle.least_costs.proofs.SizeLemmas.{picked, eq_is}
-use Rattle.least_costs.proofs.OrderlyLemmas.{to_orderly, from_orderly, and_zero}
+use Rattle.least_costs.proofs.OrderlyLemmas.{to_orderly, from_orderly}
 
 -- where all is free, such a cover is one that spares
 sparing : (stock : StockModel) (ask : SubgoalModel) (p : CoverModel) → IsCover stock ask.destination ask.tree ask.whole p → IsSparing stock (free stock) ask p
-sparing stock ask p h = from_orderly stock p ask (free stock) h.orderly (and_zero (written stock.forms p), h.enough)
+sparing stock ask p h = from_orderly stock p ask (free stock) h.orderly (and_zero_r (written stock.forms p), h.enough)
 
 covers_is : (stock : StockModel) (ask : SubgoalModel) (p : CoverModel) → IsSparing stock (free stock) ask p → IsCover stock ask.destination ask.tree ask.whole p
 covers_is stock ask p h =
@@ -60,7 +62,7 @@ part_stands nodes at tested t h holds = absurd h
 
 -- a form that takes a part puts it where its goal is
 pub goes_there : (temps : ℕ) (form : FormModel) (kind : GoalModel) (d : DestinationModel) (t : ExprModel) (found : MatchModel) → HoldsParts d → goal_match temps form kind d t false ≡ Some found → part_goal kind ≡ Some d
-goes_there temps form (into_reg r) (into id) t found h e = ap (λ i. Some (into i)) (eq_is r id (picked _ (matched temps form.value t false) found e).0)
+goes_there temps form (into_reg r) (into id) t found h e = ap (λ i. Some (into i)) (eqb-true r id (picked _ (matched temps form.value t false) found e).0)
 goes_there temps form into_memory temporary t found h e = refl
 goes_there temps form into_file filed t found h e = refl
 goes_there temps form kind (cell a) t found h e = absurd h

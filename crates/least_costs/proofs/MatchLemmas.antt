@@ -1,10 +1,11 @@
 -- The forms that match a tree, and what their matches give.
-use Rattle.std.proofs.Common.{◌≡◌, ℕ, zero, suc, ◌+◌, ◌-◌, ◌*◌, ◌<◌, ◌≤◌, List, [], ◌∷◌, length, Option, Some, None, Bool, true, false, refl, sym, ap, ◌∙◌, subst, arith, inl, inr}
+use Rattle.std.proofs.Common.{◌≡◌, ℕ, ◌+◌, ◌-◌, ◌*◌, ◌<◌, ◌≤◌, List, [], ◌∷◌, length, Option, Some, None, Bool, true, false, refl, sym, ap, ◌∙◌, subst, arith, inl, inr}
 use Rattle.std.specs.Prelude.{slice_get, IfSome, if◌then◌else◌, ◌==◌, ◌&&◌}
 use Rattle.std.specs.Option.{option_map}
 use Rattle.std.proofs.lemmas.Bool.{cases_eq}
 use Rattle.std.proofs.lemmas.List.{length-map}
 use Rattle.std.proofs.lemmas.Option.{slice_get_within}
+use Rattle.rec_bits.proofs.Options.{picked}
 use Rattle.net_model.specs.Exprs.{ExprModel, size_of}
 use Rattle.form_model.specs.Trees.{model_of_tree}
 use Rattle.form_model.specs.Forms.{FormModel, model_of_form, model_of_goal, DestinationModel}
@@ -32,7 +33,7 @@ use Rattle.least_costs.specs.Searches.{search_stock, search_nodes, open_operands
 use Rattle.least_costs.specs.Matched.{rest_at, IsOpened, Takes, IsFormMatch, MatchesForm, with_match, AreFirstMatches}
 use Rattle.tree_sharing.proofs.NodeLemmas.{nodes_hold}
 use Rattle.least_costs.proofs.NodeLemmas.{node_size, whole_number}
-use Rattle.least_costs.proofs.SizeLemmas.{picked, size_pos, total_parts, small_le, rest_small, rest_less}
+use Rattle.least_costs.proofs.SizeLemmas.{size_pos, total_parts, small_le, rest_small, rest_less}
 use Rattle.least_costs.proofs.PartLemmas.{parts_operands, parts_cuts}
 use Rattle.least_costs.proofs.FewLemmas.{no_more_le, opened_low, order_few, cuts_few, form_few}
 use Rattle.tree_sharing.proofs.SharingLemmas.{get_push}
@@ -183,11 +184,6 @@ module _ (search : Search) (t : ExprModel) (whole : Bool) where
   -- each form that takes the tree has a match
   pub matches_all : (list : List FormMatch) → AreFirstMatches search t whole (length search.forms.now) list → (k : ℕ) → Takes (search_stock search) t whole k → (i : ℕ) × (m : FormMatch) × (slice_get list i ≡ Some m) × (m.form ≡ k)
   matches_all list h k x = h.all k (let w = slice_get_within (search_stock search).forms k x.form x.listed in let l = length-map search.forms.now model_of_form in omega (arith, w, l)) x
-
-pub at_index : {X : Type 0} (xs : List X) (i : ℕ) → i < length xs → (x : X) × (slice_get xs i ≡ Some x)
-at_index [] i lt = absurd (omega (arith, lt))
-at_index (x ∷ xs) zero lt = (x, refl)
-at_index (x ∷ xs) (suc i) lt = at_index xs i (omega (arith, lt))
 
 pub at_place : (P : FormMatch → Type 0) (list : List FormMatch) (i : ℕ) (m : FormMatch) → slice_get list i ≡ Some m → P m → (l : FormMatch) → slice_get list i ≡ Some l → P l
 at_place P list i m get p l get' = let same : m ≡ l = cc in subst P same p

@@ -4,13 +4,14 @@ use Rattle.std.specs.Prelude.{slice_get, remove, ◌==◌}
 use Rattle.std.proofs.lemmas.Bool.Decides.{nat_tests}
 use Rattle.std.proofs.lemmas.List.{length-replicate}
 use Rattle.std.proofs.lemmas.Option.{slice_get_within}
+use Rattle.rec_bits.proofs.Lists.{get_right}
 use Rattle.net_model.specs.Exprs.{ExprModel, zext, size_of}
 use Rattle.tree_grammar.specs.Numbers.{subtrees, HoldsSubtrees}
 use Rattle.tree_grammar.specs.Leaves.{Stands, value_at}
 use Rattle.tree_grammar.proofs.NumberLemmas.{size_length, holds_here}
 use Rattle.form_model.specs.Forms.{DestinationModel, into, filed, cell, stored, temporary, tested}
 use Rattle.tree_sharing.specs.Sharing.{job_nodes}
-use Rattle.tree_sharing.proofs.NodeLemmas.{get_split, get_right, nodes_hold, whole_tree, from_start}
+use Rattle.tree_sharing.proofs.NodeLemmas.{get_split, nodes_hold, whole_tree, from_start}
 use Rattle.least_costs.specs.declared.slots.Slot.{Slot}
 use Rattle.least_costs.specs.declared.slots.Slot.TheVariants.{Register, File, Temporary}
 use Rattle.least_costs.specs.declared.opened.OpenOperand.{OpenOperand}

@@ -1,8 +1,9 @@
 -- What one form gives for a row, and the row of all forms.
 use Rattle.std.proofs.Common.{◌≡◌, ℕ, zero, suc, ◌+◌, ◌≤◌, List, [], ◌∷◌, ◌++◌, length, replicate, refl, sym, ap, ◌∙◌, subst, Option, Some, None, Bool, true, false, arith, ◌⊎◌, inl, inr}
-use Rattle.std.specs.Prelude.{slice_get, slice_index_or, ◌==◌, ◌&&◌}
-use Rattle.std.proofs.lemmas.Bool.{cases_eq}
+use Rattle.std.specs.Prelude.{slice_get, slice_index_or, ◌==◌}
+use Rattle.std.proofs.lemmas.Bool.{cases_eq, eqb-true}
 use Rattle.std.proofs.lemmas.Option.{slice_get_within}
+use Rattle.rec_bits.proofs.Booleans.{both}
 use Rattle.net_model.specs.Exprs.{ExprModel, size_of}
 use Rattle.form_model.specs.Forms.{FormModel, into_memory}
 use Rattle.form_model.specs.Matches.{HomeModel, in_register, in_file, operand, cut, MatchModel}
@@ -20,7 +21,7 @@ use Rattle.least_costs.specs.Subgoals.{KeepsTo, free, is_free, operand_subgoal, 
 use Rattle.least_costs.specs.Least.{AtMost, IsLeastWithin, IsLeastForm}
 use Rattle.least_costs.specs.Slots.{place, IsEntry, IsSlot, entry_destination, goal_slot, home_slot}
 use Rattle.least_costs.specs.Rows.{Row, entry, IsBlank, row_subgoal, IsLeastRow, IsLift, AreLifts, AreWithin, IsWithin, IsMet, IsTried, IsOffer, offer_is, Noted, IsClosed}
-use Rattle.least_costs.proofs.SizeLemmas.{Small, eq_is, into_small, filed_small, temp_small, rest_some}
+use Rattle.least_costs.proofs.SizeLemmas.{Small, into_small, filed_small, temp_small, rest_some}
 use Rattle.least_costs.proofs.LeastLemmas.{at_most_more, some_of}
 use Rattle.least_costs.proofs.SlotLemmas.{slot_entry, place_once}
 
@@ -105,14 +106,10 @@ module _ (stock : StockModel) (limits : Limits) (t : ExprModel) (whole : Bool) (
 
   all_free : is_free stock.file limits ≡ true → limits ≡ free stock
   all_free e =
-      let (a, b) = both_true (limits.avoid == 0) (limits.allowed == stock.file) e in
-      let p = eq_is limits.avoid 0 a in
-      let q = eq_is limits.allowed stock.file b in
+      let (a, b) = both (limits.avoid == 0) (limits.allowed == stock.file) e in
+      let p = eqb-true limits.avoid 0 a in
+      let q = eqb-true limits.allowed stock.file b in
       ap (λ n. record { avoid = n; allowed = limits.allowed }) p ∙ ap (λ n. record { avoid = 0; allowed = n }) q
-    where
-      both_true : (a b : Bool) → (a && b) ≡ true → (a ≡ true) × (b ≡ true)
-      both_true true b e = (refl, e)
-      both_true false b e = absurd (cc)
 
   pub offer_chain : (form : FormModel) (d q : Slot) (found : MatchModel) → slice_get stock.forms k ≡ Some form → KeepsTo limits form.clobbers (cells_of_goal form.goal) → goal_slot form.goal whole ≡ Some d → IsSlot whole d → takes stock form (row_subgoal t whole d) ≡ Some found → rest (size_of t) (is_free stock.file limits) found.leaves ≡ Some q → IsEntry q → IsOffer stock limits t whole row k (Chains (record { start = q; goal = d }))
   offer_chain form d q found get spared goal slot is rests within = go (rest_some whole t (is_free stock.file limits) found.leaves q (row_small stock form t whole d found slot is).1 rests)

@@ -2,19 +2,14 @@
 -- avoided, and which needs no more cells of the file than are allowed.
 use Rattle.std.proofs.Common.{◌≡◌, ℕ, ◌+◌, ◌≤◌, max, List, sym, ap, subst, ◌∙◌, arith}
 use Rattle.std.specs.Prelude.{bit_and, bit_or, remove, slice_get}
-use Rattle.std.proofs.lemmas.Nat.{and_le_l, and_le_r, and_comm, or_comm, and_or_self, and_or_apart, and_assoc}
+use Rattle.std.proofs.lemmas.Nat.{and_comm, or_comm, and_or_self, and_or_apart, and_assoc}
+use Rattle.rec_bits.proofs.Bits.{and_zero_r, and_zero_l}
 use Rattle.net_model.specs.Exprs.{ExprModel}
 use Rattle.form_model.specs.CoverModels.{CoverModel, use_form, CoverOperandsModel, no_operands, operand_then, CoverCutsModel, no_cuts, cut_then}
 use Rattle.form_model.specs.Covers.{StockModel, Operand, home_set, form_cells, left_cells, need, operands_need, form_clobbers, written, all_written, IsOrderly, AreOrderly, AreCut}
 use Rattle.form_model.proofs.NeedLaws.{cells_left, left_need}
 use Rattle.least_costs.specs.declared.limits.Limits.{Limits}
 use Rattle.least_costs.specs.Subgoals.{SubgoalModel, operand_subgoal, cut_subgoal, free, after, IsSparing, AreSparing, AreStored}
-
-zero_and : (a : ℕ) → bit_and 0 a ≡ 0
-zero_and a = let h = and_le_l 0 a in omega (arith, h)
-
-pub and_zero : (a : ℕ) → bit_and a 0 ≡ 0
-and_zero a = let h = and_le_r a 0 in omega (arith, h)
 
 -- a union is apart from a set exactly where both parts are
 pub apart_left : (a b s : ℕ) → bit_and (bit_or a b) s ≡ 0 → bit_and a s ≡ 0
@@ -25,7 +20,7 @@ apart_left a b s h =
     ∙ sym (and_assoc a (bit_or b a) s)
     ∙ ap (λ x. bit_and (bit_and x s) a) (or_comm b a)
     ∙ ap (λ x. bit_and x a) h
-    ∙ zero_and a
+    ∙ and_zero_l a
 
 pub apart_right : (a b s : ℕ) → bit_and (bit_or a b) s ≡ 0 → bit_and b s ≡ 0
 apart_right a b s h = apart_left b a s (ap (λ x. bit_and x s) (or_comm b a) ∙ h)
@@ -63,7 +58,7 @@ mutual
       )
 
   to_all : (stock : StockModel) (ps : CoverOperandsModel) (ops : List Operand) (limits : Limits) → AreSparing stock limits ops ps → AreOrderly stock ops ps × AllKept stock limits ps
-  to_all stock no_operands ops limits e = (e, (zero_and limits.avoid, omega arith))
+  to_all stock no_operands ops limits e = (e, (and_zero_l limits.avoid, omega arith))
   to_all stock (operand_then i p ps) ops limits (o, get, sparing, orders) =
       let (orderly, kept) = to_orderly stock p (operand_subgoal o) limits sparing in
       let (rest, later) = to_all stock ps (remove ops i) (after limits o.home) orders in
@@ -115,4 +110,4 @@ mutual
 
   from_cut : (stock : StockModel) (cs : CoverCutsModel) (ts : List ExprModel) → AreCut stock ts cs → AreStored stock ts cs
   from_cut stock no_cuts ts e = e
-  from_cut stock (cut_then p cs) ts (t, us, e, orderly, few, stored) = (t, us, e, from_orderly stock p (cut_subgoal t) (free stock) orderly (and_zero (written stock.forms p), few), from_cut stock cs us stored)
+  from_cut stock (cut_then p cs) ts (t, us, e, orderly, few, stored) = (t, us, e, from_orderly stock p (cut_subgoal t) (free stock) orderly (and_zero_r (written stock.forms p), few), from_cut stock cs us stored)

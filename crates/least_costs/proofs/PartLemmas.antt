@@ -1,5 +1,5 @@
 -- Operands and cuts of a match's parts, and their numbers.
-use Rattle.std.proofs.Common.{◌≡◌, ℕ, zero, suc, ◌+◌, List, [], ◌∷◌, ◌++◌, take, Some, arith, refl, sym, ap, ◌∙◌, subst, rules}
+use Rattle.std.proofs.Common.{◌≡◌, ℕ, zero, suc, List, [], ◌∷◌, ◌++◌, Some, arith, refl, sym, ap, ◌∙◌, subst, rules}
 use Rattle.std.specs.Prelude.{slice_get}
 use Rattle.std.proofs.lemmas.List.{map-append}
 use Rattle.net_model.specs.Exprs.{ExprModel}
@@ -14,14 +14,6 @@ use Rattle.least_costs.specs.declared.opened.OpenCut.{OpenCut}
 use Rattle.least_costs.specs.Subgoals.{operands_size, exprs_size}
 use Rattle.least_costs.specs.Matched.{AreLowLeaves}
 use Rattle.least_costs.specs.Searches.{open_operand, open_operands, open_cuts, EachOperandAt, EachCutAt, OperandsAt, CutsAt, AreParts, HasOperand, HasCut}
-
-pub take_get : {X : Type 0} (xs : List X) (i : ℕ) (x : X) → slice_get xs i ≡ Some x → take (i + 1) xs ≡ take i xs ++ (x ∷ [])
-take_get xs i x h = (let e : i + 1 ≡ suc i = omega arith in ap (λ n. take n xs) e) ∙ go xs i h
-  where
-    go : {X : Type 0} {x : X} (xs : List X) (i : ℕ) → slice_get xs i ≡ Some x → take (suc i) xs ≡ take i xs ++ (x ∷ [])
-    go [] i h = absurd (cc)
-    go {x = x} (y ∷ xs) zero h = let e : y ≡ x = cc in ap (λ z. z ∷ []) e
-    go (y ∷ xs) (suc i) h = ap (λ l. y ∷ l) (go xs i h)
 
 operands-append : (xs ys : List LeafModel) → operands_of (xs ++ ys) ≡ operands_of xs ++ operands_of ys
 operands-append [] ys = refl

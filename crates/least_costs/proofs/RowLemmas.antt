@@ -1,5 +1,5 @@
 -- Rows as chain rules lower them.
-use Rattle.std.proofs.Common.{◌≡◌, ◌≢◌, ℕ, zero, suc, ◌+◌, ◌<◌, ◌≤◌, ◌^◌, List, [], ◌∷◌, length, Option, Some, None, Bool, true, false, refl, sym, ap, ◌∙◌, subst, arith, get_or, get_or-set_same, get_or-set_other, inl, inr}
+use Rattle.std.proofs.Common.{◌≡◌, ◌≢◌, ℕ, ◌+◌, ◌<◌, ◌≤◌, ◌^◌, List, [], ◌∷◌, length, Option, Some, None, Bool, true, false, refl, sym, ap, ◌∙◌, subst, arith, get_or, get_or-set_same, get_or-set_other, inl, inr}
 use Rattle.std.specs.Prelude.{slice_get, slice_set, if◌then◌else◌}
 use Rattle.std.specs.Bool.{OnTrue, OnFalse}
 use Rattle.std.proofs.lemmas.Bool.{cases_eq}
@@ -185,8 +185,3 @@ entered old new d n false len lt e below kept = subst (λ row. Entered old row d
   at = kept;
   others = λ q. inl refl;
 })
-
-pub listed : {X : Type 0} (xs : List X) (i : ℕ) (d : X) → i < length xs → slice_get xs i ≡ Some (get_or xs i d)
-listed [] i d lt = absurd (omega arith)
-listed (x ∷ xs) zero d lt = refl
-listed (x ∷ xs) (suc i) d lt = listed xs i d (omega arith)

@@ -1,11 +1,14 @@
 -- What a match leaves of a tree is the whole tree, or smaller.
 use Rattle.std.proofs.Common.{◌≡◌, ℕ, ◌+◌, ◌<◌, ◌≤◌, List, [], ◌∷◌, ◌++◌, Option, Some, None, Bool, true, false, refl, sym, ap, ◌∙◌, subst, arith, inl, inr, ◌⊎◌, zero-add}
 use Rattle.std.specs.Prelude.{if◌then◌else◌, ◌==◌, ◌&&◌, not}
-use Rattle.std.proofs.lemmas.Bool.Decides.{nat_tests}
+use Rattle.std.proofs.lemmas.Bool.{eqb-true}
 use Rattle.net_model.specs.declared.hardware.Space.TheVariants.{Memory as InMemory, File as InFile}
 use Rattle.net_model.specs.Exprs.{ExprModel, word, reg, const, read, un, bin, slice, cat, zext, sext, select, expr_width, size_of}
 use Rattle.rec_bits.specs.declared.operator.Op1.{Op1}
 use Rattle.rec_bits.specs.declared.operator.Op2.{Op2}
+use Rattle.rec_bits.proofs.Booleans.{and_left, and_right, true_false, either}
+use Rattle.rec_bits.proofs.Options.{picked}
+use Rattle.rec_bits.proofs.Equality.{number_self}
 use Rattle.form_model.specs.Trees.{is_number, is_cell}
 use Rattle.form_model.specs.Shapes.{is_shape, shows_below}
 use Rattle.form_model.specs.Forms.{FormModel, GoalModel, into_reg, into_memory, into_file, jumps, branches, DestinationModel, into, filed, cell, stored, temporary, tested}
@@ -17,16 +20,6 @@ use Rattle.least_costs.specs.declared.slots.Slot.{Slot}
 use Rattle.least_costs.specs.declared.slots.Slot.TheVariants.{Register, Temporary}
 use Rattle.least_costs.specs.Subgoals.{operands_size, exprs_size, is_free, rank, rest}
 use Rattle.least_costs.specs.Slots.{goal_slot, home_slot}
-
-pub picked : {A : Type 0} (b : Bool) (x : Option A) (y : A) → (if b then x else None) ≡ Some y → (b ≡ true) × (x ≡ Some y)
-picked true x y h = (refl, h)
-picked false x y h = absurd (cc)
-
-pub eq_is : (a b : ℕ) → (a == b) ≡ true → a ≡ b
-eq_is a b e = grind (arith, nat_tests)
-
-pub eq_self : (a : ℕ) → (a == a) ≡ true
-eq_self a = grind (arith, nat_tests)
 
 pub size_pos : (t : ExprModel) → 1 ≤ size_of t
 size_pos (word w) = omega arith
@@ -128,17 +121,13 @@ cell_small temps addr w t whole found h = go (is_cell t) (picked (w == expr_widt
     go true e = none_left whole t found.leaves (literal_leaves addr t found e)
     go false e = let (ok, is) = open_leaves (not whole && shows_below addr temps) (cut addr t) found e in inr (inl (addr, is, not_whole whole _ ok))
 
-pub either : (b : Bool) (x y : Option MatchModel) (found : MatchModel) → (if b then x else y) ≡ Some found → (x ≡ Some found) ⊎ (y ≡ Some found)
-either true x y found h = inl h
-either false x y found h = inr h
-
 pub matched_small : (temps : ℕ) (e t : ExprModel) (whole : Bool) (found : MatchModel) → matched temps e t whole ≡ Some found → Small whole t found.leaves
 matched_small temps (word w) t whole found h = none_left whole t found.leaves (shape_leaves (word w) t found h)
 matched_small temps (const w v) t whole found h = none_left whole t found.leaves (shape_leaves (const w v) t found h)
 matched_small temps (reg r w) t whole found h = inl (in_register r, (open_leaves (w == expr_width t) (operand (in_register r) t whole) found h).1)
 matched_small temps (read InFile a w) t whole found h = inl (in_file a, (open_leaves (w == expr_width t) (operand (in_file a) t whole) found h).1)
 matched_small temps (read InMemory a w) t whole found h =
-    elim (either (is_shape a) (cell_match temps a w t whole) (read_match (matched temps a) w t) found h) [
+    elim (either (is_shape a) (cell_match temps a w t whole) (read_match (matched temps a) w t) (Some found) h) [
       | inl c ↦ cell_small temps a w t whole found c
       | inr r ↦ (let (b, v, e, m) = read_parts (matched temps a) w t found r in
           inner whole (is_number b) t b found.leaves (let n = ap size_of e in omega (arith, n)) (matched_small temps a b (is_number b) found m))
@@ -147,7 +136,7 @@ matched_small temps (un o a) t whole found h =
     let (p, b, e, m) = un_parts (matched temps a) o t found h in
     inner whole false t b found.leaves (let n = ap size_of e in omega (arith, n)) (matched_small temps a b false found m)
 matched_small temps (bin o a b) t whole found h =
-    elim (either (is_shape (bin o a b)) (shape_match (bin o a b) t) (bin_match (matched temps a) (matched temps b) o t) found h) [
+    elim (either (is_shape (bin o a b)) (shape_match (bin o a b) t) (bin_match (matched temps a) (matched temps b) o t) (Some found) h) [
       | inl c ↦ none_left whole t found.leaves (shape_leaves (bin o a b) t found c)
       | inr r ↦ (let (p, c, d, e, m) = bin_parts (matched temps a) (matched temps b) o t found r in
           let (f, g, ef, eg, is) = both_parts (matched temps a c false) (matched temps b d false) found m in
@@ -156,20 +145,20 @@ matched_small temps (bin o a b) t whole found h =
           inr (inr (let n = ap size_of e in let k = ap total is in let s = total-append f.leaves g.leaves in omega (arith, n, k, s, lf, lg))))
     ]
 matched_small temps (slice a hi lo) t whole found h =
-    elim (either (is_shape (slice a hi lo)) (shape_match (slice a hi lo) t) (slice_match (matched temps a) (expr_width a) hi lo t) found h) [
+    elim (either (is_shape (slice a hi lo)) (shape_match (slice a hi lo) t) (slice_match (matched temps a) (expr_width a) hi lo t) (Some found) h) [
       | inl c ↦ none_left whole t found.leaves (shape_leaves (slice a hi lo) t found c)
       | inr r ↦ (let (b, x, y, e, m) = slice_parts (matched temps a) (expr_width a) hi lo t found r in
           inner whole false t b found.leaves (let n = ap size_of e in omega (arith, n)) (matched_small temps a b false found m))
     ]
 matched_small temps (cat a b) t whole found h = absurd (cc)
 matched_small temps (zext a w) t whole found h =
-    elim (either (is_shape (zext a w)) (shape_match (zext a w) t) (zext_match (matched temps a) (expr_width a) w t) found h) [
+    elim (either (is_shape (zext a w)) (shape_match (zext a w) t) (zext_match (matched temps a) (expr_width a) w t) (Some found) h) [
       | inl c ↦ none_left whole t found.leaves (shape_leaves (zext a w) t found c)
       | inr r ↦ (let (b, v, e, m) = zext_parts (matched temps a) (expr_width a) w t found r in
           inner whole false t b found.leaves (let n = ap size_of e in omega (arith, n)) (matched_small temps a b false found m))
     ]
 matched_small temps (sext a w) t whole found h =
-    elim (either (is_shape (sext a w)) (shape_match (sext a w) t) (sext_match (matched temps a) (expr_width a) w t) found h) [
+    elim (either (is_shape (sext a w)) (shape_match (sext a w) t) (sext_match (matched temps a) (expr_width a) w t) (Some found) h) [
       | inl c ↦ none_left whole t found.leaves (shape_leaves (sext a w) t found c)
       | inr r ↦ (let (b, v, e, m) = sext_parts (matched temps a) (expr_width a) w t found r in
           inner whole false t b found.leaves (let n = ap size_of e in omega (arith, n)) (matched_small temps a b false found m))
@@ -179,7 +168,7 @@ matched_small temps (select c a b) t whole found h = absurd (cc)
 -- a form into the register r
 pub into_small : (temps : ℕ) (form : FormModel) (goal : GoalModel) (r : ℕ) (t : ExprModel) (whole : Bool) (found : MatchModel) → goal_match temps form goal (into r) t whole ≡ Some found → (goal_slot goal whole ≡ Some (Register r)) × Small whole t found.leaves
 into_small temps form (into_reg d) r t whole found h =
-    let (same, m) = picked (d == r) _ found h in (ap (λ i. Some (Register i)) (eq_is d r same), matched_small temps form.value t whole found m)
+    let (same, m) = picked (d == r) _ found h in (ap (λ i. Some (Register i)) (eqb-true d r same), matched_small temps form.value t whole found m)
 into_small temps form into_memory r t whole found h = absurd (cc)
 into_small temps form into_file r t whole found h = absurd (cc)
 into_small temps form (jumps reach) r t whole found h = absurd (cc)
@@ -249,9 +238,6 @@ some_none : {A : Type 0} (b : Bool) (x : A) → (if b then Some x else None) ≡
 some_none true x h = absurd (cc)
 some_none false x h = refl
 
-true_false : (b : Bool) → b ≡ true → b ≡ false → ⊥
-true_false b e f = cc
-
 and_false : (a b : Bool) → b ≡ true → (a && b) ≡ false → a ≡ false
 and_false true b e f = absurd (cc)
 and_false false b e f = refl
@@ -260,9 +246,9 @@ and_false false b e f = refl
 -- free
 pub rest_less : (whole : Bool) (t : ExprModel) (file : ℕ) (limits : Limits) (leaves : List LeafModel) → Small whole t leaves → rest (size_of t) (is_free file limits) leaves ≡ None → (total leaves < size_of t) ⊎ ((operands_of leaves ≡ []) × (cuts_of leaves ≡ t ∷ []) × (rank file limits ≡ 1))
 rest_less whole t file limits leaves (inl (r, e)) none =
-    absurd (true_false (size_of t == size_of t) (eq_self (size_of t)) (some_none _ (home_slot r) (ap (rest (size_of t) (is_free file limits)) (sym e) ∙ none)))
+    absurd (true_false (size_of t == size_of t) (number_self (size_of t)) (some_none _ (home_slot r) (ap (rest (size_of t) (is_free file limits)) (sym e) ∙ none)))
 rest_less whole t file limits leaves (inr (inl (shape, e, w))) none =
-    let f : (is_free file limits) ≡ false = and_false (is_free file limits) (size_of t == size_of t) (eq_self (size_of t)) (some_none ((is_free file limits) && (size_of t == size_of t)) Temporary (ap (rest (size_of t) (is_free file limits)) (sym e) ∙ none)) in
+    let f : (is_free file limits) ≡ false = and_false (is_free file limits) (size_of t == size_of t) (number_self (size_of t)) (some_none ((is_free file limits) && (size_of t == size_of t)) Temporary (ap (rest (size_of t) (is_free file limits)) (sym e) ∙ none)) in
     inr (ap operands_of e, ap cuts_of e, ap (λ b. if b then 0 else 1) f)
 rest_less whole t file limits leaves (inr (inr lt)) none = inl lt
 
@@ -274,13 +260,9 @@ rest_small whole t file limits leaves small none = elim (rest_less whole t file 
 
 taken_whole : (size : ℕ) (free : Bool) (leaves : List LeafModel) (q : Slot) → rest size free leaves ≡ Some q → total leaves ≡ size
 taken_whole size free [] q h = absurd (cc)
-taken_whole size free (operand home tree whole ∷ []) q h = let e = eq_is (size_of tree) size (picked (size_of tree == size) (Some (home_slot home)) q h).0 in omega (arith, e)
+taken_whole size free (operand home tree whole ∷ []) q h = let e = eqb-true (size_of tree) size (picked (size_of tree == size) (Some (home_slot home)) q h).0 in omega (arith, e)
 taken_whole size free (operand id tree whole ∷ s ∷ leaves) q h = absurd (cc)
-taken_whole size free (cut shape tree ∷ []) q h = let e = eq_is (size_of tree) size (and_right free _ (picked (free && (size_of tree == size)) (Some Temporary) q h).0) in omega (arith, e)
-  where
-    and_right : (a b : Bool) → (a && b) ≡ true → b ≡ true
-    and_right true b e = e
-    and_right false b e = absurd (cc)
+taken_whole size free (cut shape tree ∷ []) q h = let e = eqb-true (size_of tree) size (and_right free _ (picked (free && (size_of tree == size)) (Some Temporary) q h).0) in omega (arith, e)
 taken_whole size free (cut shape tree ∷ s ∷ leaves) q h = absurd (cc)
 
 pub rest_some : (whole : Bool) (t : ExprModel) (free : Bool) (leaves : List LeafModel) (q : Slot) → Small whole t leaves → rest (size_of t) free leaves ≡ Some q → ((h : HomeModel) × (leaves ≡ operand h t whole ∷ []) × (q ≡ home_slot h)) ⊎ ((shape : ExprModel) × (leaves ≡ cut shape t ∷ []) × (whole ≡ false) × (free ≡ true) × (q ≡ Temporary))
@@ -291,8 +273,4 @@ rest_some whole t free leaves q (inr (inl (shape, e, w))) h =
     let k = picked (free && (size_of t == size_of t)) (Some Temporary) q (ap (rest (size_of t) free) (sym e) ∙ h) in
     let l = k.1 in
     let same : q ≡ Temporary = cc in inr (shape, e, w, and_left free _ k.0, same)
-  where
-    and_left : (a b : Bool) → (a && b) ≡ true → a ≡ true
-    and_left true b e = refl
-    and_left false b e = absurd (cc)
 rest_some whole t free leaves q (inr (inr lt)) h = absurd (let e = taken_whole (size_of t) free leaves q h in omega (arith, e, lt))

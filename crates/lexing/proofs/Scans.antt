@@ -1,11 +1,11 @@
 -- Going over a text.
-use Rattle.std.proofs.Common.{◌≡◌, ◌||◌, ◌&&◌, not, ℕ, zero, suc, ◌+◌, ◌-◌, ◌≤◌, ◌<◌, List, [], ◌∷◌, ◌++◌, length, take, drop, Bool, true, false, cond, refl, sym, ap, subst, ◌∙◌, append_assoc, arith}
+use Rattle.std.proofs.Common.{◌≡◌, ◌||◌, not, ℕ, zero, suc, ◌+◌, ◌-◌, ◌≤◌, ◌<◌, List, [], ◌∷◌, ◌++◌, length, take, drop, Bool, true, false, cond, refl, sym, ap, subst, ◌∙◌, append_assoc, arith}
 use Rattle.std.proofs.lemmas.List.{append-nil, nil_from_length, drop-drop, length-take, length-drop, take_rest}
 use Rattle.std.proofs.lemmas.Bool.{eqb-false}
 use Rattle.std.specs.Prelude.{take_while, nat_eq, codes, nat_lt, nat_le, max}
 use Rattle.std.specs.List.{starts_with, prefix_len, fold}
 use Rattle.std.specs.Cmp.Lexicographic.{pointwise}
-use Rattle.rec_bits.proofs.Booleans.{or_left, right_false}
+use Rattle.rec_bits.proofs.Booleans.{or_left, right_false, and_left, and_right}
 use Rattle.lexing.specs.declared.token.Token.{Token}
 use Rattle.lexing.specs.declared.token.Kind.{Kind}
 use Rattle.lexing.specs.declared.token.Kind.TheVariants.{Name, Reserved, Number, Sign, Bad}
@@ -34,14 +34,6 @@ run_some : (p : ℕ → Bool) (b : ℕ) (bs : List ℕ) → p b ≡ true → 1 �
 run_some p b bs h =
     let q : prefix_len p (b ∷ bs) ≡ 1 + prefix_len p bs = rw h refl in
     omega (arith, length-take (prefix_len p (b ∷ bs)) (b ∷ bs), q)
-
-pub and_left : (a b : Bool) → (a && b) ≡ true → a ≡ true
-and_left true b e = refl
-and_left false b e = absurd cc
-
-pub and_right : (a b : Bool) → (a && b) ≡ true → b ≡ true
-and_right true b e = e
-and_right false b e = absurd cc
 
 starts_long : (needle xs : List ℕ) → starts_with nat_eq xs needle ≡ true → length needle ≤ length xs
 starts_long needle xs e = go needle xs e

@@ -7,6 +7,7 @@ use Rattle.std.proofs.lemmas.List.Elements.{All-nil, All-cons, All-head, All-tai
 use Rattle.std.proofs.lemmas.Slice.Eq.{starts_is}
 use Rattle.std.specs.Prelude.{take_while, nat_eq, nat_lt, nat_le, codes, max, All, Contains}
 use Rattle.std.specs.List.{starts_with, fold}
+use Rattle.rec_bits.proofs.Booleans.{and_left, and_right}
 use Rattle.lexing.specs.declared.token.Kind.{Kind}
 use Rattle.lexing.specs.declared.token.Kind.TheVariants.{Name, Reserved, Number, Sign, Bad}
 use Rattle.lexing.specs.declared.piece.Piece.{Piece}
@@ -16,7 +17,7 @@ use Rattle.lexing.specs.Numbers.{is_hexadecimal, number_length, number_value}
 use Rattle.lexing.specs.Table.{Lexicon, is_reserved, sign_length}
 use Rattle.lexing.specs.Tokens.{name_piece, number_piece, sign_piece, piece}
 use Rattle.lexing.specs.Laws.{IsSpacing, blank, comment, IsRun, IsWord, IsDecimal, IsHexadecimal, IsNumeral, IsSign, IsBad, IsKind}
-use Rattle.lexing.proofs.Scans.{and_left, and_right, sign_le}
+use Rattle.lexing.proofs.Scans.{sign_le}
 use Rattle.lexing.proofs.Runs.{run_at, run_own, run_unique, run_begins, run_some}
 
 -- ---- the classes of a first byte

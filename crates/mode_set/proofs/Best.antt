@@ -1,6 +1,7 @@
 -- The best plan among those of the first modes, one mode after the other.
-use Rattle.std.proofs.Common.{ℕ, zero, suc, [], ◌∷◌, length, slice_get, ◌≡◌, ◌≤◌, ◌<◌, ◌+◌, ◌⊎◌, inl, inr, nat_le, if◌then◌else◌, Bool, true, false, List, Option, Some, None, refl, sym, ◌∙◌, ap, arith, subst}
+use Rattle.std.proofs.Common.{ℕ, [], ◌≡◌, ◌≤◌, ◌<◌, ◌+◌, ◌⊎◌, inl, inr, nat_le, if◌then◌else◌, Bool, true, false, List, Option, Some, None, refl, sym, ◌∙◌, ap, arith, subst}
 use Rattle.std.proofs.lemmas.Bool.{leb-true, leb-false, cases_lt}
+use Rattle.rec_bits.proofs.Bits.{below_next}
 use Rattle.net_model.specs.Exprs.{ExprModel}
 use Rattle.form_model.specs.Covers.{JobCoverModel, ChoiceBefore, Covers, IsChosen, StockModel, job_cost, parts_cost}
 use Rattle.form_model.specs.CoverModels.{CoverModel as Covering, cost, use_form}
@@ -57,15 +58,9 @@ module _ (stock : ℕ → StockModel) (Usable : ℕ → Type 0) (destination : D
     },
   )
 
-  split : (v n : ℕ) → v < n + 1 → (v < n) ⊎ (v ≡ n)
-  split v n lt = elim (cases_lt v n) as (λ _. (v < n) ⊎ (v ≡ n)) [
-    | inl l ↦ inl l
-    | inr g ↦ inr (omega (arith, lt, g))
-  ]
-
   -- one mode more
   pub best_more : (n : ℕ) (best next : Option Plan) → IsBestBelow stock Usable destination trees n best → IsPlanIn stock Usable destination trees n next → IsBestBelow stock Usable destination trees (n + 1) (better_of best next)
-  best_more n None None h k = λ v choice lt c. by v choice c (split v n lt)
+  best_more n None None h k = λ v choice lt c. by v choice c (below_next v n lt)
     where
       by : (v : ℕ) (choice : JobCoverModel) → CoversIn stock Usable destination trees v choice → (v < n) ⊎ (v ≡ n) → ⊥
       by v choice c (inl l) = h v choice l c
@@ -73,7 +68,7 @@ module _ (stock : ℕ → StockModel) (Usable : ℕ → Type 0) (destination : D
   best_more n (Some known) None h k = record {
     is = h.is;
     below = let b = h.below in omega (arith, b);
-    least = λ v other lt c. by v other c (split v n lt);
+    least = λ v other lt c. by v other c (below_next v n lt);
   }
     where
       by : (v : ℕ) (other : JobCoverModel) → CoversIn stock Usable destination trees v other → (v < n) ⊎ (v ≡ n) → Least known.cost known.mode v other
@@ -82,7 +77,7 @@ module _ (stock : ℕ → StockModel) (Usable : ℕ → Type 0) (destination : D
   best_more n None (Some later) h k = record {
     is = k.1;
     below = let e = k.0 in omega (arith, e);
-    least = λ v other lt c. by v other c (split v n lt);
+    least = λ v other lt c. by v other c (below_next v n lt);
   }
     where
       by : (v : ℕ) (other : JobCoverModel) → CoversIn stock Usable destination trees v other → (v < n) ⊎ (v ≡ n) → Least later.cost later.mode v other
@@ -103,7 +98,7 @@ module _ (stock : ℕ → StockModel) (Usable : ℕ → Type 0) (destination : D
       by_cost true e = record {
         is = h.is;
         below = let b = h.below in omega (arith, b);
-        least = λ v other lt c. by v other c (split v n lt);
+        least = λ v other lt c. by v other c (below_next v n lt);
       }
         where
           by : (v : ℕ) (other : JobCoverModel) → CoversIn stock Usable destination trees v other → (v < n) ⊎ (v ≡ n) → Least known.cost known.mode v other
@@ -120,7 +115,7 @@ module _ (stock : ℕ → StockModel) (Usable : ℕ → Type 0) (destination : D
       by_cost false e = record {
         is = k.1;
         below = let m = k.0 in omega (arith, m);
-        least = λ v other lt c. by v other c (split v n lt);
+        least = λ v other lt c. by v other c (below_next v n lt);
       }
         where
           by : (v : ℕ) (other : JobCoverModel) → CoversIn stock Usable destination trees v other → (v < n) ⊎ (v ≡ n) → Least later.cost later.mode v other
@@ -151,10 +146,3 @@ module _ (stock : ℕ → StockModel) (Usable : ℕ → Type 0) (destination : D
 
   pub none_planned : (n : ℕ) → ((v : ℕ) → Usable v → v < n) → IsBestBelow stock Usable destination trees n None → HasNoPlan stock Usable destination trees
   none_planned n within h = record { none = λ v choice c. h v choice (within v c.can) c }
-
--- ---- a mode that is marked stands in the list
-
-pub marked_within : (usable : List Bool) (v : ℕ) → slice_get usable v ≡ Some true → v < length usable
-marked_within [] v e = absurd (cc e)
-marked_within (b ∷ usable) zero e = omega arith
-marked_within (b ∷ usable) (suc v) e = let h = marked_within usable v e in omega (arith, h)

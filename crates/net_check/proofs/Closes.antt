@@ -4,14 +4,15 @@ use Rattle.std.specs.List.{AllByRecursion}
 use Rattle.std.proofs.lemmas.Bool.{cases_lt, cases_eq}
 use Rattle.std.proofs.lemmas.List.{length-set, length_push}
 use Rattle.net_model.specs.Depends.{Among, Depends, direct, via}
-use Rattle.rec_bits.proofs.Lists.{all_weaker}
+use Rattle.rec_bits.proofs.Lists.{all_weaker, slice_get_past}
+use Rattle.rec_bits.proofs.Faults.{among_front, among_last}
 use Rattle.net_model.proofs.Acyclic.{all_among}
 use Rattle.net_check.specs.Inner.Graphs.{named_in}
 use Rattle.net_check.specs.Inner.Components.{mark_at, MetAt, IsDone, IsPathTo, Uncut, SeenFrom, IsSearch, IsMerged, IsIndexed, IsComplete, IsCompleting, Rising, Later, work}
 use Rattle.net_check.specs.declared.cycle.Mark.{Mark}
 use Rattle.net_check.specs.declared.cycle.Mark.TheVariants.{New, Met, Done}
 use Rattle.net_check.specs.declared.cycle.Search.{Search}
-use Rattle.net_check.proofs.Walks.{among_old, among_last, among_parts, take_whole, past_end}
+use Rattle.net_check.proofs.Walks.{among_parts, take_whole}
 use Rattle.net_check.proofs.Marks.{set_mark, marked_inside, one_index, eased, depends_on, done_closed, rising_parts, climbs_parts, climbs_as, take_front, take_index}
 use Rattle.net_check.proofs.Joins.{top_high, top_at}
 
@@ -144,7 +145,7 @@ module _ (graph : List (List ℕ)) (marks : List Mark) (met starts path : List �
     begun = λ s a. before s a (λ e. none (subst (λ (x : ℕ). Among x starts) e a));
     based = w.based;
     climbs = (climbs_parts marks path top w.climbs).0;
-    on_path = λ m a. w.on_path m (among_old m top path a);
+    on_path = λ m a. w.on_path m (among_front m top path a);
     closed = w.closed;
     cyclic = w.cyclic;
     acyclic = w.acyclic;
@@ -221,7 +222,7 @@ module _ (graph : List (List ℕ)) (marks : List Mark) (met starts path : List �
     shorter = simp length-take (omega (arith, in_met))
 
     still : (s : ℕ) → Among s xs → Among s starts
-    still s a = subst (Among s) (sym begun) (among_old s index xs a)
+    still s a = subst (Among s) (sym begun) (among_front s index xs a)
 
     lower : (s : ℕ) → Among s xs → s < index
     lower s a = (rising_parts xs index (subst Rising begun w.rising)).1 s a
@@ -248,7 +249,7 @@ module _ (graph : List (List ℕ)) (marks : List Mark) (met starts path : List �
             | inl y ↦ record { told = told; is = inside d x.0 x.1 y }
             | inr y ↦ absurd (omega (arith, y, g))
           ]
-        ]) _ (take_whole (SeenFrom marks starts i) _ a.place (past_end _ _ seen_all) (w.seen m i a.place a.is))
+        ]) _ (take_whole (SeenFrom marks starts i) _ a.place (slice_get_past _ _ seen_all) (w.seen m i a.place a.is))
       where
         seen_all : length (named_in graph m) ≤ a.place
         seen_all = elim (w.ended m i a.place a.is) [
@@ -310,7 +311,7 @@ module _ (graph : List (List ℕ)) (marks : List Mark) (met starts path : List �
 
         named_done : AllByRecursion (IsDone marks) (named_in graph top)
         named_done =
-            all_named (named_in graph top) (λ x h. h) (take_whole (SeenFrom marks starts index) _ place (past_end _ _ whole) (w.seen top index place here))
+            all_named (named_in graph top) (λ x h. h) (take_whole (SeenFrom marks starts index) _ place (slice_get_past _ _ whole) (w.seen top index place here))
           where
             all_named : (ms : List ℕ) → ((x : ℕ) → Among x ms → Among x (named_in graph top)) → AllByRecursion (SeenFrom marks starts index) ms → AllByRecursion (IsDone marks) ms
             all_named [] f h = tt
@@ -354,7 +355,7 @@ module _ (graph : List (List ℕ)) (marks : List Mark) (met starts path : List �
       begun = λ s a. rw (take_index index met s (lower s a)) (before s (still s a) (λ e. (let l : s < index = lower s a in absurd (omega (arith, e, l)))));
       based = λ i h. (let l : i < index = omega (arith, h, shorter) in let b = w.based i (omega (arith, l, in_met)) in (b.0, elim (among_parts b.0 index xs (subst (Among b.0) begun b.1)) [ inl e ↦ absurd (omega (arith, e, b.2, l)) | inr a ↦ a ], b.2));
       climbs = climbs_as marks new.marks path (λ y i h a. record { place = a.place; is = (back y i a.place a.is).0 }) (climbs_parts marks path top w.climbs).0;
-      on_path = λ m a. (let o = w.on_path m (among_old m top path a) in (o.0, forth m o.0 ((climbs_parts marks path top w.climbs).1 m a o.0 index o.1 top_met) o.1));
+      on_path = λ m a. (let o = w.on_path m (among_front m top path a) in (o.0, forth m o.0 ((climbs_parts marks path top w.climbs).1 m a o.0 index o.1 top_met) o.1));
       closed = new_closed;
       cyclic = new_cyclic;
       acyclic = new_acyclic;

@@ -3,12 +3,13 @@ use Rattle.std.proofs.Common.{◌≡◌, ◌≢◌, ℕ, ◌<◌, ◌⊎◌, inl
 use Rattle.std.specs.List.{AllByRecursion}
 use Rattle.std.proofs.lemmas.List.{length-replicate, get_or_past}
 use Rattle.std.proofs.lemmas.Bool.{cases_lt}
+use Rattle.rec_bits.proofs.Faults.{among_front, among_last}
 use Rattle.net_model.specs.Order.{position_of}
 use Rattle.net_check.specs.Inner.Graphs.{named_in}
 use Rattle.net_check.specs.Inner.Walk.{stage_at, unplaced, IsWalk, Later, IsOrdering}
 use Rattle.net_check.specs.declared.walk.Stage.{Stage}
 use Rattle.net_check.specs.declared.walk.Stage.TheVariants.{New, Open, Placed}
-use Rattle.net_check.proofs.Walks.{opened, among_last, among_old, none_unplaced, set_cases}
+use Rattle.net_check.proofs.Walks.{opened, none_unplaced, set_cases}
 
 new_at : (n m : ℕ) → stage_at (replicate n New) m ≡ New
 new_at zero m = refl
@@ -40,7 +41,7 @@ module _ (graph : List (List ℕ)) (stages : List Stage) (path order : List ℕ)
   there = omega (arith, inside, w.long)
 
   pub root_walk : (later : List Stage) (on : List ℕ) → later ≡ slice_set stages root (Open 0) → on ≡ path ++ root ∷ [] → IsWalk graph later on order
-  root_walk later on es ep = rw (es, ep) (opened graph stages path order w root inside 0 (path ++ root ∷ []) (λ h. cc (fresh, h)) tt (among_last root path) (λ m h. among_old m root path h) (rw none (tt, tt))
+  root_walk later on es ep = rw (es, ep) (opened graph stages path order w root inside 0 (path ++ root ∷ []) (λ h. cc (fresh, h)) tt (among_last root path) (λ m h. among_front m root path h) (rw none (tt, tt))
       (λ m h. by_root m (rw none at h)))
     where
       by_root : (m : ℕ) → (m ≡ root) ⊎ ⊥ → m < length graph

@@ -4,12 +4,13 @@ use Rattle.std.specs.List.{AllByRecursion}
 use Rattle.std.proofs.lemmas.Bool.{cases_lt, cases_eq}
 use Rattle.std.proofs.lemmas.List.{length-set}
 use Rattle.net_model.specs.Depends.{Among, direct}
-use Rattle.rec_bits.proofs.Lists.{all_weaker}
+use Rattle.rec_bits.proofs.Lists.{all_weaker, slice_get_within}
+use Rattle.rec_bits.proofs.Faults.{among_last}
 use Rattle.net_check.specs.Inner.Graphs.{named_in}
 use Rattle.net_check.specs.Inner.Components.{mark_at, MetAt, IsDone, IsPathTo, Uncut, SeenFrom, IsSearch, IsMerged, Later, work}
 use Rattle.net_check.specs.declared.cycle.Mark.{Mark}
 use Rattle.net_check.specs.declared.cycle.Mark.TheVariants.{New, Met, Done}
-use Rattle.net_check.proofs.Walks.{among_last, among_parts, take_more, take_short}
+use Rattle.net_check.proofs.Walks.{among_parts, take_more}
 use Rattle.net_check.proofs.Marks.{set_mark, marked_inside, one_index, reach_depends, depends_reach, cut_cases, climbs_parts, climbs_as, lowered}
 
 module _ (graph : List (List ℕ)) (marks : List Mark) (met starts path : List ℕ) (top : ℕ) (w : IsSearch graph marks met starts (path ++ top ∷ [])) (index : ℕ) (here : MetAt marks top index) where
@@ -181,5 +182,5 @@ module _ (graph : List (List ℕ)) (marks : List Mark) (met starts path : List �
 
   pub on_less : (marks2 : List Mark) → marks2 ≡ set → work graph marks2 < work graph marks
   on_less marks2 em =
-      let short : place < length (named_in graph top) = take_short _ place net is in
+      let short : place < length (named_in graph top) = slice_get_within _ place net is in
       rw em (lowered graph marks top (Met index (place + 1)) (omega (arith, in_marks, w.long)) w.long (rw here (omega arith)))

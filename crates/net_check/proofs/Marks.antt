@@ -3,6 +3,7 @@ use Rattle.std.proofs.Common.{slice_set, slice_index, inl, inr, ◌≡◌, ◌�
 use Rattle.std.specs.List.{AllByRecursion}
 use Rattle.std.proofs.lemmas.Bool.{cases_eq, cases_lt}
 use Rattle.std.proofs.lemmas.List.{get_or-set_same, get_or-set_other}
+use Rattle.rec_bits.proofs.Faults.{among_front, among_last}
 use Rattle.net_model.specs.Depends.{Among, Depends, direct, via}
 use Rattle.net_model.proofs.Acyclic.{all_among}
 use Rattle.net_check.specs.Inner.Graphs.{named_in}
@@ -78,16 +79,7 @@ pub rising_parts : (xs : List ℕ) (x : ℕ) → Rising (xs ++ x ∷ []) → Ris
 rising_parts [] x r = (tt, λ y h. absurd h)
 rising_parts (z ∷ zs) x r =
     let k : Rising zs × ((y : ℕ) → Among y zs → y < x) = rising_parts zs x r.1 in
-    ((λ y h. r.0 y (among_front y x zs h), k.0), λ y h. elim h [ inl e ↦ rw e (r.0 x (last_among x zs)) | inr a ↦ k.1 y a ])
-  where
-    among_front : (y x : ℕ) (zs : List ℕ) → Among y zs → Among y (zs ++ x ∷ [])
-    among_front y x [] h = absurd h
-    among_front y x (w ∷ ws) (inl e) = inl e
-    among_front y x (w ∷ ws) (inr h) = inr (among_front y x ws h)
-
-    last_among : (x : ℕ) (zs : List ℕ) → Among x (zs ++ x ∷ [])
-    last_among x [] = inl refl
-    last_among x (w ∷ ws) = inr (last_among x ws)
+    ((λ y h. r.0 y (among_front y x zs h), k.0), λ y h. elim h [ inl e ↦ rw e (r.0 x (among_last x zs)) | inr a ↦ k.1 y a ])
 
 pub rising_more : (xs : List ℕ) (x : ℕ) → Rising xs → ((y : ℕ) → Among y xs → y < x) → Rising (xs ++ x ∷ [])
 rising_more [] x r h = (λ y a. absurd a, tt)

@@ -4,13 +4,13 @@ use Rattle.std.specs.List.{AllByRecursion}
 use Rattle.std.proofs.lemmas.Bool.{cases_lt, cases_eq}
 use Rattle.std.proofs.lemmas.List.{length-set, length_push, get_or_push}
 use Rattle.net_model.specs.Depends.{Among}
-use Rattle.rec_bits.proofs.Lists.{all_weaker}
+use Rattle.rec_bits.proofs.Lists.{all_weaker, index_old}
+use Rattle.rec_bits.proofs.Faults.{among_front, among_last}
 use Rattle.net_check.specs.Inner.Graphs.{named_in}
 use Rattle.net_check.specs.Inner.Components.{mark_at, MetAt, IsDone, IsPathTo, Uncut, SeenFrom, Climbs, IsSearch, Later, work}
 use Rattle.net_check.specs.declared.cycle.Mark.{Mark}
 use Rattle.net_check.specs.declared.cycle.Mark.TheVariants.{New, Met, Done}
-use Rattle.net_check.proofs.Walks.{among_old, among_last, among_parts}
-use Rattle.net_check.proofs.Steps.{index_old}
+use Rattle.net_check.proofs.Walks.{among_parts}
 use Rattle.net_check.proofs.Marks.{set_mark, rising_more, climbs_as, climbs_more, lowered}
 
 module _ (graph : List (List ℕ)) (marks : List Mark) (met starts path : List ℕ) (w : IsSearch graph marks met starts path) (net : ℕ) (inside : net < length graph) (fresh : mark_at marks net ≡ New) (all : (p : ℕ) → p < length met → IsPathTo graph (slice_index met p) net) where
@@ -78,7 +78,7 @@ module _ (graph : List (List ℕ)) (marks : List Mark) (met starts path : List �
   ]
 
   fewer : (p q : ℕ) → Uncut (starts ++ length met ∷ []) p q → Uncut starts p q
-  fewer p q u s h = u s (among_old s (length met) starts h)
+  fewer p q u s h = u s (among_front s (length met) starts h)
 
   new_joined : (p q : ℕ) → p < length (met ++ net ∷ []) → q < length (met ++ net ∷ []) → Uncut (starts ++ length met ∷ []) p q → IsPathTo graph (slice_index (met ++ net ∷ []) p) (slice_index (met ++ net ∷ []) q)
   new_joined p q hp hq u = elim (cases_eq p (length met)) [
@@ -116,13 +116,13 @@ module _ (graph : List (List ℕ)) (marks : List Mark) (met starts path : List �
   new_ended : (m i k : ℕ) → mark_at set m ≡ Met i k → Among m (path ++ net ∷ []) ⊎ (length (named_in graph m) ≤ k)
   new_ended m i k e = elim (cases_eq m net) [
     | inl f ↦ inl (rw f (among_last net path))
-    | inr ne ↦ elim (w.ended m i k (sym (same m ne) ∙ e)) [ inl a ↦ inl (among_old m net path a) | inr h ↦ inr h ]
+    | inr ne ↦ elim (w.ended m i k (sym (same m ne) ∙ e)) [ inl a ↦ inl (among_front m net path a) | inr h ↦ inr h ]
   ]
 
   new_begun : (s : ℕ) → Among s (starts ++ length met ∷ []) → Among (slice_index (met ++ net ∷ []) s) (path ++ net ∷ [])
   new_begun s h = elim (among_parts s (length met) starts h) [
     | inl e ↦ rw (e, at_end) (among_last net path)
-    | inr a ↦ rw (index_old met net s (w.low s a)) (among_old _ net path (w.begun s a))
+    | inr a ↦ rw (index_old met net s (w.low s a)) (among_front _ net path (w.begun s a))
   ]
 
   new_low : (s : ℕ) → Among s (starts ++ length met ∷ []) → s < length (met ++ net ∷ [])
@@ -133,7 +133,7 @@ module _ (graph : List (List ℕ)) (marks : List Mark) (met starts path : List �
 
   new_based : (i : ℕ) → i < length (met ++ net ∷ []) → (s : ℕ) × Among s (starts ++ length met ∷ []) × (s ≤ i)
   new_based i h = elim (cases_lt i (length met)) [
-    | inl l ↦ let b = w.based i l in (b.0, among_old b.0 (length met) starts b.1, b.2)
+    | inl l ↦ let b = w.based i l in (b.0, among_front b.0 (length met) starts b.1, b.2)
     | inr g ↦ (length met, among_last (length met) starts, g)
   ]
 

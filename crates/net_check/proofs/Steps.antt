@@ -1,18 +1,19 @@
 -- What each arm of a step keeps.
-use Rattle.std.proofs.Common.{slice_set, slice_get, slice_index, inl, inr, if◌then◌else◌, ◌≡◌, ◌≢◌, ℕ, ◌+◌, ◌<◌, ◌==◌, Bool, true, false, List, [], ◌∷◌, ◌++◌, Some, None, length, take, sym, ◌∙◌, ap, arith, subst, refl, zero, suc}
+use Rattle.std.proofs.Common.{slice_set, slice_get, slice_index, inl, inr, if◌then◌else◌, ◌≡◌, ◌≢◌, ℕ, ◌+◌, ◌<◌, ◌==◌, Bool, true, false, List, [], ◌∷◌, ◌++◌, Some, None, length, take, sym, ◌∙◌, ap, arith, subst, refl, suc}
 use Rattle.std.specs.List.{AllByRecursion}
 use Rattle.std.proofs.lemmas.Bool.{cases_eq, eq-eqb, ne_eqb}
 use Rattle.std.proofs.lemmas.List.{get_or-set_same, get_or-set_other, length-set, length_push, get_or_push}
 use Rattle.net_model.specs.Order.{position_of}
 use Rattle.net_model.specs.Depends.{Depends}
-use Rattle.rec_bits.proofs.Lists.{all_weaker}
+use Rattle.rec_bits.proofs.Lists.{all_weaker, slice_get_within, all_at, index_old}
+use Rattle.rec_bits.proofs.Faults.{among_front, among_last}
 use Rattle.net_model.specs.Depends.{Among}
 use Rattle.net_check.specs.Inner.Graphs.{named_in, InRange}
 use Rattle.net_check.specs.Inner.Walk.{stage_at, IsWalk, GoesOn}
 use Rattle.net_check.specs.declared.walk.Stage.{Stage}
 use Rattle.net_check.specs.declared.walk.Stage.TheVariants.{New, Open, Placed}
 use Rattle.net_check.specs.declared.walk.Walk.{Walk}
-use Rattle.net_check.proofs.Walks.{less_unplaced, eased, all_at, among_at, take_more, take_whole, take_short, among_old, among_last, among_parts, linked_front, linked_push, cycle, set_cases, lowered, opened}
+use Rattle.net_check.proofs.Walks.{less_unplaced, eased, among_at, take_more, take_whole, among_parts, linked_front, linked_push, cycle, set_cases, lowered, opened}
 
 -- places in an order with one more net
 pick_old : (b : Bool) (p q l : ℕ) → (p < l → q ≡ p) → (if b then 0 else (p + 1)) < suc l → (if b then 0 else (q + 1)) ≡ (if b then 0 else (p + 1))
@@ -39,11 +40,6 @@ pub place_other : (xs : List ℕ) (x m : ℕ) → (x ≡ m → ⊥) → position
 place_other [] x m ne h = absurd (let k = rw (ne_eqb x m ne) at h in omega arith)
 place_other (y ∷ ys) x m ne h = pick_other (y == m) (position_of ys m) (position_of (ys ++ x ∷ []) m) (length ys) (place_other ys x m ne) h
 
-pub index_old : (xs : List ℕ) (x i : ℕ) → i < length xs → slice_index (xs ++ x ∷ []) i ≡ slice_index xs i
-index_old [] x i h = absurd (omega arith)
-index_old (y ∷ ys) x zero h = refl
-index_old (y ∷ ys) x (suc i) h = index_old ys x i (omega arith)
-
 module _ (graph : List (List ℕ)) (range : InRange graph) (old : Walk) (top : ℕ) (w : IsWalk graph old.stages (old.path ++ top ∷ []) old.order) where
   inside : top < length graph
   inside = w.inside top (among_last top old.path)
@@ -62,7 +58,7 @@ module _ (graph : List (List ℕ)) (range : InRange graph) (old : Walk) (top : �
         | inr a ↦ a
       ];
       linked = linked_front graph top old.path w.linked;
-      inside = λ m h. w.inside m (among_old m top old.path h);
+      inside = λ m h. w.inside m (among_front m top old.path h);
       range = w.range;
       whole = w.whole;
     };
@@ -86,7 +82,7 @@ module _ (graph : List (List ℕ)) (range : InRange graph) (old : Walk) (top : �
         | inr e ↦ sym (e.1) ∙ h
       ];
       less =
-          let short : k < length (named_in graph top) = take_short _ k net at in
+          let short : k < length (named_in graph top) = slice_get_within _ k net at in
           let low = lowered graph old.stages top (Open (k + 1)) inside w.long (rw here (omega arith)) in
           omega (arith, low);
     })
@@ -97,7 +93,7 @@ module _ (graph : List (List ℕ)) (range : InRange graph) (old : Walk) (top : �
         → GoesOn graph (old.path ++ top ∷ []) old (record { stages = stages; path = path2; order = old.order })
     goes_new net at fresh stages path path2 es ep e2 = rw (es, e2, ep) (record {
       kept = opened graph old.stages (old.path ++ top ∷ []) old.order w net net_in 0 ((old.path ++ top ∷ []) ++ net ∷ []) (λ h. cc (fresh, h))
-          tt (among_last net _) (λ m h. among_old m net _ h) (linked_push graph top net old.path w.linked (among_at _ k net at))
+          tt (among_last net _) (λ m h. among_front m net _ h) (linked_push graph top net old.path w.linked (among_at _ k net at))
           (λ m h. elim (among_parts m net _ h) [ inl e ↦ subst (λ (x : ℕ). x < length graph) (sym e) net_in | inr a ↦ w.inside m a ]);
       later = λ m h. elim (set_cases old.stages net m (Open 0) (omega (arith, net_in, w.long))) [
         | inl e ↦ absurd (cc (e.1, h))
@@ -187,7 +183,7 @@ module _ (graph : List (List ℕ)) (range : InRange graph) (old : Walk) (top : �
           seen = seen;
           kept = kept;
           linked = linked_front graph top old.path w.linked;
-          inside = λ m h. w.inside m (among_old m top old.path h);
+          inside = λ m h. w.inside m (among_front m top old.path h);
           range = ranged;
           whole = omega (arith, w.whole, longer, less_unplaced old.stages top in_stages open_not_placed, length-set old.stages top Placed);
         };

@@ -4,24 +4,16 @@ use Rattle.std.specs.List.{AllByRecursion}
 use Rattle.std.proofs.lemmas.Bool.{cases_eq}
 use Rattle.std.proofs.lemmas.List.{get_or-set_same, get_or-set_other, length-set}
 use Rattle.rec_bits.proofs.Lists.{all_weaker}
+use Rattle.rec_bits.proofs.Options.{same_Some}
 use Rattle.net_model.specs.Depends.{Among, Depends, direct, via}
 use Rattle.net_check.specs.Inner.Graphs.{named_in}
 use Rattle.net_check.specs.Inner.Walk.{stage_at, Linked, unplaced, IsWalk, left, work}
 use Rattle.net_check.specs.declared.walk.Stage.{Stage}
 use Rattle.net_check.specs.declared.walk.Stage.TheVariants.{New, Open, Placed}
 
--- lists
-some_is : (x m : ℕ) → Some x ≡ Some m → x ≡ m
-some_is x m e = cc e
-
-pub all_at : (P : ℕ → Type 0) (ms : List ℕ) (k m : ℕ) → AllByRecursion P ms → slice_get ms k ≡ Some m → P m
-all_at P [] k m h e = absurd (cc e)
-all_at P (x ∷ xs) zero m h e = subst P (some_is x m e) h.0
-all_at P (x ∷ xs) (suc k) m h e = all_at P xs k m h.1 e
-
 pub among_at : (ms : List ℕ) (k m : ℕ) → slice_get ms k ≡ Some m → Among m ms
 among_at [] k m e = absurd (cc e)
-among_at (x ∷ xs) zero m e = inl (sym (some_is x m e))
+among_at (x ∷ xs) zero m e = inl (sym (same_Some x m e))
 among_at (x ∷ xs) (suc k) m e = inr (among_at xs k m e)
 
 pub take_more : (P : ℕ → Type 0) (ms : List ℕ) (k m : ℕ) → slice_get ms k ≡ Some m → AllByRecursion P (take k ms) → P m → AllByRecursion P (take (k + 1) ms)
@@ -29,28 +21,13 @@ take_more P ms k m e h p = rw add-one (go ms k e h)
   where
     go : (ms : List ℕ) (k : ℕ) → slice_get ms k ≡ Some m → AllByRecursion P (take k ms) → AllByRecursion P (take (suc k) ms)
     go [] k e h = tt
-    go (x ∷ xs) zero e h = (subst P (sym (some_is x m e)) p, tt)
+    go (x ∷ xs) zero e h = (subst P (sym (same_Some x m e)) p, tt)
     go (x ∷ xs) (suc k) e h = (h.0, go xs k e h.1)
 
 pub take_whole : (P : ℕ → Type 0) (ms : List ℕ) (k : ℕ) → slice_get ms k ≡ None → AllByRecursion P (take k ms) → AllByRecursion P ms
 take_whole P [] k e h = tt
 take_whole P (x ∷ xs) zero e h = absurd (cc e)
 take_whole P (x ∷ xs) (suc k) e h = (h.0, take_whole P xs k e h.1)
-
-pub take_short : (ms : List ℕ) (k m : ℕ) → slice_get ms k ≡ Some m → k < length ms
-take_short [] k m e = absurd (cc e)
-take_short (x ∷ xs) zero m e = omega arith
-take_short (x ∷ xs) (suc k) m e = let h : k < length xs = take_short xs k m e in omega arith
-
--- paths
-pub among_old : (m x : ℕ) (xs : List ℕ) → Among m xs → Among m (xs ++ x ∷ [])
-among_old m x [] h = absurd h
-among_old m x (y ∷ ys) (inl e) = inl e
-among_old m x (y ∷ ys) (inr h) = inr (among_old m x ys h)
-
-pub among_last : (x : ℕ) (xs : List ℕ) → Among x (xs ++ x ∷ [])
-among_last x [] = inl refl
-among_last x (y ∷ ys) = inr (among_last x ys)
 
 pub among_parts : (m x : ℕ) (xs : List ℕ) → Among m (xs ++ x ∷ []) → (m ≡ x) ⊎ Among m xs
 among_parts m x [] (inl e) = inl e
@@ -175,8 +152,3 @@ pub read_at : (ms : List ℕ) (k : ℕ) → k < length ms → slice_get ms k ≡
 read_at [] k h = absurd (omega arith)
 read_at (x ∷ xs) zero h = refl
 read_at (x ∷ xs) (suc k) h = read_at xs k (omega arith)
-
-pub past_end : (ms : List ℕ) (k : ℕ) → length ms ≤ k → slice_get ms k ≡ None
-past_end [] k h = refl
-past_end (x ∷ xs) zero h = absurd (omega arith)
-past_end (x ∷ xs) (suc k) h = past_end xs k (omega arith)

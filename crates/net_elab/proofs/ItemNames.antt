@@ -1,6 +1,5 @@
 -- Storages and codes have different names where items have.
-use Rattle.std.proofs.Common.{ℕ, ◌≡◌, ◌+◌, false, not, List, [], ◌∷◌, ◌++◌, map, refl, ◌∙◌, arith, IsTrue, nat_eq}
-use Rattle.std.proofs.lemmas.Bool.Decides.{nat_tests}
+use Rattle.std.proofs.Common.{ℕ, ◌≡◌, ◌+◌, false, not, List, [], ◌∷◌, ◌++◌, map, refl, ◌∙◌, IsTrue}
 use Rattle.std.specs.List.{AllByRecursion, IsDistinct}
 use Rattle.net_model.specs.declared.hardware.Space.TheVariants.{Memory as InMemory, File as InFile}
 use Rattle.net_model.specs.declared.hardware.Code.{Code}
@@ -15,6 +14,7 @@ use Rattle.net_model.specs.DriverRules.{names_new}
 use Rattle.net_model.specs.Numbering.{count_item}
 use Rattle.net_model.specs.Elaborated.{codes_from, netlist_in, storages_from}
 use Rattle.rec_bits.proofs.Booleans.{and_left, and_right, not_true, left_false, right_false}
+use Rattle.rec_bits.proofs.Equality.{number_turned}
 
 abbrev code_name : Code → List ℕ
 code_name made = made.name
@@ -23,14 +23,11 @@ code_name made = made.name
 abbrev pub Fresh : List ℕ → List (List ℕ) → Type 0
 Fresh name names = AllByRecursion (λ y. same_name name y ≡ false) names
 
-eq_sym : (a b : ℕ) → nat_eq a b ≡ nat_eq b a
-eq_sym a b = grind (arith, nat_tests)
-
 same_sym : (a b : List ℕ) → same_name a b ≡ same_name b a
 same_sym [] [] = refl
 same_sym [] (y ∷ ys) = refl
 same_sym (x ∷ xs) [] = refl
-same_sym (x ∷ xs) (y ∷ ys) = rw (eq_sym x y, same_sym xs ys) refl
+same_sym (x ∷ xs) (y ∷ ys) = rw (number_turned x y, same_sym xs ys) refl
 
 fresh_from : (name : List ℕ) (before names : List (List ℕ)) → ((m : List ℕ) → is_among before m ≡ false → same_name name m ≡ false) → IsTrue (names_new before names) → Fresh name names
 fresh_from name before [] f h = tt

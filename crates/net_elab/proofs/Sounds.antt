@@ -1,5 +1,5 @@
 -- In a text that keeps the rules, names stand for nets, wires and memories of their widths.
-use Rattle.std.proofs.Common.{ℕ, zero, suc, ◌≡◌, ◌+◌, ◌-◌, true, false, List, [], ◌∷◌, ◌++◌, Option, Some, None, slice_get, slice_index, refl, sym, ap, subst, arith, length-append, IsTrue}
+use Rattle.std.proofs.Common.{ℕ, ◌≡◌, ◌+◌, ◌-◌, true, false, List, [], ◌++◌, Option, Some, None, slice_get, slice_index, refl, sym, ap, subst, arith, length-append, IsTrue}
 use Rattle.std.specs.List.{AllByRecursion, list_all}
 use Rattle.grammar.specs.declared.words.Ident.{Ident}
 use Rattle.net_model.specs.declared.hardware.Cells.{Cells}
@@ -21,16 +21,12 @@ use Rattle.net_model.specs.Numbering.{SiteModel, of_text, count, count_inputs, c
 use Rattle.net_model.specs.Elaborated.{storage_in, codes_from, elaborated_drivers, equations_nets, inputs_nets, inside, nets_from, nets_if, elaborated, netlist_in, out_of, output_wires, part_nets, storages_from}
 use Rattle.net_elab.proofs.Standing.{Stands, stands_left, stands_right, stands_self, length_drivers, length_if, length_inputs, length_nets, length_outputs}
 use Rattle.rec_bits.proofs.Booleans.{and_right}
+use Rattle.rec_bits.proofs.Lists.{all_at}
 use Rattle.net_elab.proofs.Kept.{SiteSound, width_range}
 use Rattle.net_elab.proofs.Ports.{port_keeps}
 use Rattle.net_elab.proofs.Places.{AllLocated, FoundItem, Located, locate, plain_at, wire_in, wire_out}
 
 -- ---- what is asked of each item holds of the one at a place
-
-pub all_at : {A : Type 0} (P : A → Type 0) (xs : List A) (i : ℕ) (x : A) → AllByRecursion P xs → slice_get xs i ≡ Some x → P x
-all_at P [] i x h e = absurd (cc e)
-all_at P (y ∷ ys) zero x h e = subst P (let s : y ≡ x = cc in s) h.0
-all_at P (y ∷ ys) (suc i) x h e = all_at P ys i x h.1 e
 
 pub record ValueItem (o : Option UnitModel) (w : ℕ) : Type 0 where
   pub entry : UnitModel

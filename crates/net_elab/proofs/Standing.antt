@@ -1,6 +1,7 @@
 -- Lists that stand within a list from a place on, and how long the lists of nets are.
 use Rattle.std.proofs.Common.{ℕ, ◌≡◌, ◌+◌, Bool, true, false, if◌then◌else◌, List, [], ◌∷◌, ◌++◌, length, Option, Some, None, slice_get, refl, ap, ◌∙◌, subst, arith, append_assoc, length-append}
 use Rattle.std.proofs.lemmas.Option.{slice_get_within}
+use Rattle.rec_bits.proofs.Lists.{get_seam}
 use Rattle.grammar.specs.declared.words.Ident.{Ident}
 use Rattle.net_model.specs.declared.units.Port.{Port}
 use Rattle.net_model.specs.declared.hardware.Netlist.{Netlist}
@@ -26,14 +27,10 @@ pub stands_right : {A : Type 0} (all : List A) (start m : ℕ) (xs ys : List A) 
 stands_right all start m [] ys e h = subst (λ (n : ℕ). Stands all n ys) (let k : start ≡ m = omega arith in k) h
 stands_right all start m (x ∷ xs) ys e h = stands_right all (start + 1) m xs ys (omega arith) h.1
 
-slice_here : {A : Type 0} (pre xs : List A) (x : A) → slice_get (pre ++ x ∷ xs) (length pre) ≡ Some x
-slice_here [] xs x = refl
-slice_here (p ∷ pre) xs x = slice_here pre xs x
-
 stands_behind : {A : Type 0} (pre xs : List A) (all : List A) (n : ℕ) → pre ++ xs ≡ all → n ≡ length pre → Stands all n xs
 stands_behind pre [] all n e l = tt
 stands_behind pre (x ∷ xs) all n e l = (
-  subst (λ (ys : List _). slice_get ys n ≡ Some x) e (rw l (slice_here pre xs x)),
+  subst (λ (ys : List _). slice_get ys n ≡ Some x) e (rw l (get_seam pre x xs)),
   stands_behind (pre ++ x ∷ []) xs all (n + 1) (append_assoc pre (x ∷ []) xs ∙ e) (omega (arith, length-append pre (x ∷ []))),
 )
 

@@ -3,12 +3,12 @@ use Rattle.std.proofs.Common.{◌≡◌, ℕ, ◌<◌, ◌^◌, length, slice_ge
 use Rattle.std.proofs.Math.ListN.{replicate}
 use Rattle.std.proofs.lemmas.List.{length-replicate}
 use Rattle.std.proofs.lemmas.Nat.{pow_pos}
+use Rattle.rec_bits.proofs.Lists.{zeros_at}
 use Rattle.net_model.specs.declared.hardware.Netlist.{Netlist}
 use Rattle.net_model.specs.declared.hardware.Space.TheVariants.{Memory as InMemory, File as InFile}
 use Rattle.net_model.specs.MemoryText.{blank}
 use Rattle.net_model.specs.Nets.{held, size_in, storage_bits, width_in}
 use Rattle.net_model.specs.Widths.{IsState}
-use Rattle.net_model.proofs.Fits.{zeros_at}
 use Rattle.net_model.proofs.Spaces.{by_space}
 
 pub zeros_below : (n w k : ℕ) → slice_index (replicate n 0) k < 2 ^ w

@@ -1,10 +1,11 @@
 -- The values of a typed netlist fit their widths.
-use Rattle.std.proofs.Common.{lit<, inl, inr, ◌≡◌, ℕ, ◌+◌, ◌-◌, ◌^◌, ◌<◌, ◌≤◌, ◌==◌, List, [], ◌∷◌, Option, Some, None, length, sym, arith, subst, slice_get, slice_index, zero, suc, refl, replicate}
+use Rattle.std.proofs.Common.{lit<, inl, inr, ◌≡◌, ℕ, ◌+◌, ◌-◌, ◌^◌, ◌<◌, ◌≤◌, ◌==◌, List, [], ◌∷◌, Option, Some, None, length, sym, arith, subst, slice_get, slice_index, zero, suc, replicate}
 use Rattle.std.proofs.lemmas.Nat.{pow_pos, mod_below}
 use Rattle.std.proofs.Math.Nat.{pow-le-pow_right}
 use Rattle.std.proofs.lemmas.Option.{slice_get_cases}
 use Rattle.rec_bits.specs.Operators.{apply2_of, slice_of, cat_of}
 use Rattle.rec_bits.proofs.Fits.{cond_below, apply1_fits, apply2_fits, cat_below, sext_below}
+use Rattle.rec_bits.proofs.Lists.{zeros_at}
 use Rattle.net_model.specs.declared.hardware.Netlist.{Netlist}
 use Rattle.net_model.specs.declared.hardware.Net.{Net}
 use Rattle.net_model.specs.declared.hardware.Gate.{Gate}
@@ -70,11 +71,6 @@ typed_width netlist n t h =
     ]
 
 -- ---- values of 0
-
-pub zeros_at : (n k : ℕ) → slice_index (replicate n 0) k ≡ 0
-zeros_at zero k = refl
-zeros_at (suc n) zero = refl
-zeros_at (suc n) (suc k) = zeros_at n k
 
 pub zeros_fit : (netlist : Netlist) (n : ℕ) → ValuesFit netlist (slice_index (replicate n 0))
 zeros_fit netlist n = record { fits = λ m. rw zeros_at (pow_pos (width_at netlist m)) }

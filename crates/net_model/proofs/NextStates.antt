@@ -3,6 +3,8 @@ use Rattle.std.proofs.Common.{◌≡◌, ℕ, ◌^◌, ◌<◌, List, [], ◌∷
 use Rattle.std.specs.List.{AllByRecursion}
 use Rattle.std.proofs.lemmas.Nat.{pow_pos}
 use Rattle.std.proofs.lemmas.List.{length-set}
+use Rattle.rec_bits.proofs.Booleans.{cond_below}
+use Rattle.rec_bits.proofs.Lists.{set_below}
 use Rattle.net_model.specs.declared.hardware.Netlist.{Netlist}
 use Rattle.net_model.specs.declared.hardware.Storage.{Storage}
 use Rattle.net_model.specs.declared.hardware.Storage.TheVariants.{Register, Memory, File}
@@ -13,13 +15,6 @@ use Rattle.net_model.specs.declared.states.State.{State}
 use Rattle.net_model.specs.Nets.{width_at, array_in, array_width, held, width_in, storage_bits}
 use Rattle.net_model.specs.Widths.{ArrayFits, IsState, IsTyped, StorageFits, ValuesFit}
 use Rattle.net_model.specs.Clock.{written, next_cells, next_reg, next_regs, next_state, is_enabled}
-
-pub set_fits : (cells : List ℕ) (i x n : ℕ) → ((a : ℕ) → slice_index cells a < n) → x < n → (a : ℕ) → slice_index (slice_set cells i x) a < n
-set_fits [] i x n h k a = h a
-set_fits (c ∷ cs) zero x n h k zero = k
-set_fits (c ∷ cs) zero x n h k (suc a) = h (suc a)
-set_fits (c ∷ cs) (suc i) x n h k zero = h 0
-set_fits (c ∷ cs) (suc i) x n h k (suc a) = set_fits cs i x n (λ b. h (suc b)) k a
 
 -- what feeds the cells of a space fits
 abbrev ArrayOkIn : Netlist → Option Cells → Type 0
@@ -39,12 +34,8 @@ module _ (netlist : Netlist) (v : ℕ → ℕ) (fit : ValuesFit netlist v) where
   at_width : (m width : ℕ) → width_at netlist m ≡ width → v m < 2 ^ width
   at_width m width e = subst (λ w. v m < 2 ^ w) e (fit.fits m)
 
-  pick : (b : Bool) (x y n : ℕ) → x < n → y < n → cond b x y < n
-  pick true x y n h k = h
-  pick false x y n h k = k
-
   reg_fits : (storage : Storage) (old : ℕ) → StorageFits netlist storage → old < 2 ^ storage_bits (Some storage) → next_reg v storage old < 2 ^ storage_bits (Some storage)
-  reg_fits (Register name width input when) old t h = pick (is_enabled v when) _ _ _ (at_width input width t.0.1) h
+  reg_fits (Register name width input when) old t h = cond_below (is_enabled v when) _ _ _ (at_width input width t.0.1) h
   reg_fits (Memory cells) old t h = h
   reg_fits (File cells) old t h = h
 
@@ -64,7 +55,7 @@ module _ (netlist : Netlist) (v : ℕ → ℕ) (fit : ValuesFit netlist v) where
   written_fits (Some cells) olds t h a = by (is_enabled v cells.when) a
     where
       by : (b : Bool) (a : ℕ) → slice_index (cond b (slice_set olds (v cells.addr) (v cells.value)) olds) a < 2 ^ cells.width
-      by true a = set_fits olds (v cells.addr) (v cells.value) (2 ^ cells.width) h (at_width cells.value cells.width t.0.1) a
+      by true a = set_below (2 ^ cells.width) olds (v cells.addr) (v cells.value) h (at_width cells.value cells.width t.0.1) a
       by false a = h a
 
   pub cells_fit : (space : Space) (storages : List Storage) (olds : List ℕ) → AllByRecursion (StorageFits netlist) storages → ((a : ℕ) → slice_index olds a < 2 ^ width_in space storages) → (a : ℕ) → slice_index (next_cells v space storages olds) a < 2 ^ width_in space storages

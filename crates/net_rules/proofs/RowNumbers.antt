@@ -3,6 +3,7 @@ use Rattle.std.proofs.Common.{ℕ, ◌≡◌, ◌+◌, ◌^◌, ◌<◌, ◌≤�
 use Rattle.std.specs.List.{list_any}
 use Rattle.std.proofs.Math.Nat.{pow-le-pow_right}
 use Rattle.std.proofs.lemmas.Bool.{ne_eqb}
+use Rattle.rec_bits.proofs.Booleans.{and_assoc}
 use Rattle.net_model.specs.DriverRules.{are_new, case_numbers}
 use Rattle.net_model.proofs.Cases.{Row}
 use Rattle.net_rules.proofs.Rows.{seen_rows, rows_item}
@@ -22,11 +23,7 @@ pub are_new_append : (before xs ys : List ℕ) → are_new before (xs ++ ys) ≡
 are_new_append before [] ys = ap (λ b. are_new b ys) (sym (no_name before))
 are_new_append before (x ∷ xs) ys =
     ap (λ b. not (list_any (nat_eq x) before) && b) (are_new_append (before ++ x ∷ []) xs ys ∙ ap (λ b. are_new (before ++ x ∷ []) xs && are_new b ys) (append_assoc before (x ∷ []) xs))
-    ∙ and_assoc (not (list_any (nat_eq x) before)) (are_new (before ++ x ∷ []) xs) (are_new (before ++ x ∷ xs) ys)
-  where
-    and_assoc : (a b c : Bool) → (a && (b && c)) ≡ ((a && b) && c)
-    and_assoc true b c = refl
-    and_assoc false b c = refl
+    ∙ sym (and_assoc (not (list_any (nat_eq x) before)) (are_new (before ++ x ∷ []) xs) (are_new (before ++ x ∷ xs) ys))
 
 module _ (rows : List Row) (i : ℕ) (x : Row) (there : i < length rows) (is : x ≡ get_or rows i x) (before : List ℕ) where
   parts : case_numbers (seen_rows (drop i rows)) ≡ x.0.items ++ case_numbers (seen_rows (drop (i + 1) rows))

@@ -2,7 +2,8 @@
 use Rattle.std.proofs.Common.{◌≡◌, ℕ, ◌<◌, ◌^◌, ◌==◌, nat_eq, nat_lt, if◌then◌else◌, ◌&&◌, not, Bool, true, false, List, [], ◌∷◌, ◌++◌, map, length, Option, Some, None, refl, sym, ◌∙◌, ap, arith, subst}
 use Rattle.std.specs.List.{slice_get}
 use Rattle.std.specs.Option.{option_eq}
-use Rattle.std.proofs.lemmas.Bool.{true≢false, eq-eqb, ne_eqb, ltb-false, and_parts, and_from, not_from_false, or_from, or_left, or_right}
+use Rattle.std.proofs.lemmas.Bool.{eq-eqb, ne_eqb, ltb-false, and_parts, and_from, not_from_false, or_from, or_left, or_right}
+use Rattle.rec_bits.proofs.Booleans.{not_true}
 use Rattle.bit_bdd.specs.Diagrams.{Diagrams, has_word}
 use Rattle.net_model.specs.declared.hardware.Netlist.{Netlist}
 use Rattle.net_model.specs.declared.hardware.Space.{Space}
@@ -65,10 +66,6 @@ module _ (netlist : Netlist) (order : List ℕ) (keeps : KeepsRules netlist orde
 
   wanted_from : (live written : Regs) (r : ℕ) → live r ≡ true → IsRegister (slice_get netlist.storages r) → written r ≡ false → is_wanted table live written r ≡ true
   wanted_from live written r l is w = and_from _ _ l (and_from _ _ (not_from_false _ (no_cells r is)) (not_from_false _ w))
-
-  not_true : (b : Bool) → not b ≡ true → b ≡ false
-  not_true true e = absurd (true≢false (sym e))
-  not_true false e = refl
 
   wanted_register : (live written : Regs) (r : ℕ) → is_wanted table live written r ≡ true → r < length netlist.storages → IsRegister (slice_get netlist.storages r)
   wanted_register live written r e lt =

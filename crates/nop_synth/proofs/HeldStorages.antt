@@ -1,8 +1,9 @@
 -- Words that the sets of kept storages hold keep these storages.
-use Rattle.std.proofs.Common.{◌≡◌, ℕ, zero, suc, ◌<◌, ◌^◌, inl, inr, ◌⊎◌, Bool, true, false, List, [], ◌∷◌, length, if◌then◌else◌, Option, Some, None, refl, sym, ◌∙◌, ap, arith, subst}
+use Rattle.std.proofs.Common.{◌≡◌, ℕ, zero, suc, ◌<◌, ◌^◌, inl, inr, ◌⊎◌, Bool, true, false, List, [], length, if◌then◌else◌, Option, Some, None, refl, sym, ◌∙◌, ap, arith, subst}
 use Rattle.std.specs.List.{slice_get}
 use Rattle.std.proofs.lemmas.Bool.{true≢false, and_from, cases_lt}
 use Rattle.std.proofs.lemmas.Option.{slice_get_within}
+use Rattle.rec_bits.proofs.Lists.{none_within}
 use Rattle.bit_bdd.specs.Diagrams.{Diagrams}
 use Rattle.net_model.specs.declared.hardware.Netlist.{Netlist}
 use Rattle.net_model.specs.Exprs.{keep}
@@ -30,12 +31,7 @@ module _ (netlist : Netlist) (book : Diagrams) (pool : List Node) (table : Patte
   keep_is id set e = keep_set_at netlist book pool table ready id set e
 
   keep_some : (id : ℕ) → id < length netlist.storages → slice_get table.keeps id ≡ None → ⊥
-  keep_some id lt e = past table.keeps id (subst (λ n. id < n) (sym ready.patterns.storages) lt) e
-    where
-      past : (xs : List ℕ) (i : ℕ) → i < length xs → slice_get xs i ≡ None → ⊥
-      past [] i p q = absurd (omega arith)
-      past (x ∷ xs) zero p q = cc
-      past (x ∷ xs) (suc i) p q = past xs i (omega arith) q
+  keep_some id lt e = none_within table.keeps id (subst (λ n. id < n) (sym ready.patterns.storages) lt) e
 
   -- words that the set holds keep the storage
   kept_by : (id word : ℕ) (o : Option ℕ) → slice_get table.keeps id ≡ o → word < 2 ^ book.bits → id < length netlist.storages → all_hold book (option_list o) word ≡ true → transfer_at netlist word id ≡ keep

@@ -6,6 +6,7 @@ use Rattle.std.proofs.lemmas.List.{append_assoc}
 use Rattle.std.specs.Int.{bit_at}
 use Rattle.std.proofs.lemmas.Bool.{eqb-true, eq-eqb, ne_eqb, and_parts, and_from, cases_lt}
 use Rattle.std.proofs.lemmas.Nat.Bits.{bit_at_and, bit_at-lt, same_from_bits, bit_at_above, shr_and_one}
+use Rattle.rec_bits.proofs.Booleans.{and-false, same_truth}
 use Rattle.bit_bdd.specs.Diagrams.{Diagrams, has_word}
 use Rattle.transfer_set.specs.Tables.{PatternTable}
 use Rattle.form_model.specs.Live.{Regs}
@@ -82,11 +83,6 @@ field_from mask value word m v h = same_from_bits (bit_and word mask) value at
               omega (arith, bit_at-lt word k))
         ]
 
-same_truth : (a b : Bool) → (a ≡ true → b ≡ true) → (b ≡ true → a ≡ true) → a ≡ b
-same_truth true b f g = sym (f refl)
-same_truth false true f g = g refl
-same_truth false false f g = refl
-
 -- 64 bits that agree are the value of the field
 pub field_is : (mask value word n : ℕ) → n ≡ 64 → mask < 2 ^ 64 → value < 2 ^ 64 → bits_agree mask value word n ≡ has_field mask value word
 field_is mask value word n e m v =
@@ -115,11 +111,7 @@ pub narrowed_not : (a s : Bool) (mask value word bit : ℕ) → min (bit_at word
 narrowed_not a s mask value word bit e v = and_true a ∙ ap (λ b. a && b) (sym (agrees_not mask value word bit e v))
 
 pub narrowed_never : (n a : Bool) (mask value word bit : ℕ) → n ≡ false → min (bit_at word bit) (bit_at mask bit) ≡ 0 → bit_at value bit ≡ 1 → n ≡ (a && bit_agrees mask value word bit)
-narrowed_never n a mask value word bit en e v = en ∙ sym (false_and a) ∙ ap (λ b. a && b) (sym (agrees_never mask value word bit e v))
-  where
-    false_and : (a : Bool) → (a && false) ≡ false
-    false_and true = refl
-    false_and false = refl
+narrowed_never n a mask value word bit en e v = en ∙ sym (and-false a) ∙ ap (λ b. a && b) (sym (agrees_never mask value word bit e v))
 
 -- ---- registers
 

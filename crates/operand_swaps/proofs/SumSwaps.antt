@@ -3,6 +3,7 @@ use Rattle.std.proofs.Common.{◌≡◌, ℕ, ◌^◌, ◌==◌, ◌&&◌, not, 
 use Rattle.std.proofs.lemmas.Bool.{cases_Bool}
 use Rattle.rec_bits.specs.declared.operator.Op2.{Op2}
 use Rattle.rec_bits.specs.declared.operator.Op2.TheVariants.{Add, Sub, Mul, And, Or, Xor, Shl, Shr, Sar, Eq, Ltu, Lts}
+use Rattle.rec_bits.proofs.Booleans.{and-false}
 use Rattle.net_model.specs.Exprs.{ExprModel, word, reg, const, read, un, bin, slice, cat, zext, sext, select, expr_width}
 use Rattle.form_model.specs.Shapes.{is_field, is_plain, is_plain_sum, sum_of, sum_with, summands}
 use Rattle.operand_swaps.specs.Swaps.{Path, can_swap, ordered, swap_at, swaps_here}
@@ -155,18 +156,14 @@ with_plain w c t = by (nat_le w 64 && (nat_lt c (2 ^ w) && (expr_width t == w)))
     by true = refl
     by false = refl
 
-and_none : (a : Bool) → (a && false) ≡ false
-and_none true = refl
-and_none false = refl
-
 ready_stays : (f : Path → Bool) (n : Number) (t : ExprModel) → ready n (swap_at f t) ≡ ready n t
 ready_stays f n t =
     elim (cases_Bool (is_plain t)) as (λ _. ready n (swap_at f t) ≡ ready n t) [
       | inl p ↦ ap (ready n) (plain_same f t p)
       | inr p ↦
           ap (λ b. (nat_le n.width 64 && (nat_lt n.value (2 ^ n.width) && (expr_width (swap_at f t) == n.width))) && b) (plain_stays f t ∙ p)
-          ∙ and_none (nat_le n.width 64 && (nat_lt n.value (2 ^ n.width) && (expr_width (swap_at f t) == n.width)))
-          ∙ sym (and_none (nat_le n.width 64 && (nat_lt n.value (2 ^ n.width) && (expr_width t == n.width))))
+          ∙ and-false (nat_le n.width 64 && (nat_lt n.value (2 ^ n.width) && (expr_width (swap_at f t) == n.width)))
+          ∙ sym (and-false (nat_le n.width 64 && (nat_lt n.value (2 ^ n.width) && (expr_width t == n.width))))
           ∙ ap (λ b. (nat_le n.width 64 && (nat_lt n.value (2 ^ n.width) && (expr_width t == n.width))) && b) (sym p)
     ]
 

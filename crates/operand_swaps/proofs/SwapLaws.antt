@@ -1,13 +1,13 @@
 -- A swap changes no value.
 use Rattle.std.proofs.Common.{◌≡◌, ℕ, ◌+◌, ◌%◌, ◌^◌, ◌<◌, ◌==◌, ◌&&◌, Bool, true, false, true≢false, cond, [], ◌∷◌, Option, Some, None, refl, sym, ap, subst, ◌∙◌, arith}
 use Rattle.std.specs.Prelude.{option_map, slice_index}
-use Rattle.std.proofs.lemmas.Bool.{eqb-true, eq-eqb}
 use Rattle.std.proofs.lemmas.Nat.{and_comm, or_comm, xor_comm}
 use Rattle.std.proofs.Math.Nat.{mul_comm}
 use Rattle.rec_bits.specs.declared.operator.Op1.{Op1}
 use Rattle.rec_bits.specs.declared.operator.Op2.{Op2}
 use Rattle.rec_bits.specs.declared.operator.Op2.TheVariants.{Add, Sub, Mul, And, Or, Xor, Shl, Shr, Sar, Eq, Ltu, Lts}
 use Rattle.rec_bits.specs.Operators.{apply1_of, apply2_of, bit_of, slice_of, cat_of, sext_of, result_width}
+use Rattle.rec_bits.proofs.Equality.{number_turned}
 use Rattle.std.proofs.lemmas.Bool.{and_parts}
 use Rattle.net_model.specs.Nets.{held}
 use Rattle.net_model.specs.declared.hardware.Space.{Space}
@@ -86,24 +86,13 @@ alike_select a b c d e g h k l = record {
 
 -- ---- at an operator that can be swapped
 
-eq_comm : (a b : ℕ) → (a == b) ≡ (b == a)
-eq_comm a b = by (a == b) refl
-  where
-    by : (t : Bool) → (a == b) ≡ t → t ≡ (b == a)
-    by true e = sym (eq-eqb b a (sym (eqb-true a b e)))
-    by false e = (let n : (b == a) ≡ true → ⊥ = (λ q. true≢false (sym (eq-eqb a b (sym (eqb-true b a q))) ∙ e)) in other (b == a) refl n)
-      where
-        other : (u : Bool) → (b == a) ≡ u → ((b == a) ≡ true → ⊥) → false ≡ (b == a)
-        other true q n = absurd (n q)
-        other false q n = sym q
-
 apply_comm : (o : Op2) → can_swap o ≡ true → (w a b : ℕ) → apply2_of o w b a ≡ apply2_of o w a b
 apply_comm Add c w a b = ap (λ n. n % 2 ^ w) (omega arith)
 apply_comm Mul c w a b = ap (λ n. n % 2 ^ w) (mul_comm b a)
 apply_comm And c w a b = and_comm b a
 apply_comm Or c w a b = or_comm b a
 apply_comm Xor c w a b = xor_comm b a
-apply_comm Eq c w a b = ap bit_of (eq_comm b a)
+apply_comm Eq c w a b = ap bit_of (number_turned b a)
 apply_comm Sub c w a b = absurd (true≢false (sym c))
 apply_comm Shl c w a b = absurd (true≢false (sym c))
 apply_comm Shr c w a b = absurd (true≢false (sym c))

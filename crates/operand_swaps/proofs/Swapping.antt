@@ -9,6 +9,7 @@ use Rattle.std.proofs.lemmas.Nat.Bits.{bit_at_lowest}
 use Rattle.std.specs.List.{AllByRecursion}
 use Rattle.rec_bits.proofs.Lists.{all_append, all_weaker}
 use Rattle.rec_bits.specs.declared.operator.Op2.{Op2}
+use Rattle.rec_bits.proofs.Booleans.{or-false, and-false, or_assoc}
 use Rattle.net_model.specs.Exprs.{ExprModel, word, reg, const, read, un, bin, slice, cat, zext, sext, select}
 use Rattle.operand_swaps.specs.Swaps.{Path, SidesModel, addr_paths, at_level, level_paths, levels, operator_paths, ordered, paths_from, picks, same_path, swap_at, swap_count, swapped, swaps_here, under}
 use Rattle.operand_swaps.proofs.SumSwaps.{here_stays}
@@ -16,21 +17,13 @@ use Rattle.operand_swaps.specs.Inner.LevelSwaps.{addr_swaps, left_behind, left_l
 
 -- ---- truth values
 
-or_assoc : (a b c : Bool) → (a || (b || c)) ≡ ((a || b) || c)
-or_assoc true b c = refl
-or_assoc false b c = refl
-
-or_none : (a : Bool) → (a || false) ≡ a
-or_none true = refl
-or_none false = refl
-
 -- ---- paths that a choice picks
 
 picks_append : (choice : ℕ) (ps qs : List Path) (p : Path) → picks choice (ps ++ qs) p ≡ (picks choice ps p || picks (left_behind choice ps) qs p)
 picks_append choice [] qs p = refl
 picks_append choice (first ∷ rest) qs p =
     let here : Bool = same_path first p && bit_at choice 0 == 1 in
-    ap (λ x. here || x) (picks_append (choice / 2) rest qs p) ∙ or_assoc here (picks (choice / 2) rest p) (picks (left_behind (choice / 2) rest) qs p)
+    ap (λ x. here || x) (picks_append (choice / 2) rest qs p) ∙ sym (or_assoc here (picks (choice / 2) rest p) (picks (left_behind (choice / 2) rest) qs p))
 
 picks_under : (step choice : ℕ) (ps : List Path) (p : Path) → picks choice (under step ps) (step ∷ p) ≡ picks choice ps p
 picks_under step choice [] p = refl
@@ -82,7 +75,7 @@ picks_past step other choice ps qs p e =
 -- among those of the operand that it is in, where no others follow that it is in
 picks_here : (step choice : ℕ) (ps qs : List Path) (p : Path) → ((k : ℕ) → picks k qs (step ∷ p) ≡ false) → picks choice (under step ps ++ qs) (step ∷ p) ≡ picks choice ps p
 picks_here step choice ps qs p none =
-    picks_append choice (under step ps) qs (step ∷ p) ∙ (λ j. picks_under step choice ps p j || none (left_behind choice (under step ps)) j) ∙ or_none _
+    picks_append choice (under step ps) qs (step ∷ p) ∙ (λ j. picks_under step choice ps p j || none (left_behind choice (under step ps)) j) ∙ or-false _
 
 two_first : (choice : ℕ) (ps qs : List Path) (p : Path) → picks choice (two ps qs) (0 ∷ p) ≡ picks choice ps p
 two_first choice ps qs p = picks_here 0 choice ps (under 1 qs) p (λ k. picks_other 1 0 k qs p refl)
@@ -153,10 +146,6 @@ level_left level choice (select c a b) =
 swap_same : (f g : Path → Bool) (t : ExprModel) → ((p : Path) → f p ≡ g p) → swap_at f t ≡ swap_at g t
 swap_same f g t h = (λ j. swap_at (λ p. h p j) t)
 
-and_none : (a : Bool) → (a && false) ≡ false
-and_none true = refl
-and_none false = refl
-
 swap_none : (t : ExprModel) → swap_at (λ p. false) t ≡ t
 swap_none (word w) = refl
 swap_none (reg r w) = refl
@@ -166,7 +155,7 @@ swap_none (un o a) = (λ j. un o (swap_none a j))
 swap_none (slice a hi lo) = (λ j. slice (swap_none a j) hi lo)
 swap_none (zext a w) = (λ j. zext (swap_none a j) w)
 swap_none (sext a w) = (λ j. sext (swap_none a j) w)
-swap_none (bin o a b) = (λ j. ordered (and_none (swaps_here o a b) j) o (swap_none a j) (swap_none b j))
+swap_none (bin o a b) = (λ j. ordered (and-false (swaps_here o a b) j) o (swap_none a j) (swap_none b j))
 swap_none (cat a b) = (λ j. cat (swap_none a j) (swap_none b j))
 swap_none (select c a b) = (λ j. select (swap_none c j) (swap_none a j) (swap_none b j))
 
@@ -195,7 +184,7 @@ bin_swaps o true choice ps qs a b x y d e = by (swaps_here o a b)
     by false = (λ j. ordered false o (sym (swap_none a) j) (sym (swap_none b) j))
 bin_swaps o false choice ps qs a b x y d e =
     (λ j. bin o ((d ∙ swap_same _ _ a (λ p. sym (two_first choice ps qs p))) j) ((e ∙ swap_same _ _ b (λ p. sym (two_second choice ps qs p))) j))
-    ∙ (λ j. ordered (sym (ap (λ is. swaps_here o a b && is) (two_root choice ps qs) ∙ and_none (swaps_here o a b)) j) o
+    ∙ (λ j. ordered (sym (ap (λ is. swaps_here o a b && is) (two_root choice ps qs) ∙ and-false (swaps_here o a b)) j) o
     (swap_at (λ p. picks choice (two ps qs) (0 ∷ p)) a) (swap_at (λ p. picks choice (two ps qs) (1 ∷ p)) b))
 
 cat_swaps : (here : Bool) (choice : ℕ) (ps qs : List Path) (a b x y : ExprModel)
@@ -257,8 +246,8 @@ swap_both f g (bin o a b) h =
     by true e k l =
         swap_no f (swap_at g (bin o a b)) (λ q. h [] q e) ∙ swap_same g (λ p. f p || g p) (bin o a b) (λ p. (λ j. sym (h [] p e) j || g p))
     by false e k l =
-        ap (λ is. swap_at f (ordered is o (swap_at (λ p. g (0 ∷ p)) a) (swap_at (λ p. g (1 ∷ p)) b))) (ap (λ x. swaps_here o a b && x) e ∙ and_none (swaps_here o a b))
-        ∙ (λ j. ordered (here_stays o a b (λ p. g (0 ∷ p)) (λ p. g (1 ∷ p)) j && (sym (ap (λ x. f [] || x) e ∙ or_none (f [])) j)) o (k j) (l j))
+        ap (λ is. swap_at f (ordered is o (swap_at (λ p. g (0 ∷ p)) a) (swap_at (λ p. g (1 ∷ p)) b))) (ap (λ x. swaps_here o a b && x) e ∙ and-false (swaps_here o a b))
+        ∙ (λ j. ordered (here_stays o a b (λ p. g (0 ∷ p)) (λ p. g (1 ∷ p)) j && (sym (ap (λ x. f [] || x) e ∙ or-false (f [])) j)) o (k j) (l j))
 swap_both f g (cat a b) h =
     (λ j. cat (swap_both (λ p. f (0 ∷ p)) (λ p. g (0 ∷ p)) a (λ p q. h (0 ∷ p) q) j) (swap_both (λ p. f (1 ∷ p)) (λ p. g (1 ∷ p)) b (λ p q. h (1 ∷ p) q) j))
 swap_both f g (select c a b) h =
@@ -381,7 +370,7 @@ level_stays level f (zext a w) h =
 level_stays level f (sext a w) h =
     one_stays (level == 0) level _ _ refl (λ e. level_stays (level - 1) (λ p. f (0 ∷ p)) a (λ p l. h (0 ∷ p) (deeper level 0 p e l)))
 level_stays level f (bin o a b) h =
-    ap (λ is. level_paths level (ordered is o (swap_at (λ p. f (0 ∷ p)) a) (swap_at (λ p. f (1 ∷ p)) b))) (ap (λ x. swaps_here o a b && x) (h [] (omega arith)) ∙ and_none (swaps_here o a b))
+    ap (λ is. level_paths level (ordered is o (swap_at (λ p. f (0 ∷ p)) a) (swap_at (λ p. f (1 ∷ p)) b))) (ap (λ x. swaps_here o a b && x) (h [] (omega arith)) ∙ and-false (swaps_here o a b))
     ∙ bin_stays level o a b (swap_at (λ p. f (0 ∷ p)) a) (swap_at (λ p. f (1 ∷ p)) b) (here_stays o a b (λ p. f (0 ∷ p)) (λ p. f (1 ∷ p)))
     (λ e. level_stays (level - 1) (λ p. f (0 ∷ p)) a (λ p l. h (0 ∷ p) (deeper level 0 p e l)))
     (λ e. level_stays (level - 1) (λ p. f (1 ∷ p)) b (λ p l. h (1 ∷ p) (deeper level 1 p e l)))
@@ -556,7 +545,7 @@ picks_take zero choice ps p = sym (ap (λ k. picks k ps p) (let e : choice % 1 �
   where
     picks_zero : (qs : List Path) → picks 0 qs p ≡ false
     picks_zero [] = refl
-    picks_zero (first ∷ rest) = ap (λ x. x || picks 0 rest p) (and_none (same_path first p)) ∙ picks_zero rest
+    picks_zero (first ∷ rest) = ap (λ x. x || picks 0 rest p) (and-false (same_path first p)) ∙ picks_zero rest
 picks_take (suc n) choice [] p = refl
 picks_take (suc n) choice (first ∷ rest) p =
     (λ j. (same_path first p && low j == 1) || (picks_take n (choice / 2) rest p ∙ ap (λ k. picks k rest p) half) j)

@@ -2,6 +2,7 @@
 -- jobs; and variables are in reach of addresses.
 use Rattle.std.proofs.Common.{ℕ, zero, suc, ◌≡◌, ◌≤◌, ◌+◌, List, [], ◌∷◌, ◌++◌, Option, Some, None, refl, sym, ◌∙◌, ap, arith, subst, slice_get}
 use Rattle.std.specs.List.{AllByRecursion}
+use Rattle.rec_bits.proofs.Options.{same_Some}
 use Rattle.net_model.specs.declared.hardware.Netlist.{Netlist}
 use Rattle.net_model.specs.declared.hardware.Storage.{Storage}
 use Rattle.net_model.specs.declared.hardware.Storage.TheVariants.{Register, Memory, File}
@@ -140,13 +141,10 @@ module _ (task : Task) (isas : Isas task.netlist) where
     test_plan [] plans k job s c e aim = absurd (cc e)
     test_plan (t ∷ jobs) [] k job s c e aim = absurd c
     test_plan (t ∷ jobs) (d ∷ plans) zero job s c e aim =
-        let same : t ≡ job = (λ (x y : JobModel) (h : Some x ≡ Some y). one_of x y h) t job e in
+        let same : t ≡ job = (λ (x y : JobModel) (h : Some x ≡ Some y). same_Some x y h) t job e in
         let goes : t.destination ≡ tested = ap (λ (x : JobModel). x.destination) same ∙ aim in
         let mode : d.mode ≡ 0 = subst (λ (x : DestinationModel). MayRunIn x d.mode) goes c.0.may in
         (d, refl, subst (λ x. IsCovered (own_kit 0).stock x d.choice) same (subst (λ v. IsCovered (own_kit v).stock t d.choice) mode (covered_of task.width (own_kit d.mode).stock (reads d.mode) most t d.choice s.0 c.0.chosen)))
-      where
-        one_of : (x y : JobModel) → Some x ≡ Some y → x ≡ y
-        one_of x y h = cc
     test_plan (t ∷ jobs) (d ∷ plans) (suc k) job s c e aim = test_plan jobs plans k job s.1 c.1 e aim
 
 -- addresses of the data memory have some bits

@@ -2,6 +2,7 @@
 use Rattle.std.proofs.Common.{ℕ, zero, suc, ◌≡◌, ◌≤◌, ◌<◌, ◌+◌, ◌^◌, inl, inr, Bool, true, false, List, [], ◌∷◌, length, Option, Some, None, slice_get, refl, sym, ◌∙◌, ap, arith, subst}
 use Rattle.std.proofs.lemmas.Bool.{cases_eq}
 use Rattle.std.proofs.Math.Nat.{pow-le-pow_right}
+use Rattle.rec_bits.proofs.Lists.{slice_get_within}
 use Rattle.net_model.specs.declared.hardware.Netlist.{Netlist}
 use Rattle.net_model.specs.declared.hardware.Storage.{Storage}
 use Rattle.net_model.specs.declared.hardware.Storage.TheVariants.{Register, Memory, File}
@@ -38,12 +39,6 @@ use Rattle.right_code.specs.Inner.Blocks.{AreSectionsMade, IsBlockMade, IsKit, I
 use Rattle.right_code.proofs.Walked.{block_does, word_puts}
 use Rattle.right_code.proofs.Forked.{fork_does, leads}
 
--- a place at which something stands is one of the list
-pub there : {A : Type 0} (xs : List A) (k : ℕ) (x : A) → slice_get xs k ≡ Some x → k < length xs
-there [] k x e = absurd (cc e)
-there (y ∷ xs) zero x e = omega arith
-there (y ∷ xs) (suc k) x e = let h = there xs k x e in omega (arith, h)
-
 -- a part that isn't the end
 abbrev pub is_end : LayoutPart → Bool
 is_end End = true
@@ -65,7 +60,7 @@ pub before_end : (forms : List FormModel) (flow : List Flow) (end : ℕ) (parts 
 before_end forms flow end parts k p f fit e stays =
     let n : length parts ≡ length flow = fit_length forms flow 0 flow parts fit in
     let long : length flow ≡ end + 1 = f.long in
-    let l : k < length parts = there parts k p e in
+    let l : k < length parts = slice_get_within parts k p e in
     let at = part_at forms flow 0 flow parts end end Ended fit f.last (omega arith) in
     let last = ended forms flow end at.0 at.2 in
     let one : 1 ≤ room at.0 = last.1 in

@@ -1,5 +1,6 @@
 -- A chosen cover of a small tree has cells for all its cuts.
 use Rattle.std.proofs.Common.{ℕ, ◌≡◌, ◌≤◌, List, [], ◌∷◌, Some, slice_get, subst, arith, zero, suc}
+use Rattle.rec_bits.proofs.Options.{same_Some}
 use Rattle.net_model.specs.Exprs.{ExprModel}
 use Rattle.form_model.specs.Forms.{DestinationModel, into, cell, filed, stored, temporary, tested}
 use Rattle.form_model.specs.Covers.{StockModel, JobCoverModel, IsChosen}
@@ -34,10 +35,7 @@ all_trees bits temps most destination (t ∷ trees) h = (h.0, all_trees bits tem
 
 cells_for : (bits temps most : ℕ) (destination : DestinationModel) (trees : List ExprModel) (k : ℕ) (t : ExprModel) → TreesAre bits temps most destination trees → slice_get trees k ≡ Some t → tree_temps bits destination t ≤ temps
 cells_for bits temps most destination [] k t h e = absurd (cc e)
-cells_for bits temps most destination (x ∷ trees) zero t h e = subst (λ y. tree_temps bits destination y ≤ temps) (one x t e) h.1
-  where
-    one : (x t : ExprModel) → Some x ≡ Some t → x ≡ t
-    one x t e = cc
+cells_for bits temps most destination (x ∷ trees) zero t h e = subst (λ y. tree_temps bits destination y ≤ temps) (same_Some x t e) h.1
 cells_for bits temps most destination (x ∷ trees) (suc k) t h e = cells_for bits temps most destination trees k t h.3 e
 
 -- the chosen cover of a job of small trees

@@ -3,6 +3,7 @@ use Rattle.std.proofs.Common.{◌≡◌, ℕ, zero, suc, ◌+◌, ◌&&◌, ◌|
 use Rattle.std.specs.Prelude.{is_some}
 use Rattle.std.proofs.lemmas.Bool.{and_parts}
 use Rattle.rec_bits.specs.declared.operator.Op2.{Op2}
+use Rattle.rec_bits.proofs.Booleans.{or_comm}
 use Rattle.net_model.specs.declared.hardware.Space.TheVariants.{Memory as InMemory, File as InFile}
 use Rattle.net_model.specs.Exprs.{ExprModel, word, reg, const, read, un, bin, slice, cat, zext, sext, select}
 use Rattle.form_model.specs.Matches.{HomeModel, in_file}
@@ -84,13 +85,7 @@ abbrev pub reads_at : ExprModel → ExprModel → Bool
 reads_at at t = is_some (tied_place at t)
 
 turned_reads : (at : ExprModel) (s : Bool) (o : Op2) (a b : ExprModel) → reads_at at (ordered s o a b) ≡ (reads_at at a || reads_at at b)
-turned_reads at true o a b = either_tied b (tied_place at b) (tied_place at a) ∙ turned (reads_at at b) (reads_at at a)
-  where
-    turned : (x y : Bool) → (x || y) ≡ (y || x)
-    turned true true = refl
-    turned true false = refl
-    turned false true = refl
-    turned false false = refl
+turned_reads at true o a b = either_tied b (tied_place at b) (tied_place at a) ∙ or_comm (reads_at at b) (reads_at at a)
 turned_reads at false o a b = either_tied a (tied_place at a) (tied_place at b)
 
 -- swaps leave it

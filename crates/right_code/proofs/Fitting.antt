@@ -1,6 +1,6 @@
 -- Each word of the code fits the netlist.
 use Rattle.compaction.specs.Laws.{operation_in}
-use Rattle.std.proofs.Common.{ℕ, zero, suc, ◌≡◌, ◌≤◌, ◌<◌, ◌+◌, ◌-◌, ◌&&◌, inl, inr, Bool, true, false, nat_lt, not, List, [], ◌∷◌, ◌++◌, length, Option, Some, None, refl, sym, ◌∙◌, ap, subst, arith, slice_get, slice_index, ◌^◌}
+use Rattle.std.proofs.Common.{ℕ, zero, suc, ◌≡◌, ◌≤◌, ◌<◌, ◌+◌, ◌-◌, ◌&&◌, inl, inr, Bool, true, false, nat_lt, not, List, [], ◌∷◌, ◌++◌, length, Option, Some, refl, sym, ◌∙◌, ap, subst, arith, slice_get, slice_index, ◌^◌}
 use Rattle.std.proofs.lemmas.Bool.{and_parts, cases_lt, cases_eq}
 use Rattle.std.proofs.lemmas.List.{get_or_past}
 use Rattle.net_model.specs.declared.hardware.Netlist.{Netlist}
@@ -25,6 +25,8 @@ use Rattle.branch_fix.specs.declared.part.LayoutPart.TheVariants.{Block, Inner, 
 use Rattle.branch_fix.proofs.Addresses.{part_at, fit_length}
 use Rattle.branch_fix.proofs.Laying.{settled_fit}
 use Rattle.std.specs.List.{AllByRecursion}
+use Rattle.rec_bits.proofs.Options.{same_Some}
+use Rattle.rec_bits.proofs.Lists.{slice_get_past, slice_get_within, there, all_index, all_append}
 use Rattle.net_model.specs.declared.hardware.Code.{Code}
 use Rattle.net_model.specs.Nets.{code_bits}
 use Rattle.form_model.specs.Effects.{Operation}
@@ -35,20 +37,13 @@ use Rattle.branch_fix.specs.Sections.{Section}
 use Rattle.right_code.specs.Inner.Blocks.{IsKit, Kit, Machine}
 use Rattle.right_code.specs.Inner.Laid.{AreSectionsReady, IsBlockReady, IsLaidCode, IsSectionReady}
 use Rattle.right_code.specs.Words.{AreGroupWords, StandItems}
-use Rattle.right_code.proofs.Coded.{there}
-use Rattle.right_code.proofs.Inside.{get_there}
 use Rattle.right_code.specs.FlowJobs.{IsTestJob, AreFlowJobs}
 use Rattle.right_code.proofs.Tasks.{test_job_of}
 
 -- ---- a block begins at a part of a block
 
-none_at : {A : Type 0} (xs : List A) (k : ℕ) → length xs ≤ k → slice_get xs k ≡ None
-none_at [] k l = refl
-none_at (x ∷ xs) zero l = absurd (omega (arith, l))
-none_at (x ∷ xs) (suc k) l = none_at xs k (omega (arith, l))
-
 stops : (flow : List Flow) (at : ℕ) → length flow ≤ at → continues flow at ≡ false
-stops flow at l = rw (none_at flow at l) (by (nat_lt 0 at) (is_assign (slice_get flow (at - 1))))
+stops flow at l = rw (slice_get_past flow at l) (by (nat_lt 0 at) (is_assign (slice_get flow (at - 1))))
   where
     by : (a b : Bool) → (a && (b && false)) ≡ false
     by true true = refl
@@ -96,15 +91,6 @@ all_words netlist m [] (g ∷ gs) live f = absurd f
 all_words netlist m (w ∷ ws) [] live f = absurd f
 all_words netlist m (w ∷ ws) (g ∷ gs) live f = (f.0.clean.fits, all_words netlist m ws gs live f.1)
 
-all_both : (P : ℕ → Type 0) (xs ys : List ℕ) → AllByRecursion P xs → AllByRecursion P ys → AllByRecursion P (xs ++ ys)
-all_both P [] ys h k = k
-all_both P (x ∷ xs) ys h k = (h.0, all_both P xs ys h.1 k)
-
-all_at : (P : ℕ → Type 0) (ws : List ℕ) (k : ℕ) → AllByRecursion P ws → k < length ws → P (slice_index ws k)
-all_at P [] k h l = absurd (omega (arith, l))
-all_at P (w ∷ ws) zero h l = h.0
-all_at P (w ∷ ws) (suc k) h l = all_at P ws k h.1 (omega (arith, l))
-
 module _ (m : Machine) (kit : Kit) (are : IsKit m 0 kit) where
   codes_in : (v : ℕ) (other : Kit) → IsKit m v other → other.netlist.codes ≡ kit.netlist.codes
   codes_in v other is = is.base.codes ∙ sym are.base.codes
@@ -117,12 +103,12 @@ module _ (m : Machine) (kit : Kit) (are : IsKit m 0 kit) where
   section_fits (suc v) jobs n words r =
       subst (AllByRecursion (WordFits kit.netlist)) (sym r.5) (
         r.6.clean.fits,
-        all_both (WordFits kit.netlist) r.3 (r.4 ∷ []) (all_in r.0.netlist kit.netlist r.3 (codes_in (suc v) r.0 r.1) (ready_fit r.0 jobs n r.3 r.7)) (word_in r.0.netlist kit.netlist r.4 (codes_in (suc v) r.0 r.1) r.8.clean.fits, tt),
+        all_append (WordFits kit.netlist) r.3 (r.4 ∷ []) (all_in r.0.netlist kit.netlist r.3 (codes_in (suc v) r.0 r.1) (ready_fit r.0 jobs n r.3 r.7)) (word_in r.0.netlist kit.netlist r.4 (codes_in (suc v) r.0 r.1) r.8.clean.fits, tt),
       )
 
   pub sections_fit : (sections : List Section) (words : List ℕ) → AreSectionsReady m kit sections words → AllByRecursion (WordFits kit.netlist) words
   sections_fit [] words r = subst (AllByRecursion (WordFits kit.netlist)) (sym r) tt
-  sections_fit (x ∷ sections) words r = subst (AllByRecursion (WordFits kit.netlist)) (sym r.2) (all_both (WordFits kit.netlist) r.0 r.1 (section_fits x.mode x.jobs x.words r.0 r.3) (sections_fit sections r.1 r.4))
+  sections_fit (x ∷ sections) words r = subst (AllByRecursion (WordFits kit.netlist)) (sym r.2) (all_append (WordFits kit.netlist) r.0 r.1 (section_fits x.mode x.jobs x.words r.0 r.3) (sections_fit sections r.1 r.4))
 
 -- ---- words of items
 
@@ -133,7 +119,7 @@ module _ (netlist : Netlist) (special : Option ℕ) (patterns : List Pattern) (w
   least_fit : (block : ℕ) (gs : List (List Step)) (live : Regs) (size : ℕ) → AreGroupWords netlist patterns gs live (words block) → size ≡ length (words block) → AreFitting block size
   least_fit block gs live size p n = λ k l.
       (let m : length (words block) ≡ length gs = p.long in
-      let g = get_there gs k (omega (arith, l, n, m)) in
+      let g = there gs k (omega (arith, l, n, m)) in
       (p.least k g.0 g.1).is.clean.fits)
 
   abbrev ItemsFit : List Item → Type 0
@@ -204,15 +190,12 @@ begins forms flow at Ended block size h = absurd h
 
 pub block_at : (forms : List FormModel) (flow : List Flow) (parts : List LayoutPart) (k block size : ℕ) → PartsFit forms flow 0 flow parts → slice_get parts k ≡ Some (Block block size) → (n : ℕ) × IsAssignBlock flow k n
 block_at forms flow parts k block size fit e =
-    let l : k < length parts = there parts k (Block block size) e in
+    let l : k < length parts = slice_get_within parts k (Block block size) e in
     let m : length parts ≡ length flow = fit_length forms flow 0 flow parts fit in
-    let g = get_there flow k (omega (arith, l, m)) in
+    let g = there flow k (omega (arith, l, m)) in
     let q = part_at forms flow 0 flow parts k k g.0 fit g.1 (omega arith) in
-    let b = begins forms flow k g.0 block size (subst (λ x. FitsPart forms flow k g.0 x) (one q.0 (Block block size) (sym q.1 ∙ e)) q.2) in
+    let b = begins forms flow k g.0 block size (subst (λ x. FitsPart forms flow k g.0 x) (same_Some q.0 (Block block size) (sym q.1 ∙ e)) q.2) in
     block_from flow k (length flow) 1 b.0 (omega arith) (omega arith) (λ i h. let z : k ≡ k + i = omega (arith, h) in subst (λ j. is_assign (slice_get flow j) ≡ true) z (ap is_assign g.1 ∙ b.1)) (λ i h some. absurd (omega (arith, h, some)))
-  where
-    one : (x y : LayoutPart) → Some x ≡ Some y → x ≡ y
-    one x y e = cc
 
 -- each word of the code fits
 pub code_fits : (m : Machine) (kit : Kit) (are : IsKit m 0 kit) (image : Image) (flow : List Flow) (jobs : List JobModel) (parts : List LayoutPart) (reach : ℕ) → AreFlowJobs jobs flow → IsLaidCode m kit image flow jobs parts reach
@@ -230,7 +213,7 @@ code_fits m kit are image flow jobs parts reach tests laid some =
         let b = block_at kit.stock.forms flow parts k block size fit e in
         let r = laid.blocks k b.0 block size b.1 e in
         let long : size ≡ length (laid.words block) = r.long in
-        (λ i l. all_at (WordFits kit.netlist) (laid.words block) i (sections_fit m kit are r.sections (laid.words block) r.ready) (omega (arith, l, long)))
+        (λ i l. all_index (WordFits kit.netlist) (laid.words block) i (sections_fit m kit are r.sections (laid.words block) r.ready) (omega (arith, l, long)))
     by fit k Inner e = tt
     by fit k (Test f) e = let t : IsTestJob jobs f.tree = test_job_of jobs kit.stock.forms flow parts k f fit tests e in let r = laid.forks k f e t.job t.at in least_fit kit.netlist m.netlist.special kit.patterns laid.words f.block r.groups r.live f.words r.least r.long
     by fit k (Jump to) e = tt

@@ -1,5 +1,8 @@
 -- The targets of a program's flow are places in it, and absolute branches stay one word.
 use Rattle.std.proofs.Common.{ℕ, zero, suc, ◌≡◌, ◌≤◌, ◌<◌, ◌+◌, ◌||◌, not, Bool, true, false, if◌then◌else◌, List, [], ◌∷◌, ◌++◌, length, Some, refl, sym, ◌∙◌, ap, subst, arith, slice_get, slice_index}
+use Rattle.rec_bits.proofs.Booleans.{true_false}
+use Rattle.rec_bits.proofs.Options.{same_Some}
+use Rattle.rec_bits.proofs.Lists.{slice_get_within, there}
 use Rattle.src_model.specs.declared.program.Cmp.{Cmp}
 use Rattle.src_model.specs.declared.program.Cmp.TheVariants.{Ne}
 use Rattle.src_model.specs.Written.{StmtModel, assign, choice, while, count, StmtsModel, no_acts, act, ElseModel, without, otherwise, ProgramModel, stmts_of}
@@ -18,7 +21,6 @@ use Rattle.branch_fix.specs.declared.part.BranchedTest.{BranchedTest}
 use Rattle.branch_fix.specs.declared.part.LayoutPart.{LayoutPart}
 use Rattle.branch_fix.specs.declared.part.LayoutPart.TheVariants.{Block, Inner, Test, Jump, End}
 use Rattle.branch_fix.proofs.Addresses.{part_at, fit_length}
-use Rattle.right_code.proofs.Coded.{there}
 
 -- ---- targets
 
@@ -89,11 +91,8 @@ turned_upto turned n (Ended ∷ rest) u = turned_upto turned n rest u
 
 upto_get : (n : ℕ) (xs : List Flow) (k : ℕ) (g : Flow) → Upto n xs → slice_get xs k ≡ Some g → Upto n (g ∷ [])
 upto_get n [] k g u e = absurd (cc e)
-upto_get n (x ∷ xs) zero g u e = subst (λ y. Upto n (y ∷ [])) (one x g e) (first x xs u)
+upto_get n (x ∷ xs) zero g u e = subst (λ y. Upto n (y ∷ [])) (same_Some x g e) (first x xs u)
   where
-    one : (x g : Flow) → Some x ≡ Some g → x ≡ g
-    one x g e = cc
-
     first : (x : Flow) (xs : List Flow) → Upto n (x ∷ xs) → Upto n (x ∷ [])
     first (Assign tree) xs u = tt
     first (Tested tree a b) xs u = (u.0, u.1, tt)
@@ -103,11 +102,6 @@ upto_get n (Assign tree ∷ xs) (suc k) g u e = upto_get n xs k g u e
 upto_get n (Tested tree a b ∷ xs) (suc k) g u e = upto_get n xs k g u.2 e
 upto_get n (Jumped to ∷ xs) (suc k) g u e = upto_get n xs k g u.1 e
 upto_get n (Ended ∷ xs) (suc k) g u e = upto_get n xs k g u e
-
-pub get_there : {A : Type 0} (xs : List A) (k : ℕ) → k < length xs → (x : A) × (slice_get xs k ≡ Some x)
-get_there [] k l = absurd (omega (arith, l))
-get_there (x ∷ xs) zero l = (x, refl)
-get_there (x ∷ xs) (suc k) l = get_there xs k (omega (arith, l))
 
 fork_upto : (forms : List FormModel) (flow : List Flow) (at n : ℕ) (g : Flow) (f : BranchedTest) → FitsPart forms flow at g (Test f) → Upto n (g ∷ []) → (f.to ≤ n) × (f.other ≤ n)
 fork_upto forms flow at n (Tested tree one none) f h u = (subst (λ k. k ≤ n) (sym h.2) (side (form_at_one (slice_get forms f.form)) one none u.0 u.1), subst (λ k. k ≤ n) (sym h.3) (side (form_at_one (slice_get forms f.form)) none one u.1 u.0))
@@ -128,14 +122,11 @@ jump_upto forms flow at n Ended to h u = absurd h
 -- what stands at a part's place in the flow
 fits_at : (forms : List FormModel) (flow : List Flow) (parts : List LayoutPart) (k n : ℕ) (p : LayoutPart) → PartsFit forms flow 0 flow parts → slice_get parts k ≡ Some p → Upto n flow → (g : Flow) × FitsPart forms flow k g p × Upto n (g ∷ [])
 fits_at forms flow parts k n p fit e u =
-    let l : k < length parts = there parts k p e in
+    let l : k < length parts = slice_get_within parts k p e in
     let m : length parts ≡ length flow = fit_length forms flow 0 flow parts fit in
-    let g = get_there flow k (omega (arith, l, m)) in
+    let g = there flow k (omega (arith, l, m)) in
     let q = part_at forms flow 0 flow parts k k g.0 fit g.1 (omega arith) in
-    (g.0, subst (λ x. FitsPart forms flow k g.0 x) (one q.0 p (sym q.1 ∙ e)) q.2, upto_get n flow k g.0 u g.1)
-  where
-    one : (x y : LayoutPart) → Some x ≡ Some y → x ≡ y
-    one x y e = cc
+    (g.0, subst (λ x. FitsPart forms flow k g.0 x) (same_Some q.0 p (sym q.1 ∙ e)) q.2, upto_get n flow k g.0 u g.1)
 
 pub ways_inside : (forms : List FormModel) (flow : List Flow) (parts : List LayoutPart) (end : ℕ) → PartsFit forms flow 0 flow parts → length flow ≡ end + 1 → Upto end flow → (at : ℕ) (f : BranchedTest) → slice_get parts at ≡ Some (Test f) → (f.to < length parts) × (f.other < length parts)
 ways_inside forms flow parts end fit long u at f e =
@@ -189,11 +180,8 @@ all_short forms flow sizes forks (g ∷ rest) at k f e =
     (new_short forms flow sizes forks g at (blocks_before flow at) (tests_before flow at) f)
     (λ n. all_short forms flow sizes forks rest (at + 1) n f) e
   where
-    one : (x y : LayoutPart) → Some x ≡ Some y → x ≡ y
-    one x y e = cc
-
     by : (k : ℕ) (p : LayoutPart) (ps : List LayoutPart) → (p ≡ Test f → f.long ≡ false) → ((n : ℕ) → slice_get ps n ≡ Some (Test f) → f.long ≡ false) → slice_get (p ∷ ps) k ≡ Some (Test f) → f.long ≡ false
-    by zero p ps new more e = new (one p (Test f) e)
+    by zero p ps new more e = new (same_Some p (Test f) e)
     by (suc k) p ps new more e = more k e
 
 -- a test after a round
@@ -238,7 +226,4 @@ rounds_wide forms zero parts w = w
 rounds_wide forms (suc n) parts w = rounds_wide forms n (round forms parts) (round_wide forms parts w)
 
 pub settled_wide : (forms : List FormModel) (flow : List Flow) (sizes : List ℕ) (forks : List Branch) (n : ℕ) → AreWide forms (rounds forms n (parts_of forms flow sizes forks))
-settled_wide forms flow sizes forks n = rounds_wide forms n (parts_of forms flow sizes forks) (λ at f turn when_one way e form goal long. absurd (clash f.long (all_short forms flow sizes forks flow 0 at f e) long))
-  where
-    clash : (b : Bool) → b ≡ false → b ≡ true → ⊥
-    clash b p q = cc
+settled_wide forms flow sizes forks n = rounds_wide forms n (parts_of forms flow sizes forks) (λ at f turn when_one way e form goal long. absurd (true_false f.long long (all_short forms flow sizes forks flow 0 at f e)))

@@ -2,6 +2,7 @@
 use Rattle.std.proofs.Common.{ℕ, zero, suc, ◌≡◌, ◌≤◌, ◌<◌, true, List, [], ◌∷◌, Option, length, inl, inr, Some, refl, sym, ◌∙◌, ap, arith, subst, slice_get, slice_index, slice_set}
 use Rattle.std.proofs.lemmas.Bool.{cases_eq}
 use Rattle.std.proofs.lemmas.List.{get_or-set_same, get_or-set_other, length-set}
+use Rattle.rec_bits.proofs.Options.{same_Some}
 use Rattle.net_model.specs.declared.states.State.{State}
 use Rattle.net_model.specs.Exprs.{ExprModel}
 use Rattle.net_model.specs.Meaning.{mean}
@@ -27,18 +28,12 @@ use Rattle.right_code.proofs.Meant.{tree_mean, tree_reads, same_behind}
 -- the tree that is used is a tree of the job
 pub used_tree : (trees : List ExprModel) (k : ℕ) (t : ExprModel) → AreTrees trees → slice_get trees k ≡ Some t → is_tree t ≡ true
 used_tree [] k t a e = absurd (cc e)
-used_tree (x ∷ trees) zero t a e = subst (λ y. is_tree y ≡ true) (some_same x t e) a.0
-  where
-    some_same : (x t : ExprModel) → Some x ≡ Some t → x ≡ t
-    some_same x t e = cc
+used_tree (x ∷ trees) zero t a e = subst (λ y. is_tree y ≡ true) (same_Some x t e) a.0
 used_tree (x ∷ trees) (suc k) t a e = used_tree trees k t a.1 e
 
 pub used_reads : (at : ℕ) (cells : List ℕ) (trees : List ExprModel) (k : ℕ) (t : ExprModel) → AllRead at cells trees → slice_get trees k ≡ Some t → ReadsCells at cells t
 used_reads at cells [] k t a e = absurd (cc e)
-used_reads at cells (x ∷ trees) zero t a e = subst (ReadsCells at cells) (some_same x t e) a.0
-  where
-    some_same : (x t : ExprModel) → Some x ≡ Some t → x ≡ t
-    some_same x t e = cc
+used_reads at cells (x ∷ trees) zero t a e = subst (ReadsCells at cells) (same_Some x t e) a.0
 used_reads at cells (x ∷ trees) (suc k) t a e = used_reads at cells trees k t a.1 e
 
 -- what a job's cells ask, its steps' state gives

@@ -2,6 +2,9 @@
 use Rattle.std.proofs.Common.{ℕ, zero, suc, ◌≡◌, ◌≤◌, ◌<◌, ◌+◌, min, unwrap_or, bit_and, bit_or, Bool, true, false, List, [], ◌∷◌, ◌++◌, length, Option, Some, slice_get, slice_index, refl, sym, ◌∙◌, ap, arith, subst}
 use Rattle.std.specs.Int.{bit_at}
 use Rattle.std.proofs.lemmas.Nat.Bits.{bit_at_and, bit_at_or}
+use Rattle.rec_bits.proofs.Options.{same_Some}
+use Rattle.rec_bits.proofs.Lists.{slice_get_within}
+use Rattle.rec_bits.proofs.Bits.{within_mask}
 use Rattle.net_model.specs.declared.hardware.Netlist.{Netlist}
 use Rattle.net_model.specs.CheckedRules.{KeepsRules}
 use Rattle.net_model.specs.Fields.{fields, transfer_fields}
@@ -31,10 +34,9 @@ use Rattle.right_code.specs.Forks.{cover_form}
 use Rattle.right_code.specs.Inner.Forks.{IsBranchForm, one_side}
 use Rattle.right_code.specs.Laid.{IsLayout}
 use Rattle.right_code.specs.Inner.Laid.{AreTurns}
-use Rattle.right_code.proofs.Coded.{there}
 use Rattle.right_code.proofs.Forked.{setting_within}
 use Rattle.right_code.proofs.Inside.{Upto}
-use Rattle.right_code.proofs.Masks.{shape_bits, within_mask}
+use Rattle.right_code.proofs.Masks.{shape_bits}
 use Rattle.branch_fix.proofs.Addresses.{address_is}
 use Rattle.right_code.proofs.Layouts.{IsBranchStep, branch_step_is, goals, near, ways}
 use Rattle.right_code.proofs.Standing.{shown_some}
@@ -112,13 +114,10 @@ module _ (netlist : Netlist) (order : List ℕ) (keeps : KeepsRules netlist orde
         },
       )
 
-  same_form : (a b : FormModel) → Some a ≡ Some b → a ≡ b
-  same_form a b e = cc
-
   first_turns : 1 ≤ reach → CanTurnWith netlist o patterns turns.form
   first_turns l =
       let f = first_jump stock.forms reach l far in
-      let same : turns.form ≡ f.form = same_form turns.form f.form (sym turns.first ∙ f.first) in
+      let same : turns.form ≡ f.form = same_Some turns.form f.form (sym turns.first ∙ f.first) in
       turning f.place turns.form (f.at ∙ ap Some (sym same)) (ap (λ (r : FormModel). is_control_goal r.goal) same ∙ ap is_control_goal f.goal)
 
   -- a jump to an address below the reach
@@ -202,7 +201,7 @@ module _ (netlist : Netlist) (order : List ℕ) (keeps : KeepsRules netlist orde
         have_on (groups g.block 0 g.words) _ (groups_have g.block 0 g.words)
         (branch_word k g e (asked k g e), behind_have g.next g.long g.to g.other (ways netlist order keeps patterns stock reach turns flow parts end f upto layout k g e).0 (ways netlist order keeps patterns stock reach turns flow parts end f upto layout k g e).1)
     part_have asked k (Jump to) e = (to_place to (goals netlist order keeps patterns stock reach turns flow parts end f upto layout k to e), tt)
-    part_have asked k End e = (jump_word (address parts k) (near netlist order keeps patterns stock reach turns flow parts end f upto layout k (there parts k End e)), tt)
+    part_have asked k End e = (jump_word (address parts k) (near netlist order keeps patterns stock reach turns flow parts end f upto layout k (slice_get_within parts k End e)), tt)
 
     -- each jump and branch word of the layout
     pub layout_words : ((at : ℕ) (g : BranchedTest) → slice_get parts at ≡ Some (Test g) → IsAsked g) → (k : ℕ) (step : Step)

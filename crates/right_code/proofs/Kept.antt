@@ -1,6 +1,7 @@
 -- The forms of a list that keep the mode: each is one of the list, and keeps it.
 use Rattle.std.proofs.Common.{ℕ, zero, suc, ◌≡◌, inl, inr, List, [], ◌∷◌, Option, Some, None, sym, ◌∙◌, ap, subst, slice_get}
 use Rattle.std.specs.Int.{bit_at}
+use Rattle.rec_bits.proofs.Options.{same_Some}
 use Rattle.net_model.specs.declared.hardware.Netlist.{Netlist}
 use Rattle.net_model.specs.Patterns.{Pattern}
 use Rattle.form_model.specs.Forms.{GoalModel, FormModel, into_reg, into_memory, into_file, jumps, branches}
@@ -43,11 +44,8 @@ kept_form netlist patterns o (r ∷ all) kept h k form at = elim h.2 as (λ _. F
   | inr x ↦ kept_form netlist patterns o all h.0 h.1 k form (ap (λ (list : List FormModel). slice_get list k) (sym x.1) ∙ at)
 ]
   where
-    same : (a b : FormModel) → Some a ≡ Some b → a ≡ b
-    same a b e = cc
-
     first : (k : ℕ) → slice_get (r ∷ h.0) k ≡ Some form → FormKeepsMode netlist patterns o r → ((i : ℕ) → slice_get h.0 i ≡ Some form → FormKeepsMode netlist patterns o form) → FormKeepsMode netlist patterns o form
-    first zero f own more = subst (FormKeepsMode netlist patterns o) (same r form f) own
+    first zero f own more = subst (FormKeepsMode netlist patterns o) (same_Some r form f) own
     first (suc k) f own more = more k f
 
 -- so no clobbers of it hold the mode, unless it is a jump or a branch

@@ -1,6 +1,7 @@
 -- An image that is made for a task is code as the layout orders it, and traces the program with each
 -- mark in mode 0.
 use Rattle.std.proofs.Common.{ℕ, zero, suc, ◌≡◌, ◌≤◌, ◌==◌, ◌||◌, Bool, true, if◌then◌else◌, List, [], ◌∷◌, ◌++◌, length, Option, Some, None, refl, sym, ◌∙◌, ap, arith, subst, slice_get}
+use Rattle.rec_bits.proofs.Options.{same_Some}
 use Rattle.net_model.specs.declared.hardware.Netlist.{Netlist}
 use Rattle.net_model.specs.declared.hardware.Storage.{Storage}
 use Rattle.net_model.specs.CheckedRules.{code_size}
@@ -170,9 +171,6 @@ module _ (task : Task) (image : Image) (made : IsMadeFor task image) where
 
     -- ---- the code
 
-    one_job : (x y : JobModel) → Some x ≡ Some y → x ≡ y
-    one_job x y e = cc
-
     pub made_laid : length (words_of image) ≤ code_size task.netlist.codes → length (words_of image) ≤ greatest_reach (made.isas 0).keeping
         → IsLaidCode machine (kit_in 0) image task.flow (task_jobs task) made.parts (greatest_reach (made.isas 0).keeping)
     made_laid room reached =
@@ -195,7 +193,7 @@ module _ (task : Task) (image : Image) (made : IsMadeFor task image) where
               record { sections = r.sections; are = cuts_jobs task made.isas (jobs_at task.flow (task_jobs task) at n) (plans_at task.flow made.plans at n) c ∙ r.jobs; ready = r.ready; long = p.1 });
           forks = λ at f e job has_job.
               (let t : IsTestJob (task_jobs task) f.tree = test_job_of (task_jobs task) (made.isas 0).keeping task.flow made.parts at f fit tests e in
-              let aim : job.destination ≡ tested = ap (λ (x : JobModel). x.destination) (one_job job t.job (sym has_job ∙ t.at)) ∙ t.destination in
+              let aim : job.destination ≡ tested = ap (λ (x : JobModel). x.destination) (same_Some job t.job (sym has_job ∙ t.at)) ∙ t.destination in
               let d = test_plan task made.isas (λ v. (give v).reads) most small one made.plans made.planned (task_jobs task) made.plans f.tree job small made.planned has_job aim in
               let same : test_of job ≡ job = as_test job aim in
               let p : AreTestWords (net_in 0) task.netlist.special (made.isas 0).patterns (kit_in 0).stock (test_of job) d.0.choice (made.groups f.block) (made.words f.block) f =

@@ -1,7 +1,8 @@
 -- Bits of a word that is put together from two parts.
-use Rattle.std.proofs.Common.{◌≡◌, ℕ, zero, suc, ◌<◌, min, max, bit_and, bit_or, Some, refl, sym, ◌∙◌, ap, arith}
+use Rattle.std.proofs.Common.{◌≡◌, ℕ, min, max, bit_and, bit_or, Some, sym, ◌∙◌, ap, arith}
 use Rattle.std.specs.Int.{bit_at}
 use Rattle.std.proofs.lemmas.Nat.Bits.{bit_at_and, bit_at_or, bit_at-lt, same_from_bits, bit_at-zero}
+use Rattle.rec_bits.proofs.Bits.{within_mask}
 use Rattle.net_model.specs.Exprs.{ExprModel}
 use Rattle.net_model.specs.Fields.{fields}
 use Rattle.form_model.specs.Shapes.{shape_setting}
@@ -30,17 +31,6 @@ mask_second s b f g e z = same_from_bits (bit_and (bit_or s b) g) (bit_and b g) 
         let u : bit_at s i ≡ min (bit_at s i) (bit_at f i) = ap (λ n. bit_at n i) (sym e) ∙ bit_at_and s f i in
         let v : 0 ≡ min (bit_at f i) (bit_at g i) = sym (bit_at-zero i) ∙ ap (λ n. bit_at n i) (sym z) ∙ bit_at_and f g i in
         omega (arith, bit_at-lt s i, bit_at-lt b i, bit_at-lt f i, bit_at-lt g i)
-
--- bits that are 0 where a mask is 0
-pub within_mask : (b f : ℕ) → ((k : ℕ) → bit_at f k ≡ 0 → bit_at b k ≡ 0) → bit_and b f ≡ b
-within_mask b f h = same_from_bits (bit_and b f) b at
-  where
-    by : (x y : ℕ) → x < 2 → y < 2 → (y ≡ 0 → x ≡ 0) → min x y ≡ x
-    by x zero p q g = let e = g refl in omega (arith, e)
-    by x (suc y) p q g = omega (arith, p, q)
-
-    at : (i : ℕ) → bit_at (bit_and b f) i ≡ bit_at b i
-    at i = bit_at_and b f i ∙ by (bit_at b i) (bit_at f i) (bit_at-lt b i) (bit_at-lt f i) (h i)
 
 -- a mask joined with nothing
 pub none_or : (b f : ℕ) → bit_and b (bit_or 0 f) ≡ bit_and b f

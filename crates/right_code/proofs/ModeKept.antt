@@ -5,6 +5,7 @@ use Rattle.std.specs.Int.{bit_at}
 use Rattle.std.specs.List.{AllByRecursion, sum_by}
 use Rattle.std.proofs.lemmas.List.Sorted.{sum_by-IsPermutation}
 use Rattle.std.proofs.lemmas.List.Sums.{sum_by-append, sum_by-cons}
+use Rattle.rec_bits.proofs.Booleans.{or_right, or_from}
 use Rattle.net_model.specs.declared.hardware.Netlist.{Netlist}
 use Rattle.net_model.specs.Nets.{IsRegister}
 use Rattle.net_model.specs.Patterns.{Pattern}
@@ -44,10 +45,6 @@ module _ {A : Type 0} (m : A → Operation) (mode : ℕ) where
       let c : sum_by hits (x ∷ xs) ≡ hits x + sum_by hits xs = sum_by-cons hits x xs in
       omega (arith, a, b, c)
 
-  or_false : (a b : Bool) → a ≡ false → b ≡ false → (a || b) ≡ false
-  or_false false b e f = f
-  or_false true b e f = e
-
   unhit : (x : A) → hits x ≡ 0 → writes (m x) mode ≡ false
   unhit x e = by (writes (m x) mode) refl
     where
@@ -59,7 +56,7 @@ module _ {A : Type 0} (m : A → Operation) (mode : ℕ) where
   group_spares [] h = refl
   group_spares (x ∷ g) h =
       let c : sum_by hits (x ∷ g) ≡ hits x + sum_by hits g = sum_by-cons hits x g in
-      or_false (writes (m x) mode) (group_writes m g mode) (unhit x (omega (arith, h, c))) (group_spares g (omega (arith, h, c)))
+      or_from (writes (m x) mode) (group_writes m g mode) (unhit x (omega (arith, h, c))) (group_spares g (omega (arith, h, c)))
 
   pub groups_spare : (gs : List (List A)) → sum_by hits (all_steps gs) ≡ 0 → AllByRecursion (λ g. group_writes m g mode ≡ false) gs
   groups_spare [] h = tt
@@ -125,11 +122,7 @@ module _ (stock : StockModel) (file : Option ℕ) (patterns : List Pattern) (cou
 
 -- the mode is live behind
 mode_live : (mode : ℕ) (live : Regs) → with_mode (Some mode) live mode ≡ true
-mode_live mode live = or_true (live mode) (mode == mode) (eq-eqb mode mode refl)
-  where
-    or_true : (a b : Bool) → b ≡ true → (a || b) ≡ true
-    or_true true b e = refl
-    or_true false b e = e
+mode_live mode live = or_right (live mode) (mode == mode) (eq-eqb mode mode refl)
 
 -- no step reads or writes the mode
 abbrev pub StepsApart : Option ℕ → Netlist → List Pattern → List Step → Type 0

@@ -1,6 +1,5 @@
 -- Jumps reach no further than the program counter counts.
-use Rattle.std.proofs.Common.{◌≡◌, ℕ, zero, suc, ◌≤◌, ◌<◌, ◌+◌, ◌-◌, ◌*◌, ◌%◌, ◌^◌, ◌==◌, nat_le, Bool, true, false, if◌then◌else◌, List, [], ◌∷◌, length, Option, Some, None, slice_get, refl, sym, ap, subst, ◌∙◌, arith}
-use Rattle.std.specs.List.{AllByRecursion}
+use Rattle.std.proofs.Common.{◌≡◌, ℕ, suc, ◌≤◌, ◌<◌, ◌+◌, ◌-◌, ◌*◌, ◌%◌, ◌^◌, ◌==◌, nat_le, Bool, true, false, if◌then◌else◌, List, [], length, Option, Some, None, slice_get, refl, sym, ap, subst, ◌∙◌, arith}
 use Rattle.net_model.specs.declared.hardware.Netlist.{Netlist}
 use Rattle.net_model.specs.declared.hardware.Cells.{Cells}
 use Rattle.net_model.specs.declared.hardware.Storage.{Storage}
@@ -19,6 +18,7 @@ use Rattle.net_model.specs.Widths.{StorageFits}
 use Rattle.net_model.proofs.KeptRules.{sound_of}
 use Rattle.net_model.proofs.Meanings.{width_is}
 use Rattle.rec_bits.specs.declared.operator.Op2.TheVariants.{Add}
+use Rattle.rec_bits.proofs.Lists.{all_at}
 use Rattle.form_model.specs.Shapes.{ShapeFits, Sum, SummandFits, moved_reach, reach_of, sum_reach, sum_with, summands}
 use Rattle.form_model.proofs.SumNumbers.{IsSumWith, sum_is_with}
 use Rattle.std.proofs.Math.Nat.{pow-suc}
@@ -89,11 +89,6 @@ reach_within bits (select c a b) fits = omega arith
 
 -- ---- what a register takes has its width
 
-all_get : {X : Type 0} (P : X → Type 0) (xs : List X) (k : ℕ) (x : X) → AllByRecursion P xs → slice_get xs k ≡ Some x → P x
-all_get P [] k x h e = absurd (cc e)
-all_get P (y ∷ xs) zero x h e = let same : y ≡ x = cc in subst P same h.0
-all_get P (y ∷ xs) (suc k) x h e = all_get P xs k x h.1 e
-
 abbrev FitsThere : Netlist → Option Storage → Type 0
 FitsThere netlist None = Unit {0}
 FitsThere netlist (Some storage) = StorageFits netlist storage
@@ -104,7 +99,7 @@ written_one a b e = cc
 module _ (netlist : Netlist) (order : List ℕ) (keeps : KeepsRules netlist order) where
   there : (o : Option Storage) (id : ℕ) → slice_get netlist.storages id ≡ o → FitsThere netlist o
   there None id e = tt
-  there (Some storage) id e = all_get (StorageFits netlist) netlist.storages id storage (sound_of netlist order keeps).typed.storages e
+  there (Some storage) id e = all_at (StorageFits netlist) netlist.storages id storage (sound_of netlist order keeps).typed.storages e
 
   -- cells are written at addresses
   no_write : (i : ℕ) (cells : Cells) (e : ExprModel) → array_transfer (sym_of netlist i) (value_of netlist no_state i) cells ≡ write e → ⊥

@@ -4,6 +4,7 @@ use Rattle.std.specs.Int.{bit_at}
 use Rattle.std.proofs.lemmas.Bool.{true≢false, eqb-true, leb-true, and_parts}
 use Rattle.std.proofs.lemmas.Nat.{and_comm}
 use Rattle.std.proofs.lemmas.Nat.Bits.{bit_at-zero, bit_at-lt, bit_at_ones, bit_at_mask_inside, bit_at_and, bit_at_or, same_from_bits as bit_same}
+use Rattle.rec_bits.proofs.Booleans.{or_cases}
 use Rattle.net_model.specs.Fields.{fields}
 use Rattle.net_model.specs.Occurs.{registers}
 use Rattle.net_model.specs.Exprs.{ExprModel, word, reg, const, read, un, bin, slice, cat, zext, sext, select}
@@ -39,10 +40,6 @@ right_occurs : (n a b k : ℕ) → Occurs n b k → Occurs n (bit_or a b) k
 right_occurs n a b k (inl h) = inl (h.0, let q = h.1 in omega (arith, bit_at_or a b k, q, bit_at-lt a k))
 right_occurs n a b k (inr h) = inr (λ j l. let q : bit_at b j ≡ 1 = h j l in omega (arith, bit_at_or a b j, q, bit_at-lt a j))
 
-or_some : (a b : Bool) → (a || b) ≡ true → (a ≡ true) ⊎ (b ≡ true)
-or_some true b h = inl refl
-or_some false b h = inr h
-
 occurs : (n : ℕ) (t : ExprModel) → WordsIn n t → (k : ℕ) → uses t k ≡ true → Occurs n (fields t) k
 occurs n (word w) f k u = inr (λ j l. bit_at_ones w j (omega (arith, f, l)))
 occurs n (reg r w) f k u = absurd (true≢false (sym u))
@@ -50,7 +47,7 @@ occurs n (const w v) f k u = absurd (true≢false (sym u))
 occurs n (read space a w) f k u = occurs n a f k u
 occurs n (un o a) f k u = occurs n a f k u
 occurs n (bin o a b) f k u =
-    elim (or_some (uses a k) (uses b k) u) as (λ _. Occurs n (bit_or (fields a) (fields b)) k) [
+    elim (or_cases (uses a k) (uses b k) u) as (λ _. Occurs n (bit_or (fields a) (fields b)) k) [
       | inl v ↦ left_occurs n (fields a) (fields b) k (occurs n a f.0 k v)
       | inr v ↦ right_occurs n (fields a) (fields b) k (occurs n b f.1 k v)
     ]
@@ -62,16 +59,16 @@ occurs n (slice (word w) hi lo) f k u =
     inl (omega (arith, r.1, kh), bit_at_mask_inside lo (hi + 1) k lk (omega (arith, kh)))
 occurs n (slice a hi lo) f k u = occurs n a f.0 k u
 occurs n (cat a b) f k u =
-    elim (or_some (uses a k) (uses b k) u) as (λ _. Occurs n (bit_or (fields a) (fields b)) k) [
+    elim (or_cases (uses a k) (uses b k) u) as (λ _. Occurs n (bit_or (fields a) (fields b)) k) [
       | inl v ↦ left_occurs n (fields a) (fields b) k (occurs n a f.0 k v)
       | inr v ↦ right_occurs n (fields a) (fields b) k (occurs n b f.1 k v)
     ]
 occurs n (zext a w) f k u = occurs n a f k u
 occurs n (sext a w) f k u = occurs n a f k u
 occurs n (select c a b) f k u =
-    elim (or_some (uses c k) (uses a k || uses b k) u) as (λ _. Occurs n (bit_or (bit_or (fields c) (fields a)) (fields b)) k) [
+    elim (or_cases (uses c k) (uses a k || uses b k) u) as (λ _. Occurs n (bit_or (bit_or (fields c) (fields a)) (fields b)) k) [
       | inl v ↦ left_occurs n (bit_or (fields c) (fields a)) (fields b) k (left_occurs n (fields c) (fields a) k (occurs n c f.0 k v))
-      | inr v ↦ elim (or_some (uses a k) (uses b k) v) as (λ _. Occurs n (bit_or (bit_or (fields c) (fields a)) (fields b)) k) [
+      | inr v ↦ elim (or_cases (uses a k) (uses b k) v) as (λ _. Occurs n (bit_or (bit_or (fields c) (fields a)) (fields b)) k) [
         | inl x ↦ left_occurs n (bit_or (fields c) (fields a)) (fields b) k (right_occurs n (fields c) (fields a) k (occurs n a f.1 k x))
         | inr x ↦ right_occurs n (bit_or (fields c) (fields a)) (fields b) k (occurs n b f.2 k x)
       ]

@@ -1,5 +1,6 @@
 -- Code as the layout orders it is made of its parts.
 use Rattle.std.proofs.Common.{Option, ℕ, ◌≡◌, ◌<◌, ◌+◌, ◌++◌, unwrap_or, zero, suc, Bool, true, false, List, [], ◌∷◌, length, Some, None, slice_get, slice_index, sym, ◌∙◌, ap, arith, subst}
+use Rattle.rec_bits.proofs.Lists.{slice_get_within}
 use Rattle.net_model.specs.declared.hardware.Netlist.{Netlist}
 use Rattle.net_model.specs.CheckedRules.{KeepsRules}
 use Rattle.net_model.specs.Nets.{memory_size, memory_width}
@@ -43,7 +44,7 @@ use Rattle.right_code.specs.Inner.Code.{IsMadeCode}
 use Rattle.right_code.specs.Inner.Laid.{AreSectionsReady, AreTurns, IsBlockReady, IsForkReady, IsLaidCode, IsModeBlockReady, IsSectionReady}
 use Rattle.right_code.specs.Words.{StandItems}
 use Rattle.mode_set.specs.Words.{FitsTurn}
-use Rattle.right_code.proofs.Coded.{code_right, there}
+use Rattle.right_code.proofs.Coded.{code_right}
 use Rattle.right_code.proofs.Inside.{Upto, program_upto, turned_upto}
 use Rattle.right_code.proofs.Standing.{shown_some, stand_split, part_stands, groups_stand}
 use Rattle.branch_fix.proofs.Addresses.{address_is}
@@ -222,7 +223,7 @@ module _ (m : Machine) (kit : Kit) (order : List ℕ) (keeps : KeepsRules kit.ne
           jump_made _ (address parts to)
           (subst (λ n. FitsTurn netlist special (image_word image (address parts at)) (operation_in netlist patterns (jump_step (jump_form stock.forms reach) n))) (let lt = goals netlist order keeps patterns stock reach turns flow parts end f upto laid.layout at to e in address_is parts to (omega (arith, lt))) (stands at (Jump to) e).0.is)
           (near netlist order keeps patterns stock reach turns flow parts end f upto laid.layout to (goals netlist order keeps patterns stock reach turns flow parts end f upto laid.layout at to e));
-      ends = λ at e. jump_made _ (address parts at) (stands at End e).0.is (near netlist order keeps patterns stock reach turns flow parts end f upto laid.layout at (there parts at End e));
+      ends = λ at e. jump_made _ (address parts at) (stands at End e).0.is (near netlist order keeps patterns stock reach turns flow parts end f upto laid.layout at (slice_get_within parts at End e));
     }
 
 -- and traces the program, with each mark in mode 0

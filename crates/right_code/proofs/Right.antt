@@ -2,6 +2,7 @@
 use Rattle.std.proofs.lemmas.Bool.{ltb-true}
 use Rattle.net_model.specs.Nets.{memory_width, size_in}
 use Rattle.std.proofs.Common.{◌≡◌, zero, suc, [], ◌∷◌, Option, Some, None, slice_get, nat_lt, if◌then◌else◌, Bool, true, false, ℕ, ◌≤◌, ◌<◌, List, length, slice_index, refl, sym, ◌∙◌, ap, arith, subst}
+use Rattle.rec_bits.proofs.Options.{same_Some}
 use Rattle.net_model.specs.declared.hardware.Space.TheVariants.{File as InFile}
 use Rattle.net_model.specs.CheckedRules.{code_size, IsMode}
 use Rattle.net_model.specs.Widths.{WordFits}
@@ -70,10 +71,7 @@ use Rattle.right_code.proofs.Tasks.{test_job_of}
 -- a job of small jobs is small
 small_at : (bits temps most : ℕ) (jobs : List JobModel) (k : ℕ) (job : JobModel) → AllSmall bits temps most jobs → slice_get jobs k ≡ Some job → IsSmall bits temps most job
 small_at bits temps most [] k job h e = absurd (cc e)
-small_at bits temps most (w ∷ jobs) zero job h e = subst (IsSmall bits temps most) (same w job e) h.0
-  where
-    same : (x y : JobModel) → Some x ≡ Some y → x ≡ y
-    same x y e = cc
+small_at bits temps most (w ∷ jobs) zero job h e = subst (IsSmall bits temps most) (same_Some w job e) h.0
 small_at bits temps most (w ∷ jobs) (suc k) job h e = small_at bits temps most jobs k job h.1 e
 
 module _ (task : Task) (checked : IsChecked task) where
@@ -150,10 +148,7 @@ module _ (task : Task) (checked : IsChecked task) where
 
     covers_at : (cuts : List Cut) (k : ℕ) (x : Cut) → CutsCovered task isas cuts → slice_get cuts k ≡ Some x → AreCovered (mode_stock task isas x.mode) x.jobs x.choices
     covers_at [] k x c e = absurd (cc e)
-    covers_at (y ∷ cuts) zero x c e = subst (λ (z : Cut). AreCovered (mode_stock task isas z.mode) z.jobs z.choices) (same y x e) c.0
-      where
-        same : (a b : Cut) → Some a ≡ Some b → a ≡ b
-        same a b e = cc
+    covers_at (y ∷ cuts) zero x c e = subst (λ (z : Cut). AreCovered (mode_stock task isas z.mode) z.jobs z.choices) (same_Some y x e) c.0
     covers_at (y ∷ cuts) (suc k) x c e = covers_at cuts k x c.1 e
 
     -- the steps of covers by the forms of a mode have words

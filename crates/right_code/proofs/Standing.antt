@@ -1,5 +1,6 @@
 -- The words of a layout's items, part by part.
 use Rattle.std.proofs.Common.{ℕ, zero, suc, ◌≡◌, ◌+◌, unwrap_or, is_some, true, List, [], ◌∷◌, ◌++◌, length, Option, Some, None, slice_get, slice_index, refl, sym, ◌∙◌, ap, arith, subst}
+use Rattle.rec_bits.proofs.Options.{same_Some}
 use Rattle.net_model.specs.declared.hardware.Netlist.{Netlist}
 use Rattle.net_model.specs.Patterns.{Pattern}
 use Rattle.form_model.specs.Forms.{FormModel}
@@ -28,10 +29,7 @@ module _ (netlist : Netlist) (special : Option ℕ) (patterns : List Pattern) (w
   part_stands forms jump addresses at (q ∷ parts) zero p n e z h =
       let same : at ≡ n = omega (arith, z) in
       let s = stand_split (part_items forms jump addresses at q) (items_from forms jump addresses (at + room q) parts) at (at + length (part_items forms jump addresses at q)) refl h in
-      subst (λ a. StandItems netlist special patterns words code a (part_items forms jump addresses a p)) same (subst (λ r. StandItems netlist special patterns words code at (part_items forms jump addresses at r)) (one q p e) s.0)
-    where
-      one : (q p : LayoutPart) → Some q ≡ Some p → q ≡ p
-      one q p e = cc
+      subst (λ a. StandItems netlist special patterns words code a (part_items forms jump addresses a p)) same (subst (λ r. StandItems netlist special patterns words code at (part_items forms jump addresses at r)) (same_Some q p e) s.0)
   part_stands forms jump addresses at (q ∷ parts) (suc k) p n e z h =
       let l = part_length forms jump addresses at q in
       let s = stand_split (part_items forms jump addresses at q) (items_from forms jump addresses (at + room q) parts) at (at + room q) (omega (arith, l)) h in

@@ -1,10 +1,11 @@
 -- Swapped operands change no register and no bit that occurs.
-use Rattle.std.proofs.Common.{◌≡◌, ℕ, ◌&&◌, ◌||◌, Bool, true, false, [], ◌∷◌, Option, Some, None, refl, sym, ◌∙◌}
+use Rattle.std.proofs.Common.{◌≡◌, ℕ, ◌&&◌, Bool, true, false, [], ◌∷◌, Option, Some, None, refl, sym, ◌∙◌}
 use Rattle.std.specs.Option.{option_map}
 use Rattle.std.proofs.lemmas.Bool.{true≢false}
 use Rattle.std.proofs.lemmas.Nat.{or_comm as join_comm}
 use Rattle.rec_bits.specs.declared.operator.Op1.{Op1}
 use Rattle.rec_bits.specs.declared.operator.Op2.{Op2}
+use Rattle.rec_bits.proofs.Booleans.{or_comm}
 use Rattle.net_model.specs.declared.hardware.Space.{Space}
 use Rattle.net_model.specs.declared.hardware.Space.TheVariants.{Memory as InMemory, File as InFile}
 use Rattle.net_model.specs.Fields.{fields}
@@ -137,12 +138,6 @@ in_select c a b d e f g h k = record {
 }
 
 -- ---- one swap
-
-or_comm : (a b : Bool) → (a || b) ≡ (b || a)
-or_comm true true = refl
-or_comm true false = refl
-or_comm false true = refl
-or_comm false false = refl
 
 at_root : (o : Op2) (a b : ExprModel) → IsSwapped (bin o a b) (bin o b a)
 at_root o a b = record {

@@ -2,6 +2,8 @@
 -- store nothing.
 use Rattle.right_code.specs.FlowJobs.{AllOne, AreFlowJobs, IsTestJob}
 use Rattle.std.proofs.Common.{ℕ, zero, suc, ◌≡◌, ◌<◌, ◌+◌, Bool, true, false, if◌then◌else◌, List, [], ◌∷◌, ◌++◌, length, Option, None, Some, refl, sym, ◌∙◌, subst, arith, slice_get}
+use Rattle.rec_bits.proofs.Options.{same_Some}
+use Rattle.rec_bits.proofs.Lists.{slice_get_within, there}
 use Rattle.net_model.specs.Exprs.{ExprModel, const}
 use Rattle.src_model.specs.declared.program.Cmp.{Cmp}
 use Rattle.src_model.specs.declared.program.Cmp.TheVariants.{Ne}
@@ -20,8 +22,6 @@ use Rattle.branch_fix.specs.declared.part.LayoutPart.{LayoutPart}
 use Rattle.branch_fix.specs.declared.part.LayoutPart.TheVariants.{Test}
 use Rattle.branch_fix.proofs.Addresses.{part_at, fit_length}
 use Rattle.right_code.specs.Jobs.{HasOne}
-use Rattle.right_code.proofs.Coded.{there}
-use Rattle.right_code.proofs.Inside.{get_there}
 
 -- ---- one tree
 
@@ -130,15 +130,12 @@ tests_get all (Ended ∷ xs) (suc k) tree one none h e = tests_get all xs k tree
 -- the job of a test's part
 pub test_job_of : (all : List JobModel) (forms : List FormModel) (flow : List Flow) (parts : List LayoutPart) (k : ℕ) (f : BranchedTest) → PartsFit forms flow 0 flow parts → AreFlowJobs all flow → slice_get parts k ≡ Some (Test f) → IsTestJob all f.tree
 test_job_of all forms flow parts k f fit tests e =
-    let l : k < length parts = there parts k (Test f) e in
+    let l : k < length parts = slice_get_within parts k (Test f) e in
     let n : length parts ≡ length flow = fit_length forms flow 0 flow parts fit in
-    let g = get_there flow k (omega (arith, l, n)) in
+    let g = there flow k (omega (arith, l, n)) in
     let q = part_at forms flow 0 flow parts k k g.0 fit g.1 (omega arith) in
-    by g.0 g.1 (subst (λ x. FitsPart forms flow k g.0 x) (one q.0 (Test f) (sym q.1 ∙ e)) q.2)
+    by g.0 g.1 (subst (λ x. FitsPart forms flow k g.0 x) (same_Some q.0 (Test f) (sym q.1 ∙ e)) q.2)
   where
-    one : (x y : LayoutPart) → Some x ≡ Some y → x ≡ y
-    one x y e = cc
-
     by : (g : Flow) → slice_get flow k ≡ Some g → FitsPart forms flow k g (Test f) → IsTestJob all f.tree
     by (Tested tree a b) at h = subst (IsTestJob all) (sym h.0) (tests_get all flow k tree a b tests at)
     by (Assign tree) at h = absurd h

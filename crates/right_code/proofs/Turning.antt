@@ -2,6 +2,7 @@
 use Rattle.std.proofs.Common.{◌≡◌, ℕ, ◌^◌, ◌<◌, ◌≤◌, ◌==◌, ◌&&◌, ◌||◌, ◌⊎◌, inl, inr, Bool, true, false, bit_and, if◌then◌else◌, List, ◌∷◌, Option, Some, None, slice_get, refl, sym, ◌∙◌, ap, subst, arith, eqb-true}
 use Rattle.std.proofs.lemmas.Bool.{leb-true, and_parts}
 use Rattle.rec_bits.specs.declared.operator.Op2.TheVariants.{Add}
+use Rattle.rec_bits.proofs.Options.{same_Some}
 use Rattle.net_model.specs.declared.hardware.Netlist.{Netlist}
 use Rattle.net_model.specs.Fields.{fields}
 use Rattle.net_model.specs.CheckedRules.{KeepsRules}
@@ -66,9 +67,6 @@ record IsOpened (edition : ℕ) (pc : Counter) (reach : ℕ) (value : ExprModel)
   next : is_next pc step ≡ true
   allowed : allowed_target edition pc reach target ≡ Some branch.to
 
-some_same : {A : Type 0} (x y : A) → Some x ≡ Some y → x ≡ y
-some_same x y e = cc
-
 opened : (edition : ℕ) (pc : Counter) (reach : ℕ) (value : ExprModel) (branch : Branch) → expr_branch edition pc reach value ≡ Some branch → IsOpened edition pc reach value branch
 opened edition pc reach (select c a b) branch e = go (is_next pc b) (is_next pc a) (allowed_target edition pc reach a) (allowed_target edition pc reach b) refl refl refl refl e
   where
@@ -80,11 +78,11 @@ opened edition pc reach (select c a b) branch e = go (is_next pc b) (is_next pc 
 
     go : (p r : Bool) (o q : Option TargetModel) → is_next pc b ≡ p → is_next pc a ≡ r → allowed_target edition pc reach a ≡ o → allowed_target edition pc reach b ≡ q
         → first_of (branch_if p true c o) (branch_if r false c q) ≡ Some branch → IsOpened edition pc reach (select c a b) branch
-    go true r (Some to) q ep er eo eq h = subst (IsOpened edition pc reach (select c a b)) (some_same _ branch h) (at_one to ep eo)
-    go true true None (Some to) ep er eo eq h = subst (IsOpened edition pc reach (select c a b)) (some_same _ branch h) (at_zero to er eq)
+    go true r (Some to) q ep er eo eq h = subst (IsOpened edition pc reach (select c a b)) (same_Some _ branch h) (at_one to ep eo)
+    go true true None (Some to) ep er eo eq h = subst (IsOpened edition pc reach (select c a b)) (same_Some _ branch h) (at_zero to er eq)
     go true true None None ep er eo eq h = absurd (cc)
     go true false None q ep er eo eq h = absurd (cc)
-    go false true o (Some to) ep er eo eq h = subst (IsOpened edition pc reach (select c a b)) (some_same _ branch h) (at_zero to er eq)
+    go false true o (Some to) ep er eo eq h = subst (IsOpened edition pc reach (select c a b)) (same_Some _ branch h) (at_zero to er eq)
     go false true o None ep er eo eq h = absurd (cc)
     go false false o q ep er eo eq h = absurd (cc)
 opened edition pc reach _ branch e = absurd (cc)
@@ -138,7 +136,7 @@ module _ (netlist : Netlist) where
           (let x = and_parts (is_reg (counter_at netlist) b) (is_shape_in netlist.edition a && shows a 2) k in
           let y = and_parts (is_shape_in netlist.edition a) (shows a 2) x.1 in
           let r = reg_is (counter_at netlist) b x.0 in
-          subst (λ w. IsTargetExpr netlist w (bin Add a b) × TargetReaches reach w) (some_same (relative a) way h)
+          subst (λ w. IsTargetExpr netlist w (bin Add a b) × TargetReaches reach w) (same_Some (relative a) way h)
           ((shape_from netlist.edition _ y.0, sym fits.2 ∙ ap expr_width r, inr (ap (λ n. bin Add a n) r)), y.1))
       last false k h = absurd (cc)
 
@@ -148,7 +146,7 @@ module _ (netlist : Netlist) where
           (let x = and_parts (is_reg (counter_at netlist) a) (is_shape_in netlist.edition b && shows b 2) k in
           let y = and_parts (is_shape_in netlist.edition b) (shows b 2) x.1 in
           let r = reg_is (counter_at netlist) a x.0 in
-          subst (λ w. IsTargetExpr netlist w (bin Add a b) × TargetReaches reach w) (some_same (relative b) way h)
+          subst (λ w. IsTargetExpr netlist w (bin Add a b) × TargetReaches reach w) (same_Some (relative b) way h)
           ((shape_from netlist.edition _ y.0, fits.2 ∙ ap expr_width r, inl (ap (λ n. bin Add n b) r)), y.1))
       by false k h = last (is_reg (counter_at netlist) b && (is_shape_in netlist.edition a && shows a 2)) refl h
   distance_goes reach _ way fits e = absurd (cc)
@@ -160,7 +158,7 @@ module _ (netlist : Netlist) where
       by true a h =
           (let k = and_parts (is_shape_in netlist.edition t) _ a in
           let le : reach ≤ reach_of t = leb-true reach (reach_of t) k.1 in
-          subst (λ w. IsTargetExpr netlist w t × TargetReaches reach w) (some_same (absolute t) way h) (refl, λ v lt. below_shown t (shape_from netlist.edition t k.0) fits exprs v (omega (arith, le, lt))))
+          subst (λ w. IsTargetExpr netlist w t × TargetReaches reach w) (same_Some (absolute t) way h) (refl, λ v lt. below_shown t (shape_from netlist.edition t k.0) fits exprs v (omega (arith, le, lt))))
       by false a h = distance_goes reach t way fits h
 
   module _ (some : 0 < word_width netlist) (patterns : List Pattern) (known : AreKnown netlist patterns) where

@@ -1,6 +1,7 @@
 -- The jump and branch forms of a netlist are as the layout wants them.
 use Rattle.std.proofs.Common.{◌≡◌, ℕ, zero, suc, ◌<◌, ◌≤◌, ◌^◌, ◌==◌, max, Bool, true, false, if◌then◌else◌, List, [], ◌∷◌, Some, slice_get, refl, sym, ◌∙◌, ap, subst, arith, eqb-true}
 use Rattle.std.proofs.lemmas.Bool.{true≢false, eqb-false}
+use Rattle.rec_bits.proofs.Options.{same_Some}
 use Rattle.net_model.specs.declared.hardware.Netlist.{Netlist}
 use Rattle.net_model.specs.CheckedRules.{KeepsRules}
 use Rattle.net_model.specs.Nets.{counter_width, memory_id, word_width}
@@ -117,10 +118,7 @@ module _ (netlist : Netlist) (order : List ℕ) (keeps : KeepsRules netlist orde
 
   reach_in : (list : List FormModel) (k : ℕ) (form : FormModel) → slice_get list k ≡ Some form → goal_reach form.goal ≤ greatest_reach list
   reach_in [] k form e = absurd (cc e)
-  reach_in (x ∷ list) zero form e = let same : goal_reach x.goal ≡ goal_reach form.goal = ap (λ (r : FormModel). goal_reach r.goal) (one x form e) in omega (arith, same)
-    where
-      one : (a b : FormModel) → Some a ≡ Some b → a ≡ b
-      one a b e = cc
+  reach_in (x ∷ list) zero form e = let same : goal_reach x.goal ≡ goal_reach form.goal = ap (λ (r : FormModel). goal_reach r.goal) (same_Some x form e) in omega (arith, same)
   reach_in (x ∷ list) (suc k) form e = let h = reach_in list k form e in omega (arith, h)
 
   less_reaches : (way : TargetModel) (far : ℕ) → far ≤ reach → TargetReaches reach way → TargetReaches far way

@@ -7,6 +7,7 @@ use Rattle.sym_expr.specs.declared.pool.Node.{Node}
 use Rattle.sym_expr.specs.Pools.{expr_of_id, Grows}
 use Rattle.sym_expr.proofs.CallerLemmas.{grows_refl}
 use Rattle.rec_bits.proofs.Lists.{around}
+use Rattle.rec_bits.proofs.Booleans.{or-false}
 use Rattle.transfer_set.specs.declared.route.Route.{Route}
 use Rattle.route_trace.specs.declared.heads.Head.TheVariants.{Same}
 use Rattle.transfer_set.specs.Routes.{IsRouteTable, models_under, routes_at}
@@ -31,11 +32,7 @@ test_at book (x ∷ tests) (suc i) test at h = test_at book tests i test at h.1
 
 module _ (book : Diagrams) (pool : List Node) (nets : List (List Route)) (word : ℕ) where
   passes_more : (xs : List (ℕ × ℕ)) (test : ℕ × ℕ) → passes book word (xs ++ test ∷ []) ≡ (passes book word xs || has_word book test.0 word)
-  passes_more [] test = or_false (has_word book test.0 word)
-    where
-      or_false : (b : Bool) → (b || false) ≡ b
-      or_false true = refl
-      or_false false = refl
+  passes_more [] test = or-false (has_word book test.0 word)
   passes_more (x ∷ xs) test = by (has_word book x.0 word) (passes_more xs test)
     where
       by : (b : Bool) → passes book word (xs ++ test ∷ []) ≡ (passes book word xs || has_word book test.0 word) → (b || passes book word (xs ++ test ∷ [])) ≡ ((b || passes book word xs) || has_word book test.0 word)

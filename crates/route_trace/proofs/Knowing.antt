@@ -3,7 +3,7 @@ use Rattle.std.proofs.Common.{◌≡◌, inl, inr, ℕ, ◌<◌, ◌&&◌, ◌||
 use Rattle.std.specs.List.{AllByRecursion, list_any}
 use Rattle.std.proofs.lemmas.Bool.{cases_eq, eqb-true, eq-eqb, ne_eqb}
 use Rattle.std.proofs.lemmas.Map.Views.{any-filter_same}
-use Rattle.rec_bits.proofs.Booleans.{or_left, or_right}
+use Rattle.rec_bits.proofs.Booleans.{or_left, or_right, and-true}
 use Rattle.bit_bdd.specs.Diagrams.{Diagrams, Extends}
 use Rattle.net_model.specs.declared.hardware.Netlist.{Netlist}
 use Rattle.net_model.specs.declared.hardware.Net.{Net}
@@ -29,15 +29,11 @@ listed : (netlist : Netlist) (m : ℕ) → m < length netlist.nets → is_placed
 listed netlist m lt at =
     any-filter_same (nat_eq m) (is_static_control netlist) (is_static netlist m)
     (λ k e. let same : m ≡ k = eqb-true m k e in subst (λ j. is_static_control netlist j ≡ is_static netlist m) same (by (is_static netlist m) (is_placed netlist m) at)) (numbers_below (length netlist.nets))
-    ∙ ap (λ b. is_static netlist m && b) (number_there m (length netlist.nets) lt) ∙ same_and (is_static netlist m)
+    ∙ ap (λ b. is_static netlist m && b) (number_there m (length netlist.nets) lt) ∙ and-true (is_static netlist m)
   where
     by : (a b : Bool) → b ≡ true → (a && b) ≡ a
     by true b e = e
     by false b e = refl
-
-    same_and : (a : Bool) → (a && true) ≡ a
-    same_and true = refl
-    same_and false = refl
 
 -- the sets of a net that is among these
 found : (netlist : Netlist) (book : Diagrams) (nets : List (ℕ × List ℕ)) (m : ℕ) → AllByRecursion (IsNetBits netlist book) nets → list_any (nat_eq m) (map (λ (net : ℕ × List ℕ). net.0) nets) ≡ true

@@ -98,10 +98,6 @@ module _ (old new : Diagrams) (a b : ℕ) where
 
 -- ---- words that are left
 
-pub and_left : (a b : Bool) → (a && b) ≡ true → a ≡ true
-and_left true b h = refl
-and_left false b h = h
-
 -- what is given so far: nothing to the words that are left of a set, and all to its others
 abbrev pub left_exprs : Bool → Bool → List ExprModel → List ExprModel → List ExprModel
 left_exprs set left whole outs = if set then (if left then [] else whole) else outs

@@ -4,6 +4,7 @@ use Rattle.std.proofs.Common.{◌≡◌, ℕ, zero, suc, ◌+◌, ◌-◌, ◌<�
 use Rattle.std.specs.Prelude.{slice_get, remove, insert}
 use Rattle.std.specs.List.{AllZip, range_with_len}
 use Rattle.std.proofs.lemmas.List.FromFn.{length-range_with_len}
+use Rattle.rec_bits.proofs.Lists.{length_inserted}
 use Rattle.net_model.specs.Exprs.{ExprModel}
 use Rattle.form_model.specs.Forms.{FormModel, DestinationModel, temporary}
 use Rattle.form_model.specs.Matches.{LeafModel, operand, cut, MatchModel, taken}
@@ -11,7 +12,7 @@ use Rattle.form_model.specs.CoverModels.{CoverModel, use_form, CoverOperandsMode
 use Rattle.form_model.specs.Covers.{StockModel, Operand, home_destination, operands_of, cuts_of, IsOrderly, AreOrderly, AreCut}
 use Rattle.form_model.specs.Steps.{OperandCellsModel, CutCellsModel, cut_count, operands_count, cuts_count, operand_counts, cut_counts, operand_cells, cut_cells, cover_operand_cells, cover_cut_cells, operand_cells_or_none, form_or_none, match_or_none, form_at, match_at}
 use Rattle.spill.specs.Filled.{woven_cells, filled_cells, filled_in_operands, filled_by_cuts}
-use Rattle.form_model.proofs.Zips.{zip_put, zip_at, map-remove, get_mapped, length_in, length_out, total, total-insert}
+use Rattle.form_model.proofs.Zips.{zip_put, zip_at, map-remove, get_mapped, length_out, total, total-insert}
 
 pub range_joined : (a m n : ℕ) → range_with_len a m ++ range_with_len (a + m) n ≡ range_with_len a (m + n)
 range_joined a zero n = ap (λ b. range_with_len b n) (omega arith) ∙ ap (range_with_len a) (omega arith)
@@ -90,7 +91,7 @@ operands_long : (stock : StockModel) (ps : CoverOperandsModel) (left : List Oper
 operands_long stock no_operands left c = sym (ap length c)
 operands_long stock (operand_then i p ps) left c =
     let h = operands_long stock ps (remove left i) c.4 in
-    omega (arith, h, length_in (operand_counts ps) i (cut_count p), length_out left i c.0 c.1)
+    omega (arith, h, length_inserted (operand_counts ps) i (cut_count p), length_out left i c.0 c.1)
 
 cuts_long : (stock : StockModel) (cs : CoverCutsModel) (cuts : List ExprModel) → AreCut stock cuts cs → length (cut_counts cs) ≡ length cuts
 cuts_long stock no_cuts cuts c = sym (ap length c)

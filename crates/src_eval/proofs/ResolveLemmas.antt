@@ -1,7 +1,7 @@
 -- The formulas of expressions, by their parts.
-use Rattle.std.proofs.Common.{lit<, [], ◌∷◌, ◌++◌, slice_set, ◌≡◌, ℕ, ◌+◌, ◌-◌, ◌/◌, ◌%◌, ◌^◌, ◌≤◌, ◌<◌, List, slice_index, refl, sym, ap, subst, ◌∙◌, arith}
+use Rattle.std.proofs.Common.{lit<, [], ◌∷◌, ◌++◌, slice_set, ◌≡◌, ℕ, ◌+◌, ◌%◌, ◌^◌, ◌≤◌, ◌<◌, List, slice_index, refl, sym, ap, subst, ◌∙◌, arith}
 use Rattle.std.specs.Global.{Box}
-use Rattle.rec_bits.specs.Operators.{apply2_of, slice_of}
+use Rattle.rec_bits.specs.Operators.{apply2_of}
 use Rattle.src_model.specs.declared.program.Var.{Var as Declared}
 use Rattle.src_model.specs.declared.program.SrcExpr.{SrcExpr}
 use Rattle.src_model.specs.Written.{SrcNodeModel, num, plain, element, un, bin, zext, sext, low, model_of_src_node}
@@ -18,6 +18,7 @@ use Rattle.src_model.specs.Trace.{stepped}
 use Rattle.std.proofs.lemmas.Nat.{pow_pos}
 use Rattle.std.proofs.Math.Nat.{pow-le-pow_right}
 use Rattle.rec_bits.specs.declared.operator.Op2.TheVariants.{Add}
+use Rattle.rec_bits.proofs.Bits.{low_slice}
 use Rattle.src_eval.specs.Inner.Resolved.{Resolves}
 use Rattle.src_eval.proofs.FormulaLemmas.{fits_wider}
 
@@ -32,12 +33,6 @@ module _ (word : ℕ) (vars : List Declared) (w : IsWidth word) where
         value = λ cells. low_slice (formula_value cells b.value) to h.1 ∙ ap (λ n. n % 2 ^ to) (r.value cells);
         fits = ((h.1, omega (arith, i, h.2)), omega arith, fits_wider word (shape_width word word x) 64 b.value i.1 r.fits);
       }
-    where
-      low_slice : (n to : ℕ) → 1 ≤ to → slice_of n (to - 1) 0 ≡ n % 2 ^ to
-      low_slice n to le =
-          let e : to - 1 + 1 - 0 ≡ to = omega (arith, le) in
-          let d : n / 2 ^ 0 ≡ n = omega arith in
-          (λ j. d j % 2 ^ e j)
 
 -- a formula of an expression as it is borrowed, and then held in a box
 pub held_resolves : (word : ℕ) (vars : List Declared) (asked : ℕ) (d x : SrcExpr) (f g : Formula) → d ≡ x → g ≡ f → Resolves word vars asked (model_of_src_node d.node) f → Resolves word vars asked (model_of_src_node x.node) g

@@ -17,14 +17,11 @@ use Rattle.rec_bits.specs.Faults.{fault_at}
 use Rattle.rec_bits.specs.Faults.{or_else}
 use Rattle.rec_bits.specs.Faults.{least}
 use Rattle.rec_bits.proofs.Faults.{least_none}
-
-bit_le : (b : Bool) → (if b then 1 else 0) ≤ 1
-bit_le true = omega arith
-bit_le false = omega arith
+use Rattle.rec_bits.proofs.Booleans.{bit_within}
 
 read_le : (word : ℕ) (o : Option ℕ) (p : Subtree) (n : ℕ) → all_of p ≤ n → all_of (read_part word o p) ≤ read_nodes o n
 read_le word (Some m) p n h = omega arith
-read_le word None p n h = let b : is_word word word ≤ 1 = bit_le _ in omega (arith, b, h)
+read_le word None p n h = let b : is_word word word ≤ 1 = bit_within _ in omega (arith, b, h)
 
 sided_le : (b : Bool) (left right : Subtree) (f g : ℕ → Subtree) (n m : ℕ) → all_of left ≤ n → all_of right ≤ m → ((w : ℕ) → all_of (f w) ≤ n) → ((w : ℕ) → all_of (g w) ≤ m)
     → (sided b left right f g).below ≤ n + m
@@ -32,7 +29,7 @@ sided_le true left right f g n m l r fl gr = let k = fl right.width in omega (ar
 sided_le false left right f g n m l r fl gr = let k = gr left.width in omega (arith, k, l)
 
 node_le : (word width below n : ℕ) → below ≤ n → is_word word width + below ≤ 1 + n
-node_le word width below n h = let b : is_word word width ≤ 1 = bit_le _ in omega (arith, b, h)
+node_le word width below n h = let b : is_word word width ≤ 1 = bit_within _ in omega (arith, b, h)
 
 -- the nodes of a word's width are among the nodes
 part_le : (word asked : ℕ) (e : SrcNodeModel) → all_of (part word asked e) ≤ nodes e
@@ -57,7 +54,7 @@ temps_le : (word : ℕ) (r : Root) → temps_of word r ≤ nodes_of r
 temps_le word (value e) = let k = part_le word word e in omega (arith, k)
 temps_le word (store x e) = let k = part_le word word x in let l = part_le word word e in omega (arith, k, l)
 temps_le word (compare x y) = let k = sides_le word x y in omega (arith, k)
-temps_le word (difference x y) = let k = sides_le word x y in let b : is_word word (sided (is_literal x) (part word word x) (part word word y) (λ w. part word w x) (λ w. part word w y)).width ≤ 1 = bit_le _ in omega (arith, k, b)
+temps_le word (difference x y) = let k = sides_le word x y in let b : is_word word (sided (is_literal x) (part word word x) (part word word y) (λ w. part word w x) (λ w. part word w y)).width ≤ 1 = bit_within _ in omega (arith, k, b)
 
 greatest_le : (f g : Root → ℕ) → ((r : Root) → f r ≤ g r) → (rs : List Root) → greatest f rs ≤ greatest g rs
 greatest_le f g h [] = omega arith

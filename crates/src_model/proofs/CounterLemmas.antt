@@ -1,9 +1,10 @@
 -- What a program's statements keep of a store.
-use Rattle.std.proofs.Common.{ℕ, zero, suc, ◌≡◌, ◌<◌, ◌+◌, ◌%◌, ◌^◌, ◌==◌, true, List, [], ◌∷◌, Option, Some, None, ◌∙◌, subst, arith, slice_index, slice_set, eq-eqb}
+use Rattle.std.proofs.Common.{ℕ, ◌≡◌, ◌<◌, ◌+◌, ◌%◌, ◌^◌, ◌==◌, true, List, [], ◌∷◌, Option, Some, None, ◌∙◌, subst, arith, slice_set, eq-eqb}
 use Rattle.std.proofs.lemmas.List.{length-set, get_or-set_same, get_or-set_other}
 use Rattle.std.proofs.Math.Nat.{mod-eq_of_lt}
 use Rattle.std.proofs.lemmas.Bool.{ltb-true}
 use Rattle.rec_bits.proofs.Booleans.{both}
+use Rattle.rec_bits.proofs.Lists.{set_below}
 use Rattle.src_model.specs.declared.program.Var.{Var as Declared}
 use Rattle.src_model.specs.Written.{SrcExprModel, SpotModel, node_at}
 use Rattle.src_model.specs.Names.{declared, is_plain}
@@ -15,15 +16,8 @@ use Rattle.src_model.specs.Inner.Sound.{Counts, Holds, Turns, Frees, SoundAssign
 use Rattle.src_model.proofs.CellLemmas.{first_within, cells_apart, plain_var, array_var}
 use Rattle.src_model.proofs.ValueLemmas.{value_fits}
 
-words_set : (P : ℕ) (cells : List ℕ) (at v : ℕ) → ((cell : ℕ) → slice_index cells cell < P) → v < P → (cell : ℕ) → slice_index (slice_set cells at v) cell < P
-words_set P [] at v words h cell = words cell
-words_set P (c ∷ cells) zero v words h zero = h
-words_set P (c ∷ cells) zero v words h (suc cell) = words (suc cell)
-words_set P (c ∷ cells) (suc at) v words h zero = words zero
-words_set P (c ∷ cells) (suc at) v words h (suc cell) = words_set P cells at v (λ i. words (suc i)) h cell
-
 fits_set : (bits : ℕ) (vars : List Declared) (cells : List ℕ) (at v : ℕ) → FitsStore bits vars cells → v < 2 ^ bits → FitsStore bits vars (slice_set cells at v)
-fits_set bits vars cells at v f lt = record { all_cells = length-set cells at v ∙ f.all_cells; below = words_set (2 ^ bits) cells at v f.below lt }
+fits_set bits vars cells at v f lt = record { all_cells = length-set cells at v ∙ f.all_cells; below = set_below (2 ^ bits) cells at v f.below lt }
 
 -- the variable of a place, and that its cell is one of it
 spot : (bits : ℕ) (vars : List Declared) (cells : List ℕ) (name : List ℕ) (at : ℕ) (index : Option SrcExprModel) → Known vars (node_at name at index) → is_inside bits vars cells (node_at name at index) ≡ true

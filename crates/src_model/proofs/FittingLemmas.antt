@@ -6,6 +6,8 @@ use Rattle.rec_bits.specs.Operators.{result_width}
 use Rattle.rec_bits.specs.declared.operator.Op2.{Op2}
 use Rattle.rec_bits.specs.declared.operator.Op2.TheVariants.{Add, Sub, Mul, And, Or, Xor, Shl, Shr, Sar, Eq, Ltu, Lts}
 use Rattle.rec_bits.specs.Faults.{offsets_if, least}
+use Rattle.rec_bits.proofs.Booleans.{left_false, right_false}
+use Rattle.rec_bits.proofs.Lists.{append_none}
 use Rattle.src_model.specs.Written.{SrcNodeModel, num, plain, element, un, bin, zext, sext, low, SrcExprModel, SpotModel, StmtModel, assign, choice, while, count, StmtsModel, no_acts, act, ElseModel, without, otherwise, ProgramModel, stmts_of}
 use Rattle.src_model.specs.Widths.{is_literal, whole, alike, asking, operated, extended, lowered, side_by_side, wide, sides, misfit}
 use Rattle.src_model.specs.Loops.{Round, place_shape, breaks, breaks_in, breaks_else, changes_rule, miscounted, counters}
@@ -201,10 +203,6 @@ wide_is word asked here (low at x to) width k =
 
 -- ---- statements
 
-append_none : (xs ys : List ℕ) → xs ++ ys ≡ [] → (xs ≡ []) × (ys ≡ [])
-append_none [] ys h = (refl, h)
-append_none (x ∷ xs) ys h = absurd (cc h)
-
 -- no offset of a misfit: there is a width
 fit_is : (r : Result ℕ ℕ) → misfit r ≡ [] → (width : ℕ) × (r ≡ Ok width)
 fit_is (Ok width) h = (width, refl)
@@ -232,18 +230,10 @@ not_broken : (b : Bool) (at : ℕ) → offsets_if b at ≡ [] → b ≡ false
 not_broken false at h = refl
 not_broken true at h = absurd (cc h)
 
-later_false : (a b : Bool) → (a || b) ≡ false → b ≡ false
-later_false false b h = h
-later_false true b h = absurd (cc h)
-
-former_false : (a b : Bool) → (a || b) ≡ false → a ≡ false
-former_false false b h = refl
-former_false true b h = absurd (cc h)
-
 count_fits : (word : ℕ) (round : Round) (body : StmtsModel) → miscounted word round body ≡ false → FitsCount word round.from round.to
 count_fits word round body h =
-    let t = later_false (is_some (least (breaks_in (changes_rule round.counter) [] body)) || nat_lt (round.to + 1) round.from) (nat_le (2 ^ word) (round.to + 1)) h in
-    let s = later_false (is_some (least (breaks_in (changes_rule round.counter) [] body))) (nat_lt (round.to + 1) round.from) (former_false _ _ h) in
+    let t = right_false (is_some (least (breaks_in (changes_rule round.counter) [] body)) || nat_lt (round.to + 1) round.from) (nat_le (2 ^ word) (round.to + 1)) h in
+    let s = right_false (is_some (least (breaks_in (changes_rule round.counter) [] body))) (nat_lt (round.to + 1) round.from) (left_false _ _ h) in
     record { order = grind (arith, nat_tests, s); below = grind (arith, nat_tests, t) }
 
 mutual

@@ -1,5 +1,5 @@
 -- An index whose range lies within its array lies in it in every run.
-use Rattle.std.proofs.Common.{ℕ, ◌≡◌, ◌≤◌, ◌<◌, ◌+◌, ◌-◌, ◌*◌, ◌/◌, ◌%◌, ◌^◌, Bool, true, false, not, nat_lt, ◌&&◌, if◌then◌else◌, min, max, List, [], ◌∷◌, ◌++◌, Option, Some, None, refl, sym, ap, subst, arith, ℤ, pos, slice_index}
+use Rattle.std.proofs.Common.{ℕ, ◌≡◌, ◌≤◌, ◌<◌, ◌+◌, ◌-◌, ◌*◌, ◌/◌, ◌%◌, ◌^◌, Bool, true, false, not, nat_lt, ◌&&◌, if◌then◌else◌, min, max, List, [], ◌∷◌, Option, Some, None, refl, sym, ap, subst, arith, ℤ, pos, slice_index}
 use Rattle.std.specs.Prelude.{int_le, int_lt, ◌-ℤ◌, ◌+ℤ◌, ◌*ℤ◌, ◌≤ℤ◌, bit_and}
 use Rattle.std.proofs.lemmas.Int.{ints}
 use Rattle.std.proofs.lemmas.Bool.{lt-ltb, ltb-true, ltb-false}
@@ -18,6 +18,7 @@ use Rattle.src_model.specs.declared.program.Var.{Var as Declared}
 use Rattle.src_model.specs.Written.{SrcNodeModel, num, plain, element, un as un_of, bin as bin_of, zext as zext_of, sext as sext_of, low}
 use Rattle.src_model.specs.Names.{declared}
 use Rattle.rec_bits.specs.Faults.{same_name}
+use Rattle.rec_bits.proofs.Lists.{append_none}
 use Rattle.src_model.specs.Loops.{Round}
 use Rattle.src_model.specs.Indexes.{number_of, between, counted_range, of_both, times, product_range, masked_range, range_by, index_range, length_of, is_within, loose}
 use Rattle.src_model.specs.Meaning.{shape_width, operand_width, shape_value}
@@ -212,10 +213,6 @@ index_width Ltu w bits n m r q range e h = absurd (cc)
 index_width Lts w bits n m r q range e h = absurd (cc)
 
 -- ---- indexes
-
-pub append_none : (xs ys : List ℕ) → xs ++ ys ≡ [] → (xs ≡ []) × (ys ≡ [])
-append_none [] ys h = (refl, h)
-append_none (x ∷ xs) ys h = absurd (cc h)
 
 pub kept : (b : Bool) (at : ℕ) → offsets_if (not b) at ≡ [] → b ≡ true
 kept true at h = refl

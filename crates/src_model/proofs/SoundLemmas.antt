@@ -1,11 +1,13 @@
 -- A program that keeps its rules: what is known of each of its statements.
-use Rattle.std.proofs.Common.{ℕ, ◌≡◌, ◌+◌, ◌^◌, Bool, true, false, not, ◌||◌, is_some, nat_lt, nat_le, List, [], ◌∷◌, ◌++◌, Option, Some, None, refl}
+use Rattle.std.proofs.Common.{ℕ, ◌≡◌, ◌+◌, ◌^◌, Bool, true, false, not, is_some, nat_lt, nat_le, List, [], ◌∷◌, ◌++◌, Option, Some, None, refl}
 use Rattle.rec_bits.specs.Faults.{offsets_if, least}
 use Rattle.rec_bits.proofs.Faults.{least_none}
 use Rattle.src_model.specs.declared.program.Var.{Var as Declared}
 use Rattle.src_model.specs.Written.{SrcNodeModel, num, plain, element, un as un_of, bin as bin_of, zext as zext_of, sext as sext_of, low, StmtModel, assign, choice, while, count, StmtsModel, no_acts, act, ElseModel, without, otherwise, ProgramModel, stmts_of}
 use Rattle.src_model.specs.Names.{declared, is_plain, unknown}
 use Rattle.rec_bits.specs.Faults.{same_name}
+use Rattle.rec_bits.proofs.Booleans.{left_false}
+use Rattle.rec_bits.proofs.Lists.{append_none}
 use Rattle.src_model.specs.Indexes.{loose}
 use Rattle.src_model.specs.Loops.{Round, place_shape, breaks, breaks_in, breaks_else, changes_rule, miscounted, counters}
 use Rattle.src_model.specs.Rules.{names, indexes, first_fault}
@@ -14,15 +16,11 @@ use Rattle.src_model.proofs.Bounds.{rules_hold}
 use Rattle.src_model.proofs.FittingLemmas.{program_fits}
 use Rattle.src_model.specs.Inside.{Known}
 use Rattle.src_model.specs.Inner.Sound.{Frees, Sound, SoundIn, SoundElse}
-use Rattle.src_model.proofs.RangeLemmas.{append_none, kept}
+use Rattle.src_model.proofs.RangeLemmas.{kept}
 
 not_broken : (b : Bool) (at : ℕ) → offsets_if b at ≡ [] → b ≡ false
 not_broken false at h = refl
 not_broken true at h = absurd (cc h)
-
-former_false : (a b : Bool) → (a || b) ≡ false → a ≡ false
-former_false false b h = refl
-former_false true b h = absurd (cc h)
 
 no_least : (xs : List ℕ) → is_some (least xs) ≡ false → xs ≡ []
 no_least xs h = by (least xs) refl h
@@ -94,7 +92,7 @@ mutual
       let here : Round = record { counter = counter; from = from; to = to } in
       let p = append_none (offsets_if (not (is_plain (declared vars counter))) at) _ n in
       let r = append_none (offsets_if (miscounted bits here body) at) _ c in
-      let m = former_false (is_some (least (breaks_in (changes_rule counter) [] body))) (nat_lt (to + 1) from) (former_false _ (nat_le (2 ^ bits) (to + 1)) (not_broken _ at r.0)) in (
+      let m = left_false (is_some (least (breaks_in (changes_rule counter) [] body))) (nat_lt (to + 1) from) (left_false _ (nat_le (2 ^ bits) (to + 1)) (not_broken _ at r.0)) in (
         record {
           fits = f.0;
           plain = kept _ at p.0;

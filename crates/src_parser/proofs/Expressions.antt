@@ -12,6 +12,7 @@ use Rattle.grammar.proofs.Limits.{within_reads}
 use Rattle.grammar.proofs.Chains.{Chained, chain_leads, chain_fails, tail_ends, tail_leads, tail_fails}
 use Rattle.rec_bits.specs.declared.operator.Op2.{Op2}
 use Rattle.rec_bits.specs.declared.operator.Op2.TheVariants.{Sub}
+use Rattle.rec_bits.proofs.Options.{same_Some}
 use Rattle.src_model.specs.Grammar.{Lexed, Word, IsIndex, UnaryBehind, Chains, IsUnary, IsExpr, op_of, op_at, rank, join}
 use Rattle.grammar.specs.declared.words.Word.TheVariants.{Name, Number, Symbol as Shows, Key as Keyed}
 use Rattle.src_model.specs.declared.words.Key.TheVariants.{Operator as Operates, Call as Calls}
@@ -118,24 +119,21 @@ tail_on j k d s {room = room} {all = all} {ts = ts} {m = m} {a = a} {b = b} {t =
 
 -- ---- what opens a level
 
-pub some_is : {A : Type 0} {x y : A} → Some x ≡ Some y → x ≡ y
-some_is e = cc
-
 widely : {T V : Type 0} {R : List T → V → Type 0} {room : ℕ} → 1 ≤ room → Short 1 R → Short room R
 widely long s = (let f : length s.text ≤ 1 = s.fits in record { text = s.text; value = s.value; is = s.is; fits = omega arith })
 
 open_to : (U E : List Lexed → SrcExprModel → Type 0) (w : Word) (o : Opening) (at : ℕ) (x : List Lexed) (v : SrcExprModel) → opening_of w ≡ Some o → OpenBehind U E o at x v → UnaryBehind U E w at x v
-open_to U E (Keyed (Operates Sub)) o at x v e h = subst (λ o. OpenBehind U E o at x v) (some_is (sym e)) h
-open_to U E (Shows Tilde) o at x v e h = subst (λ o. OpenBehind U E o at x v) (some_is (sym e)) h
-open_to U E (Shows LeftParen) o at x v e h = subst (λ o. OpenBehind U E o at x v) (some_is (sym e)) h
-open_to U E (Keyed (Calls call)) o at x v e h = subst (λ o. OpenBehind U E o at x v) (some_is (sym e)) h
+open_to U E (Keyed (Operates Sub)) o at x v e h = subst (λ o. OpenBehind U E o at x v) (same_Some _ _ (sym e)) h
+open_to U E (Shows Tilde) o at x v e h = subst (λ o. OpenBehind U E o at x v) (same_Some _ _ (sym e)) h
+open_to U E (Shows LeftParen) o at x v e h = subst (λ o. OpenBehind U E o at x v) (same_Some _ _ (sym e)) h
+open_to U E (Keyed (Calls call)) o at x v e h = subst (λ o. OpenBehind U E o at x v) (same_Some _ _ (sym e)) h
 open_to U E _ o at x v e h = absurd cc
 
 pub open_from : (U E : List Lexed → SrcExprModel → Type 0) (w : Word) (o : Opening) (at : ℕ) (x : List Lexed) (v : SrcExprModel) → opening_of w ≡ Some o → UnaryBehind U E w at x v → OpenBehind U E o at x v
-open_from U E (Keyed (Operates Sub)) o at x v e h = subst (λ o. OpenBehind U E o at x v) (some_is e) h
-open_from U E (Shows Tilde) o at x v e h = subst (λ o. OpenBehind U E o at x v) (some_is e) h
-open_from U E (Shows LeftParen) o at x v e h = subst (λ o. OpenBehind U E o at x v) (some_is e) h
-open_from U E (Keyed (Calls call)) o at x v e h = subst (λ o. OpenBehind U E o at x v) (some_is e) h
+open_from U E (Keyed (Operates Sub)) o at x v e h = subst (λ o. OpenBehind U E o at x v) (same_Some _ _ e) h
+open_from U E (Shows Tilde) o at x v e h = subst (λ o. OpenBehind U E o at x v) (same_Some _ _ e) h
+open_from U E (Shows LeftParen) o at x v e h = subst (λ o. OpenBehind U E o at x v) (same_Some _ _ e) h
+open_from U E (Keyed (Calls call)) o at x v e h = subst (λ o. OpenBehind U E o at x v) (same_Some _ _ e) h
 open_from U E _ o at x v e h = absurd cc
 
 pub open_within : (levels d : ℕ) → levels ≡ suc d → {more : Lexed → Bool} {room : ℕ} {ts rest : List Lexed} {t : Lexed} {o : Opening} → 1 ≤ room → ts ≡ t ∷ rest → opening_of t.word ≡ Some o

@@ -2,6 +2,7 @@
 use Rattle.std.proofs.Common.{◌≡◌, ℕ, zero, suc, ◌≤◌, Bool, true, false, List, [], ◌∷◌, ◌++◌, length, map, Option, Some, None, Box, IsTrue, ◌↔◌, refl, sym, ap, subst, ◌∙◌, arith}
 use Rattle.std.specs.declared.alloc.Global.{Global}
 use Rattle.std.specs.declared.vec.Vec.{Vec}
+use Rattle.rec_bits.proofs.Options.{same_Some}
 use Rattle.grammar.specs.declared.stop.ParseStop.TheVariants.{At}
 use Rattle.grammar.specs.Reading.{Bind, without, head, never, Reads, FailsAs, Leads}
 use Rattle.grammar.proofs.Steps.{leads_as, never_stops}
@@ -24,7 +25,7 @@ use Rattle.src_parser.specs.declared.statement.Compound.{Compound}
 use Rattle.src_parser.specs.declared.statement.Compound.TheVariants.{If as Chooses, While as Repeats, For as Counts}
 use Rattle.src_parser.specs.Inner.Steps.{OpensBracket, CompoundBehind, compound_of, act_word, cmp_of, else_word, acts_word, may_follow, after, after_else, after_acts, others_of}
 use Rattle.grammar.proofs.Tokens.{Shown, begun, there_behind, there_before, there_word, word_leads, word_ended, word_missed}
-use Rattle.src_parser.proofs.Expressions.{short_chain, some_is}
+use Rattle.src_parser.proofs.Expressions.{short_chain}
 
 pub there_outer : (d : ℕ) → There (IsOuter d)
 there_outer d = (let s = short_chain 6 d in let f : length s.text ≤ 1 = s.fits in record { text = s.text; value = s.value; is = record { text = s.is; fits = omega arith } })
@@ -114,15 +115,15 @@ not_so {b = b} {test = test} {ts = ts} f e t h is = absurd (clash (f.1 (opened t
 -- ---- by the first word
 
 compound_to : (levels : ℕ) (B : List Lexed → List StmtModel → Type 0) (w : Word) (c : Compound) (at : ℕ) (x : List Lexed) (v : StmtModel) → compound_of w ≡ Some c → CompoundBehind levels B c x v → StmtBehind levels B w at x v
-compound_to levels B (Shows If) c at x v e h = subst (λ c. CompoundBehind levels B c x v) (some_is (sym e)) h
-compound_to levels B (Shows While) c at x v e h = subst (λ c. CompoundBehind levels B c x v) (some_is (sym e)) h
-compound_to levels B (Shows For) c at x v e h = subst (λ c. CompoundBehind levels B c x v) (some_is (sym e)) h
+compound_to levels B (Shows If) c at x v e h = subst (λ c. CompoundBehind levels B c x v) (same_Some _ _ (sym e)) h
+compound_to levels B (Shows While) c at x v e h = subst (λ c. CompoundBehind levels B c x v) (same_Some _ _ (sym e)) h
+compound_to levels B (Shows For) c at x v e h = subst (λ c. CompoundBehind levels B c x v) (same_Some _ _ (sym e)) h
 compound_to levels B _ c at x v e h = absurd cc
 
 compound_from : (levels : ℕ) (B : List Lexed → List StmtModel → Type 0) (w : Word) (c : Compound) (at : ℕ) (x : List Lexed) (v : StmtModel) → compound_of w ≡ Some c → StmtBehind levels B w at x v → CompoundBehind levels B c x v
-compound_from levels B (Shows If) c at x v e h = subst (λ c. CompoundBehind levels B c x v) (some_is e) h
-compound_from levels B (Shows While) c at x v e h = subst (λ c. CompoundBehind levels B c x v) (some_is e) h
-compound_from levels B (Shows For) c at x v e h = subst (λ c. CompoundBehind levels B c x v) (some_is e) h
+compound_from levels B (Shows If) c at x v e h = subst (λ c. CompoundBehind levels B c x v) (same_Some _ _ e) h
+compound_from levels B (Shows While) c at x v e h = subst (λ c. CompoundBehind levels B c x v) (same_Some _ _ e) h
+compound_from levels B (Shows For) c at x v e h = subst (λ c. CompoundBehind levels B c x v) (same_Some _ _ e) h
 compound_from levels B _ c at x v e h = absurd cc
 
 pub compound_leads : (levels : ℕ) {more : Lexed → Bool} {ts rest : List Lexed} {t : Lexed} {c : Compound} → ts ≡ t ∷ rest → compound_of t.word ≡ Some c → Leads (λ v. v) (CompoundBehind levels (IsBlock levels) c) more rest (IsStmt levels) more ts

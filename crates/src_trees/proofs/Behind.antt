@@ -1,7 +1,8 @@
 -- Jobs don't see the cells below those that they read: what differs there changes nothing behind.
-use Rattle.std.proofs.Common.{ℕ, zero, suc, ◌≡◌, ◌≤◌, ◌+◌, ◌-◌, ◌==◌, if◌then◌else◌, List, [], ◌∷◌, length, drop, refl, sym, ◌∙◌, ap, arith, slice_index, slice_set}
-use Rattle.std.proofs.lemmas.List.{get_or-drop, length-set}
+use Rattle.std.proofs.Common.{ℕ, ◌≡◌, ◌≤◌, ◌+◌, ◌-◌, ◌==◌, if◌then◌else◌, List, [], ◌∷◌, length, drop, refl, sym, ◌∙◌, ap, arith, slice_index, slice_set}
+use Rattle.std.proofs.lemmas.List.{length-set}
 use Rattle.rec_bits.specs.Operators.{apply1_of, apply2_of, slice_of, cat_of, sext_of as extended_of}
+use Rattle.rec_bits.proofs.Lists.{cell_behind, drop-set}
 use Rattle.net_model.specs.declared.hardware.Space.TheVariants.{Memory as InMemory, File as InFile}
 use Rattle.net_model.specs.Exprs.{ExprModel, word, reg, const, read, un, bin, slice, cat, zext, sext, select, expr_width}
 use Rattle.form_model.specs.Forms.{DestinationModel, into, cell, filed, stored, temporary, tested}
@@ -13,11 +14,6 @@ use Rattle.src_trees.specs.Doing.{job_value, put_at, done, all_done, AllRead, De
 pub record Alike (at : ℕ) (cells others : List ℕ) : Type 0 where
   pub same : drop at cells ≡ drop at others
   pub long : length cells ≡ length others
-
-cell_behind : (at a : ℕ) (cells others : List ℕ) → drop at cells ≡ drop at others → at ≤ a → slice_index cells a ≡ slice_index others a
-cell_behind at a cells others e le =
-    let z : at + (a - at) ≡ a = omega arith in
-    ap (slice_index cells) (sym z) ∙ sym (get_or-drop at cells (a - at) 0) ∙ ap (λ xs. slice_index xs (a - at)) e ∙ get_or-drop at others (a - at) 0 ∙ ap (slice_index others) z
 
 module _ (at : ℕ) (cells others : List ℕ) (alike : Alike at cells others) where
   pub value_behind : (t : ExprModel) → ReadsCells at cells t → tree_value cells t ≡ tree_value others t
@@ -71,17 +67,11 @@ module _ (at : ℕ) (cells others : List ℕ) (alike : Alike at cells others) wh
   job_behind [] r = refl
   job_behind (t ∷ trees) r = value_behind t r.0
 
-drop_set : (at k n : ℕ) (cells : List ℕ) (v : ℕ) → n ≡ at + k → drop at (slice_set cells n v) ≡ slice_set (drop at cells) k v
-drop_set zero k n cells v e = let f : n ≡ k = omega arith in ap (λ x. slice_set cells x v) f
-drop_set (suc at) k n [] v e = refl
-drop_set (suc at) k zero (c ∷ cells) v e = absurd (omega arith)
-drop_set (suc at) k (suc n) (c ∷ cells) v e = drop_set at k n cells v (omega arith)
-
 set_alike : (at a b v w : ℕ) (cells others : List ℕ) → Alike at cells others → at ≤ a → a ≡ b → v ≡ w → Alike at (slice_set cells a v) (slice_set others b w)
 set_alike at a b v w cells others k le e f =
     let z : a ≡ at + (a - at) = omega arith in
     record {
-      same = drop_set at (a - at) a cells v z ∙ (λ j. slice_set (k.same j) (a - at) (f j)) ∙ sym (drop_set at (a - at) b others w (sym e ∙ z));
+      same = drop-set at (a - at) a cells v z ∙ (λ j. slice_set (k.same j) (a - at) (f j)) ∙ sym (drop-set at (a - at) b others w (sym e ∙ z));
       long = length-set cells a v ∙ k.long ∙ sym (length-set others b w);
     }
 

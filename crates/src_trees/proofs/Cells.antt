@@ -1,17 +1,18 @@
 -- The cells of variables: where they stand in a store and in memory, and that those of two
 -- variables are apart.
 use Rattle.std.proofs.Common.{ℕ, zero, suc, ◌≡◌, ◌≤◌, ◌<◌, ◌+◌, ◌-◌, ◌^◌, ◌⊎◌, inl, inr, Bool, true, false, if◌then◌else◌, List, [], ◌∷◌, ◌++◌, length, take, drop, Option, None, Some, refl, sym, ◌∙◌, ap, subst, arith, slice_index, slice_set}
-use Rattle.std.proofs.lemmas.List.{get_or-take, get_or-drop, length-take, length-drop, length-append, set-append_left, set-append_right}
+use Rattle.std.proofs.lemmas.List.{get_or-take, get_or-drop, length-take, length-append, set-append_left, set-append_right}
 use Rattle.std.proofs.Math.Seq.{get_or-append_right}
 use Rattle.std.proofs.Math.ListN.{get_or-append}
 use Rattle.src_model.specs.declared.program.Var.{Var as Declared}
 use Rattle.src_model.specs.Names.{declared}
 use Rattle.rec_bits.specs.Faults.{same_name}
+use Rattle.rec_bits.proofs.Lists.{part_length, drop-set, append_below, set_below}
 use Rattle.src_model.specs.Meaning.{cells_in, cell_count, first_cell}
 use Rattle.code_model.specs.declared.image.Place.{Place as VariablePlace}
 use Rattle.code_model.specs.Places.{cells_at, places_from}
 use Rattle.code_model.specs.Layout.{variables_of}
-use Rattle.code_model.proofs.Stores.{drop-plus, drop-set, take-set}
+use Rattle.code_model.proofs.Stores.{drop-plus, take-set}
 use Rattle.src_trees.specs.Lowered.{JobModel, base_of}
 use Rattle.src_trees.specs.Doing.{destination_cell, done, job_value, put_in}
 use Rattle.src_trees.specs.Seen.{memory_map, InReach}
@@ -22,9 +23,6 @@ use Rattle.src_trees.specs.Held.{StandFor, LieWithin, IsAlone, AreAlone, HoldsVa
 -- the cells of a place
 abbrev cells_of_place : VariablePlace → List ℕ → List ℕ
 cells_of_place p cells = take p.len (drop p.address cells)
-
-part_length : (n a : ℕ) (cells : List ℕ) → a + n ≤ length cells → length (take n (drop a cells)) ≡ n
-part_length n a cells le = omega (arith, length-take n (drop a cells), length-drop a cells)
 
 part_at : (n a i : ℕ) (cells : List ℕ) → i < n → slice_index (take n (drop a cells)) i ≡ slice_index cells (a + i)
 part_at n a i cells lt = get_or-take n (drop a cells) i 0 lt ∙ get_or-drop a cells i 0
@@ -224,11 +222,6 @@ take_below P (suc n) [] h c = h c
 take_below P (suc n) (x ∷ cells) h zero = h 0
 take_below P (suc n) (x ∷ cells) h (suc c) = take_below P n cells (λ i. h (suc i)) c
 
-append_below : (P : ℕ) (xs ys : List ℕ) → ((c : ℕ) → slice_index xs c < P) → ((c : ℕ) → slice_index ys c < P) → (c : ℕ) → slice_index (xs ++ ys) c < P
-append_below P [] ys h k c = k c
-append_below P (x ∷ xs) ys h k zero = h 0
-append_below P (x ∷ xs) ys h k (suc c) = append_below P xs ys (λ i. h (suc i)) k c
-
 pub seen_below : (P : ℕ) (places : List VariablePlace) (cells : List ℕ) → 0 < P → ((c : ℕ) → slice_index cells c < P) → (c : ℕ) → slice_index (cells_at places cells) c < P
 seen_below P [] cells some h zero = some
 seen_below P [] cells some h (suc c) = some
@@ -239,16 +232,9 @@ seen_below P (p ∷ places) cells some h c =
 
 -- ---- cells that fit
 
-set_below : (P : ℕ) (cells : List ℕ) (i v : ℕ) → v < P → ((k : ℕ) → slice_index cells k < P) → (k : ℕ) → slice_index (slice_set cells i v) k < P
-set_below P [] i v less h k = h k
-set_below P (x ∷ cells) zero v less h zero = less
-set_below P (x ∷ cells) zero v less h (suc k) = h (suc k)
-set_below P (x ∷ cells) (suc i) v less h zero = h zero
-set_below P (x ∷ cells) (suc i) v less h (suc k) = set_below P cells i v less (λ j. h (suc j)) k
-
 put_below : (P : ℕ) (to : Option ℕ) (v : ℕ) (cells : List ℕ) → v < P → ((k : ℕ) → slice_index cells k < P) → (k : ℕ) → slice_index (put_in to v cells) k < P
 put_below P None v cells less h = h
-put_below P (Some address) v cells less h = set_below P cells address v less h
+put_below P (Some address) v cells less h = set_below P cells address v h less
 
 -- a job whose value fits leaves cells that fit
 pub done_words : (P : ℕ) (job : JobModel) (cells : List ℕ) → ((k : ℕ) → slice_index cells k < P) → job_value cells job.trees < P → (k : ℕ) → slice_index (done job cells) k < P

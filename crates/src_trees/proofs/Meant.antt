@@ -1,10 +1,11 @@
 -- The trees of expressions have the expressions' values.
-use Rattle.std.proofs.Common.{ℕ, ◌≡◌, ◌≤◌, ◌<◌, ◌+◌, ◌-◌, ◌/◌, ◌%◌, ◌^◌, lit<, Bool, true, false, if◌then◌else◌, nat_lt, List, length, Option, Some, None, refl, sym, ◌∙◌, ap, arith, slice_index}
+use Rattle.std.proofs.Common.{ℕ, ◌≡◌, ◌≤◌, ◌<◌, ◌+◌, ◌-◌, ◌%◌, ◌^◌, lit<, Bool, true, false, if◌then◌else◌, nat_lt, List, length, Option, Some, None, refl, sym, ◌∙◌, ap, arith, slice_index}
 use Rattle.std.proofs.Math.Nat.{mod-eq_of_lt, pow-le-pow_right}
 use Rattle.std.proofs.lemmas.Bool.{ltb-true}
 use Rattle.rec_bits.proofs.Booleans.{both}
-use Rattle.rec_bits.specs.Operators.{apply1_of, apply2_of, slice_of, sext_of as extended_of, result_width}
+use Rattle.rec_bits.specs.Operators.{apply1_of, apply2_of, sext_of as extended_of, result_width}
 use Rattle.rec_bits.specs.declared.operator.Op2.TheVariants.{Add}
+use Rattle.rec_bits.proofs.Bits.{low_slice}
 use Rattle.net_model.specs.Exprs.{ExprModel, const, bin, slice, expr_width}
 use Rattle.src_model.specs.declared.program.Var.{Var as Declared}
 use Rattle.src_model.specs.Written.{SrcNodeModel, num, plain, element, un as un_of, bin as bin_of, zext as zext_of, sext as sext_of, low}
@@ -19,10 +20,6 @@ use Rattle.src_trees.specs.Held.{HoldsVars, HasCellRoom}
 use Rattle.src_model.proofs.ValueLemmas.{number_value}
 use Rattle.src_model.proofs.CellLemmas.{plain_var, array_var}
 use Rattle.src_trees.proofs.Cells.{base_within, seen_at}
-
--- the low bits of a value
-pub low_bits : (v a : ℕ) → 1 ≤ a → slice_of v (a - 1) 0 ≡ v % 2 ^ a
-low_bits v a le = let e : v / 1 ≡ v = omega arith in let f : a - 1 + 1 - 0 ≡ a = omega arith in rw (e, f) refl
 
 module _ (m : MemoryMap) where
   -- ---- widths
@@ -44,7 +41,7 @@ module _ (m : MemoryMap) where
     narrowed_value t v e lt = by (nat_lt m.addr m.word)
       where
         by : (b : Bool) → tree_value cells (if b then slice t (m.addr - 1) 0 else t) ≡ v
-        by true = low_bits (tree_value cells t) m.addr held.some ∙ ap (λ n. n % 2 ^ m.addr) e ∙ mod-eq_of_lt lt
+        by true = low_slice (tree_value cells t) m.addr held.some ∙ ap (λ n. n % 2 ^ m.addr) e ∙ mod-eq_of_lt lt
         by false = e
 
     narrowed_reads : (t : ExprModel) → ReadsCells temps cells t → ReadsCells temps cells (narrowed m t)
@@ -154,4 +151,4 @@ module _ (m : MemoryMap) where
         record { value = (λ j. extended_of (h.value j) (tree_width m.word x f.0 j) width); reads = h.reads }
     meant asked (low at x width) f k i =
         let h = meant m.word x f.0 k i in
-        record { value = low_bits _ width f.1 ∙ ap (λ n. n % 2 ^ width) h.value; reads = h.reads }
+        record { value = low_slice _ width f.1 ∙ ap (λ n. n % 2 ^ width) h.value; reads = h.reads }

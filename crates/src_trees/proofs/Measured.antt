@@ -1,11 +1,12 @@
 -- The trees of a program's jobs are trees, need at most the program's temporary cells, and are
 -- small.
-use Rattle.std.proofs.Common.{ℕ, ◌≡◌, ◌≤◌, ◌<◌, ◌+◌, ◌-◌, ◌*◌, Bool, true, false, ◌&&◌, nat_lt, if◌then◌else◌, List, [], ◌∷◌, ◌++◌, Option, Some, None, refl, sym, ◌∙◌, ap, arith, eq-eqb}
+use Rattle.std.proofs.Common.{ℕ, ◌≡◌, ◌≤◌, ◌<◌, ◌+◌, ◌-◌, ◌*◌, Bool, true, false, nat_lt, if◌then◌else◌, List, [], ◌∷◌, ◌++◌, Option, Some, None, refl, sym, ◌∙◌, ap, arith, eq-eqb}
 use Rattle.std.proofs.lemmas.Bool.{ne_eqb}
 use Rattle.std.proofs.lemmas.Bool.Decides.{nat_tests}
 use Rattle.rec_bits.specs.Operators.{result_width}
 use Rattle.rec_bits.specs.declared.operator.Op2.TheVariants.{Add, Sub, Eq as Equal, Ltu, Lts}
 use Rattle.rec_bits.specs.declared.operator.Op2.{Op2}
+use Rattle.rec_bits.proofs.Booleans.{and_from}
 use Rattle.src_model.specs.Written.{node_at}
 use Rattle.src_model.proofs.Bounds.{rules_hold}
 use Rattle.src_trees.specs.Flows.{program_jobs}
@@ -31,11 +32,6 @@ use Rattle.form_model.specs.WideNodes.{wide_nodes, wide_below}
 use Rattle.src_trees.specs.Measures.{TreesAre, IsSmall, AllSmall}
 use Rattle.src_trees.proofs.Meant.{tree_width}
 
-pub both_true : (a b : Bool) → a ≡ true → b ≡ true → (a && b) ≡ true
-both_true true true p q = refl
-both_true true false p q = absurd (cc q)
-both_true false b p q = absurd (cc p)
-
 own_word : (bits : ℕ) → is_word bits bits ≡ 1
 own_word bits = ap (λ b. if b then 1 else 0) (eq-eqb bits bits refl)
 
@@ -51,14 +47,14 @@ module _ (m : MemoryMap) (vars : List Declared) (some : 1 ≤ m.addr) where
 
   element_tree : (name : List ℕ) (o : Option ℕ) (t : ExprModel) → is_tree t ≡ true → is_tree (element_address m name o t) ≡ true
   element_tree name (Some n) t h = refl
-  element_tree name None t h = narrowed_tree (bin Add t (const m.word (base_of m.places name))) (both_true _ _ h refl)
+  element_tree name None t h = narrowed_tree (bin Add t (const m.word (base_of m.places name))) (and_from _ _ h refl)
 
   pub is_tree_of : (asked : ℕ) (e : SrcNodeModel) → is_tree (tree_of m asked e) ≡ true
   is_tree_of asked (num n) = refl
   is_tree_of asked (plain name at) = refl
   is_tree_of asked (element name at to x) = element_tree name (number_of x) (tree_of m m.word x) (is_tree_of m.word x)
   is_tree_of asked (un_of op at x) = is_tree_of asked x
-  is_tree_of asked (bin_of op at x to y) = both_true _ _ (is_tree_of (operand_width m.word x y) x) (is_tree_of (operand_width m.word x y) y)
+  is_tree_of asked (bin_of op at x to y) = and_from _ _ (is_tree_of (operand_width m.word x y) x) (is_tree_of (operand_width m.word x y) y)
   is_tree_of asked (zext_of at x width) = is_tree_of m.word x
   is_tree_of asked (sext_of at x width) = is_tree_of m.word x
   is_tree_of asked (low at x width) = is_tree_of m.word x
@@ -224,13 +220,13 @@ module _ (m : MemoryMap) (vars : List Declared) (some : 1 ≤ m.addr) where
     -- a comparison, either way round
     one_small : (op : Op2) (a b : ExprModel) (n : ℕ) → is_tree a ≡ true → is_tree b ≡ true → wide_nodes m.word a + wide_nodes m.word b ≤ t → size_of a + size_of b ≤ 2 * n → 1 + n ≤ most
         → TreesAre m.word t (2 * most) tested (bin op a b ∷ [])
-    one_small op a b n p q h k l = (both_true _ _ p q, h, omega arith, tt)
+    one_small op a b n p q h k l = (and_from _ _ p q, h, omega arith, tt)
 
     two_small : (w : ℕ) (a b : ExprModel) (n : ℕ) → is_tree a ≡ true → is_tree b ≡ true → expr_width a ≡ w → wide_nodes m.word a + wide_nodes m.word b + 2 * is_word m.word w ≤ t → size_of a + size_of b ≤ 2 * n → 3 + n ≤ most
         → TreesAre m.word t (2 * most) tested (bin Equal a b ∷ bin Equal (bin Sub a b) (const w 0) ∷ [])
     two_small w a b n p q e h k l =
         let o : is_word m.word (expr_width a) ≡ is_word m.word w = ap (is_word m.word) e in
-        (both_true _ _ p q, omega arith, omega arith, (both_true _ _ (both_true _ _ p q) refl, omega (arith, o), omega arith, tt))
+        (and_from _ _ p q, omega arith, omega arith, (and_from _ _ (and_from _ _ p q) refl, omega (arith, o), omega arith, tt))
 
     compared_small : (cmp : Cmp) (x y : SrcNodeModel) → Fitting m.word (operand_width m.word x y) x → Fitting m.word (operand_width m.word x y) y → shape_width m.word (operand_width m.word x y) x ≡ operand_width m.word x y
         → greatest (temps_of m.word) (compared_roots cmp x y) ≤ t → greatest nodes_of (compared_roots cmp x y) ≤ most
@@ -276,7 +272,7 @@ module _ (m : MemoryMap) (vars : List Declared) (some : 1 ≤ m.addr) where
             let y = tree_small m.word x in
             let z = tree_small m.word e.shape in
             record {
-              destination = narrowed_tree (bin Add (tree_of m m.word x) (const m.word (base_of m.places place.name))) (both_true _ _ (is_tree_of m.word x) refl);
+              destination = narrowed_tree (bin Add (tree_of m m.word x) (const m.word (base_of m.places place.name))) (and_from _ _ (is_tree_of m.word x) refl);
               trees = (is_tree_of m.word e.shape, omega (arith, c, a, b), omega (arith, n, y, z), tt);
             }
 

@@ -1,6 +1,8 @@
 -- Parts of a flow and of its jobs, and how jobs follow each other.
-use Rattle.std.proofs.Common.{ℕ, zero, suc, ◌≡◌, ◌+◌, ◌-◌, Bool, true, false, ◌&&◌, ◌||◌, not, nat_lt, List, [], ◌∷◌, ◌++◌, length, Some, refl, sym, ◌∙◌, ap, subst, arith, slice_get}
+use Rattle.std.proofs.Common.{ℕ, zero, suc, ◌≡◌, ◌+◌, ◌-◌, Bool, true, false, ◌&&◌, not, nat_lt, List, [], ◌∷◌, ◌++◌, length, Some, refl, sym, ◌∙◌, ap, subst, arith, slice_get}
 use Rattle.std.proofs.lemmas.List.{length-set, length-append}
+use Rattle.rec_bits.proofs.Booleans.{or_left, or_right}
+use Rattle.rec_bits.proofs.Lists.{get_seam}
 use Rattle.form_model.specs.declared.flow.Flow.{Flow}
 use Rattle.form_model.specs.declared.flow.Flow.TheVariants.{Assign, Jump}
 use Rattle.form_model.specs.Forms.{DestinationModel, into, cell, filed, stored, temporary, tested}
@@ -26,10 +28,6 @@ pub stand_right : {A : Type 0} (all : List A) (at N : ℕ) (xs ys : List A) → 
 stand_right all at N [] ys e h = let f : at ≡ N = omega arith in subst (λ n. Stand all n ys) f h
 stand_right all at N (x ∷ xs) ys e h = stand_right all (at + 1) N xs ys (omega arith) h.1
 
-behind : {A : Type 0} (before : List A) (x : A) (xs : List A) → slice_get (before ++ x ∷ xs) (length before) ≡ Some x
-behind [] x xs = refl
-behind (b ∷ before) x xs = behind before x xs
-
 one_more : {A : Type 0} (before : List A) (x : A) (xs : List A) → (before ++ x ∷ []) ++ xs ≡ before ++ x ∷ xs
 one_more [] x xs = refl
 one_more (b ∷ before) x xs = ap (λ ys. b ∷ ys) (one_more before x xs)
@@ -41,7 +39,7 @@ length_more (b ∷ before) x = let h = length_more before x in omega (arith, h)
 stand_from : {A : Type 0} (before xs : List A) (N : ℕ) → N ≡ length before → Stand (before ++ xs) N xs
 stand_from before [] N e = tt
 stand_from before (x ∷ xs) N e = (
-  ap (slice_get (before ++ x ∷ xs)) e ∙ behind before x xs,
+  ap (slice_get (before ++ x ∷ xs)) e ∙ get_seam before x xs,
   subst (λ all. Stand all (N + 1) xs) (one_more before x xs) (stand_from (before ++ x ∷ []) xs (N + 1) (let l = length_more before x in omega (arith, l))),
 )
 
@@ -122,18 +120,10 @@ all_are_at v cells (u ∷ trees) (suc k) t h e = all_are_at v cells trees k t h.
 
 -- ---- where blocks begin
 
-pub or_later : (a b : Bool) → b ≡ true → (a || b) ≡ true
-or_later true b e = refl
-or_later false b e = e
-
-pub or_former : (a b : Bool) → a ≡ true → (a || b) ≡ true
-or_former true b e = refl
-or_former false b e = absurd (cc e)
-
 pub entered_by : (flow : List Flow) (i : ℕ) (f : Flow) (at : ℕ) → slice_get flow i ≡ Some f → enters f at ≡ true → is_entered flow at ≡ true
 entered_by [] i f at e h = absurd (cc e)
-entered_by (g ∷ rest) zero f at e h = let s : f ≡ g = cc in or_former (enters g at) _ (sym (ap (λ x. enters x at) s) ∙ h)
-entered_by (g ∷ rest) (suc i) f at e h = or_later (enters g at) _ (entered_by rest i f at e h)
+entered_by (g ∷ rest) zero f at e h = let s : f ≡ g = cc in or_left (enters g at) _ (sym (ap (λ x. enters x at) s) ∙ h)
+entered_by (g ∷ rest) (suc i) f at e h = or_right (enters g at) _ (entered_by rest i f at e h)
 
 no_fourth : (a b c d : Bool) → d ≡ true → (a && (b && (c && not d))) ≡ false
 no_fourth true true true true e = refl

@@ -4,6 +4,7 @@ use Rattle.std.specs.Prelude.{int_le, int_lt}
 use Rattle.std.proofs.lemmas.Int.{ints}
 use Rattle.std.proofs.Math.Nat.{pow-le-pow_right}
 use Rattle.rec_bits.proofs.Booleans.{both}
+use Rattle.rec_bits.proofs.Lists.{append_none}
 use Rattle.src_model.specs.declared.program.Program.{Program}
 use Rattle.src_model.specs.declared.program.Var.{Var as Declared}
 use Rattle.src_model.specs.Written.{SrcNodeModel, num, plain, element, un as un_of, bin as bin_of, zext as zext_of, sext as sext_of, low, StmtModel, assign, choice, while, count, StmtsModel, no_acts, act, ElseModel, without, otherwise, stmts_of, model_of_stmt, model_of_program}
@@ -21,7 +22,7 @@ use Rattle.src_model.specs.Inner.Sound.{Sound, SoundIn, SoundElse}
 use Rattle.src_trees.specs.Inner.Lowering.{IsPlain, ArePlain, IsPlainElse}
 use Rattle.src_model.proofs.CellLemmas.{array_var}
 use Rattle.src_trees.proofs.Cells.{base_within}
-use Rattle.src_model.proofs.RangeLemmas.{append_none, kept}
+use Rattle.src_model.proofs.RangeLemmas.{kept}
 use Rattle.src_model.proofs.SoundLemmas.{program_sound}
 
 module _ (bits first : ℕ) (places : List VariablePlace) (vars : List Declared) (wide : bits ≤ 64) (stand : StandFor places vars) (few : LieWithin first (2 ^ 32) places) where

@@ -2,6 +2,7 @@
 use Rattle.std.proofs.Common.{ℕ, zero, suc, ◌≡◌, ◌≤◌, ◌<◌, ◌+◌, ◌-◌, ◌^◌, Bool, true, false, not, nat_lt, if◌then◌else◌, List, [], ◌∷◌, ◌++◌, length, Some, None, refl, sym, ◌∙◌, ap, subst, arith, slice_get, slice_index, ◌==◌, eq-eqb, ◌⊎◌, inl, inr}
 use Rattle.std.proofs.lemmas.Bool.Decides.{nat_tests}
 use Rattle.rec_bits.specs.Operators.{bit_of}
+use Rattle.rec_bits.proofs.Booleans.{or_left, or_right, and_from}
 use Rattle.net_model.specs.declared.hardware.Space.TheVariants.{Memory as InMemory}
 use Rattle.net_model.specs.Exprs.{ExprModel}
 use Rattle.net_model.specs.declared.hardware.Netlist.{Netlist}
@@ -35,7 +36,7 @@ use Rattle.net_model.specs.Clock.{counter_in}
 use Rattle.src_model.specs.Rules.{first_fault}
 use Rattle.src_trees.specs.Flows.{program_flow, places_for, places_in, places_else, else_entry, asked, flow_of, flow_in, flow_else}
 use Rattle.src_model.proofs.SoundLemmas.{program_sound}
-use Rattle.src_trees.proofs.Parts.{stand_all, Stand, stand_left, stand_right, in_length, flow_length, all_done_more, all_lie_more, all_done_length, all_are_at, or_former, or_later, entered_by, begins_entered, begins_other, begins_behind}
+use Rattle.src_trees.proofs.Parts.{stand_all, Stand, stand_left, stand_right, in_length, flow_length, all_done_more, all_lie_more, all_done_length, all_are_at, entered_by, begins_entered, begins_other, begins_behind}
 use Rattle.src_trees.specs.Seen.{seen_store, tree_value, CanAssign, CanTest}
 use Rattle.src_trees.specs.Held.{HasCellRoom, HoldsCells, HoldsVars, LieWithin}
 use Rattle.src_trees.specs.Meant.{DoesAssign, DoesStart, DoesStep, Tells as TellsTest, count_test, DoStmt, DoStmts, DoElse, DoProgram}
@@ -46,7 +47,6 @@ use Rattle.src_trees.specs.Placed.{Comes, DoesJobs, DoesTest, JumpComes, IsPlace
 use Rattle.src_trees.proofs.Cells.{done_words, seen_behind, seen_length, seen_below}
 use Rattle.src_model.proofs.RangeLemmas.{inside}
 use Rattle.src_model.proofs.CounterLemmas.{assign_holds, start_turns, turn_holds, step_turns}
-use Rattle.src_trees.proofs.Measured.{both_true}
 
 -- what a store keeps at a place: in the bodies of loops, or at the test of a `for` within them
 data Phase : Type 0 where
@@ -69,8 +69,8 @@ asked_enters : (cmp : Cmp) (tree yes_to no_to : ℕ) → enters (asked cmp tree 
 asked_enters cmp tree yes_to no_to = by (holds_at_one cmp)
   where
     by : (b : Bool) → enters (if b then Test tree yes_to no_to else Test tree no_to yes_to) no_to ≡ true
-    by true = or_later (yes_to == no_to) (no_to == no_to) (eq-eqb no_to no_to refl)
-    by false = or_former (no_to == no_to) (yes_to == no_to) (eq-eqb no_to no_to refl)
+    by true = or_right (yes_to == no_to) (no_to == no_to) (eq-eqb no_to no_to refl)
+    by false = or_left (no_to == no_to) (yes_to == no_to) (eq-eqb no_to no_to refl)
 
 entry_within : (o : ElseModel) (at : ℕ) → else_entry o at ≤ at + places_else o
 entry_within without at = omega arith
@@ -378,7 +378,7 @@ module _ (netlist : Netlist) (image : Image) (mem : MemoryMap) (temps : ℕ) (va
     sides = f.sides;
     left_known = f.left_known;
     right_known = f.right_known;
-    inside = both_true _ _
+    inside = and_from _ _
         (inside mem.word vars store h.fits.below rounds h.counts _ test.left.shape f.sides.left f.left_known f.left_within)
         (inside mem.word vars store h.fits.below rounds h.counts _ test.right.shape f.sides.right f.right_known f.right_within);
   }

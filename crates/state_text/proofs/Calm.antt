@@ -1,13 +1,13 @@
 -- A register that no line of a memory text names is 0.
 use Rattle.std.proofs.Common.{◌≡◌, ℕ, List, [], ◌∷◌, length, get_or, Option, Some, None, inl, inr, refl, sym, ap, ◌∙◌}
 use Rattle.std.proofs.lemmas.List.{get_or-set_other}
+use Rattle.rec_bits.proofs.Lists.{zeros_at}
 use Rattle.text_lines.specs.Lines.{lines_of}
 use Rattle.net_model.specs.declared.hardware.Netlist.{Netlist}
 use Rattle.net_model.specs.declared.hardware.Storage.{Storage}
 use Rattle.net_model.specs.declared.states.State.{State}
 use Rattle.net_model.specs.Fixed.{mode_in}
 use Rattle.net_model.specs.MemoryText.{blank, AllLead, IsMemoryText, SetsLine}
-use Rattle.net_model.proofs.Fits.{zeros_at}
 use Rattle.state_text.proofs.Starts.{regs_stay}
 
 module _ (netlist : Netlist) (id : ℕ) where

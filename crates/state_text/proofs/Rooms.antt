@@ -1,10 +1,10 @@
 -- How long the text of a state is at most.
 use Rattle.std.proofs.Common.{◌≡◌, ℕ, zero, suc, ◌+◌, ◌*◌, ◌^◌, ◌<◌, ◌≤◌, List, [], ◌∷◌, ◌++◌, length, get_or, ◌==◌, Bool, true, false, cond, ap, length-append, arith}
 use Rattle.std.proofs.lemmas.Fmt.{length-decimal-le}
-use Rattle.std.proofs.Math.Nat.{pow-le-pow_right}
 use Rattle.std.specs.Prelude.{slice_get, codes}
 use Rattle.std.specs.List.{AllByRecursion}
 use Rattle.std.specs.Fmt.{decimal}
+use Rattle.rec_bits.proofs.Bits.{below_64}
 use Rattle.net_model.specs.declared.hardware.Netlist.{Netlist}
 use Rattle.net_model.specs.declared.hardware.Storage.{Storage}
 use Rattle.net_model.specs.declared.hardware.Storage.TheVariants.{Register, Memory, File}
@@ -54,21 +54,18 @@ storage_narrow netlist (Memory cells ∷ storages) zero h = h.0.0.1
 storage_narrow netlist (File cells ∷ storages) zero h = h.0.0.1
 storage_narrow netlist (s ∷ storages) (suc k) h = storage_narrow netlist storages k h.1
 
-pub below_64 : (v bits : ℕ) → v < 2 ^ bits → bits ≤ 64 → v < 2 ^ 64
-below_64 v bits h n = let p : 2 ^ bits ≤ 2 ^ 64 = pow-le-pow_right {n = 2} (omega arith) {i = bits} {j = 64} n in omega (arith, h, p)
-
 space_short : (netlist : Netlist) (order : List ℕ) (s : State) (space : Space) → KeepsRules netlist order → IsState netlist s → length (cell_lines (space_name netlist space) 0 (held s space)) ≤ cell_room netlist space
 space_short netlist order s space k h =
     let name = space_name netlist space in
     let wide : width_in space netlist.storages ≤ 64 = omega (arith, storage_narrow netlist netlist.storages (place_in space netlist.storages) k.formed.storages, width_found space netlist.storages) in
-    let cells = cells_short name 0 (held s space) (omega (arith, h.cells space, few_sizes netlist order k space)) (λ (i : ℕ). below_64 (get_or (held s space) i 0) (width_in space netlist.storages) (h.fits.cells space i) wide) in
+    let cells = cells_short name 0 (held s space) (omega (arith, h.cells space, few_sizes netlist order k space)) (λ (i : ℕ). below_64 (get_or (held s space) i 0) (width_in space netlist.storages) wide (h.fits.cells space i)) in
     let sized : length (held s space) * (length name + 43) ≡ size_in space netlist.storages * (length name + 43) = ap (λ n. n * (length name + 43)) (h.cells space) in
     omega (arith, cells, sized)
 
 pub text_short : (netlist : Netlist) (order : List ℕ) (cycles : ℕ) (s : State) → KeepsRules netlist order → IsState netlist s → cycles < 2 ^ 64 → length (state_text netlist cycles s) ≤ state_room netlist
 text_short netlist order cycles s k h c =
     let kept = k.formed.storages in
-    let regs = registers_short s.regs 0 netlist.storages (λ (i : ℕ). below_64 (get_or s.regs i 0) (storage_bits (slice_get netlist.storages i)) (h.fits.regs i) (storage_narrow netlist netlist.storages i kept)) in
+    let regs = registers_short s.regs 0 netlist.storages (λ (i : ℕ). below_64 (get_or s.regs i 0) (storage_bits (slice_get netlist.storages i)) (storage_narrow netlist netlist.storages i kept) (h.fits.regs i)) in
     let done = codes "done\n" ++ [] in
     let cells = cell_lines (space_name netlist InMemory) 0 s.cells in
     let file = cell_lines (space_name netlist InFile) 0 s.file in

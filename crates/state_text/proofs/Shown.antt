@@ -1,5 +1,5 @@
 -- Lines of registers and cells, one after the other.
-use Rattle.std.proofs.Common.{◌≡◌, ℕ, zero, suc, ◌+◌, ◌<◌, ◌≤◌, List, [], ◌∷◌, ◌++◌, length, drop, get_or, refl, sym, ap, ◌∙◌, append_assoc, length-append, drop-cons, add-one, Some, None, true, false, arith}
+use Rattle.std.proofs.Common.{◌≡◌, ℕ, zero, suc, ◌+◌, ◌<◌, List, [], ◌∷◌, ◌++◌, length, drop, get_or, refl, sym, ap, ◌∙◌, drop-cons, add-one, Some, None}
 use Rattle.std.proofs.lemmas.List.{append-nil}
 use Rattle.std.proofs.lemmas.Option.{get_or_from_slice_get, slice_get_within}
 use Rattle.std.specs.Prelude.{slice_get}
@@ -27,13 +27,6 @@ cell_next name address cells value e =
     ∙ ap (λ v. shown_cell name address v ++ cell_lines name (address + 1) (drop (suc address) cells)) (get_or_from_slice_get cells address value 0 e)
     ∙ ap (λ n. shown_cell name address value ++ cell_lines name (address + 1) (drop n cells)) (sym (add-one address))
 
--- what is written and what is left are the whole
-pub fits_first : (out initial first more left all : List ℕ) (room : ℕ) → out ++ left ≡ initial ++ all → left ≡ first ++ more → length initial + length all ≤ room → length out + length first ≤ room
-fits_first out initial first more left all room e f h = omega (arith, ap length e, ap length f, length-append out left, length-append initial all, length-append first more)
-
-pub goes_first : (out new initial first more left all : List ℕ) → out ++ left ≡ initial ++ all → left ≡ first ++ more → new ≡ out ++ first → new ++ more ≡ initial ++ all
-goes_first out new initial first more left all e f g = ap (λ n. n ++ more) g ∙ append_assoc out first more ∙ ap (λ r. out ++ r) (sym f) ∙ e
-
 pub no_more : (name out initial all : List ℕ) (address : ℕ) (cells : List ℕ) → slice_get cells address ≡ None → out ++ cell_lines name address (drop address cells) ≡ initial ++ all → out ≡ initial ++ all
 no_more name out initial all address cells e h =
     let past : drop address cells ≡ [] = empty cells address e in
@@ -44,6 +37,3 @@ no_more name out initial all address cells e h =
     empty [] (suc n) e = refl
     empty (c ∷ cs) zero e = absurd cc
     empty (c ∷ cs) (suc n) e = empty cs n e
-
-pub impossible : {P : Type 0} → false ≡ true → P
-impossible e = absurd cc

@@ -4,13 +4,13 @@ use Rattle.std.proofs.Math.ListN.{replicate, set}
 use Rattle.std.proofs.lemmas.List.{length-replicate, get_or-set_other, length-set}
 use Rattle.std.proofs.Math.Nat.{pow-le-pow_right}
 use Rattle.std.specs.Prelude.{slice_get}
+use Rattle.rec_bits.proofs.Lists.{zeros_at}
 use Rattle.net_model.specs.declared.hardware.Netlist.{Netlist}
 use Rattle.net_model.specs.declared.hardware.Storage.{Storage}
 use Rattle.net_model.specs.declared.states.State.{State}
 use Rattle.net_model.specs.declared.hardware.Space.{Space}
 use Rattle.net_model.specs.declared.hardware.Space.TheVariants.{Memory as InMemory, File as InFile}
 use Rattle.net_model.proofs.Blanks.{blank_state}
-use Rattle.net_model.proofs.Fits.{zeros_at}
 use Rattle.net_model.proofs.Spaces.{by_space}
 use Rattle.net_model.specs.Widths.{StateFits}
 use Rattle.net_model.specs.Nets.{counter_of, size_in, width_in, held, storage_bits, IsRegister}

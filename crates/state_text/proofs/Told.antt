@@ -8,6 +8,8 @@ use Rattle.std.specs.Fmt.{decimal}
 use Rattle.std.specs.List.{AllByRecursion, IsDistinct, position_or_len}
 use Rattle.std.specs.Prelude.{nat_eq, nat_lt, slice_get, option_map}
 use Rattle.std.specs.Str.{bytes_eq}
+use Rattle.rec_bits.proofs.Equality.{name_self}
+use Rattle.rec_bits.proofs.Bits.{below_64}
 use Rattle.text_lines.specs.Fields.{parts_at, longer_front, number_of, line_end, ◌>>=◌}
 use Rattle.text_lines.proofs.Parts.{Avoids, parts_are, parts_again}
 use Rattle.text_lines.proofs.Ends.{end_is, end_again}
@@ -29,7 +31,7 @@ use Rattle.net_model.proofs.Memories.{size_found, width_found, few_sizes}
 use Rattle.state_text.specs.declared.setting.Setting.{Setting}
 use Rattle.state_text.specs.declared.setting.Setting.TheVariants.{Entry, Cell}
 use Rattle.state_text.specs.Inner.Settings.{below, number_below, named_at, entry_of, cell_of, array_at, setting_at, setting_for, setting_of, with_setting, SettingFits, is_number}
-use Rattle.state_text.proofs.Rooms.{storage_narrow, below_64}
+use Rattle.state_text.proofs.Rooms.{storage_narrow}
 use Rattle.state_text.proofs.Starts.{register_within}
 
 -- ---- words
@@ -61,10 +63,6 @@ avoids_word (b ∷ bs) h = (step (b == 32) refl, avoids_word bs h.1)
 
 -- ---- names
 
-alike : (name : List ℕ) → pointwise nat_eq name name ≡ true
-alike [] = refl
-alike (b ∷ bs) = rw (eq-eqb b b refl, alike bs) refl
-
 own_name : (storage : Storage) → name_in (Some storage) ≡ storage_name storage
 own_name (Register name width input when) = refl
 own_name (Memory cells) = refl
@@ -76,7 +74,7 @@ no_other : (name : List ℕ) (storages : List Storage) (more : List (List ℕ)) 
 no_other name [] more id d lt e = omega (arith, lt)
 no_other name (s ∷ storages) more zero d lt e =
     let same : storage_name s ≡ name = sym (own_name s) ∙ e in
-    true≢false (sym (alike name) ∙ (ap (pointwise nat_eq name) (sym same) ∙ d.0))
+    true≢false (sym (name_self name) ∙ (ap (pointwise nat_eq name) (sym same) ∙ d.0))
 no_other name (s ∷ storages) more (suc id) d lt e = no_other name storages more id d.1 (omega (arith, lt)) e
 
 module _ (name : List ℕ) where
@@ -242,7 +240,7 @@ leads_of netlist still s line setting e = go setting (told netlist still line se
 number_below_again : (width v : ℕ) → width ≤ 64 → v < 2 ^ width → number_below width (decimal v ++ (10 ∷ [])) ≡ Some v
 unfolding number_below
 number_below_again width v narrow h =
-    let small : v < 2 ^ 64 = below_64 v width h narrow in
+    let small : v < 2 ^ 64 = below_64 v width narrow h in
     let text = decimal v ++ (10 ∷ []) in
     bind_again (line_end text >>= number_of) (below width) v (Some v)
     (bind_again (line_end text) number_of (decimal v) (Some v) (end_again (decimal v) (avoids-decimal 10 v refl small)) (number_again v small))

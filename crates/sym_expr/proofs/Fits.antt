@@ -1,5 +1,5 @@
 -- Expressions whose operators get what they ask for.
-use Rattle.std.proofs.Common.{lit<, ◌≡◌, ℕ, ◌+◌, ◌-◌, ◌^◌, ◌<◌, ◌≤◌, ◌==◌, Bool, true, false, cond, List, [], ◌∷◌, refl, sym, subst, arith}
+use Rattle.std.proofs.Common.{lit<, ◌≡◌, ℕ, ◌+◌, ◌-◌, ◌^◌, ◌<◌, ◌≤◌, ◌==◌, List, [], ◌∷◌, refl, sym, subst, arith}
 use Rattle.std.proofs.lemmas.Nat.{pow_pos, mod_below}
 use Rattle.std.proofs.Math.Nat.{pow-le-pow_right}
 use Rattle.rec_bits.specs.declared.operator.Op2.{Op2}
@@ -8,6 +8,7 @@ use Rattle.net_model.specs.Exprs.{ExprModel, expr_width, word, reg, const, read,
 use Rattle.net_model.specs.declared.states.State.{State}
 use Rattle.rec_bits.specs.Operators.{result_width}
 use Rattle.rec_bits.proofs.Fits.{apply1_fits, apply2_fits, cat_below, sext_below, room_above}
+use Rattle.rec_bits.proofs.Booleans.{cond_below}
 use Rattle.net_model.specs.Meaning.{mean}
 use Rattle.sym_expr.specs.declared.pool.Node.{Node}
 use Rattle.sym_expr.specs.declared.pool.Node.TheVariants.{Word, Reg, Const, Read, Cell, Un, Bin, Slice, Cat, Zext, Sext, Select}
@@ -64,10 +65,6 @@ width_fits (zext a w) h = (omega (arith, h.1.0), h.1.1)
 width_fits (sext a w) h = (omega (arith, h.1.0), h.1.1)
 width_fits (select c a b) h = width_fits a h.1
 
-choose_below : (t : Bool) (x y n : ℕ) → x < n → y < n → cond t x y < n
-choose_below true x y n h k = h
-choose_below false x y n h k = k
-
 mean_fits : (t : ExprModel) (s : State) (i : ℕ) → ExprFits t → Suits t s i → mean t s i < 2 ^ expr_width t
 mean_fits (word w) s i h u = u
 mean_fits (reg r w) s i h u = u
@@ -83,7 +80,7 @@ mean_fits (zext a w) s i h u =
     omega (arith, q, mean_fits a s i h.0 u)
 mean_fits (sext a w) s i h u = sext_below (mean a s i) (expr_width a) w (omega (arith, h.1.0)) (mean_fits a s i h.0 u)
 mean_fits (select c a b) s i h u =
-    choose_below (mean c s i == 1) _ _ (2 ^ expr_width a) (mean_fits a s i h.1 u.1) (subst (λ w. mean b s i < 2 ^ w) h.3.1 (mean_fits b s i h.2 u.2))
+    cond_below (mean c s i == 1) _ _ (2 ^ expr_width a) (mean_fits a s i h.1 u.1) (subst (λ w. mean b s i < 2 ^ w) h.3.1 (mean_fits b s i h.2 u.2))
 
 -- for values and widths that were computed
 pub value_below : (t : ExprModel) (s : State) (i x w : ℕ) → x ≡ mean t s i → w ≡ expr_width t → ExprFits t → Suits t s i → x < 2 ^ w

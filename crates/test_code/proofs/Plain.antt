@@ -1,6 +1,7 @@
 -- The jobs of a self-test have one tree each, to a cell, and cells for what it may need.
-use Rattle.std.proofs.Common.{◌≡◌, ℕ, ◌+◌, ◌≤◌, ◌&&◌, Bool, true, false, cond, List, [], ◌∷◌, refl, sym, ◌∙◌, arith}
+use Rattle.std.proofs.Common.{◌≡◌, ℕ, ◌+◌, ◌≤◌, Bool, true, false, cond, List, [], ◌∷◌, refl, sym, ◌∙◌, arith}
 use Rattle.std.specs.List.{AllByRecursion}
+use Rattle.rec_bits.proofs.Booleans.{and_from}
 use Rattle.net_model.specs.declared.hardware.Netlist.{Netlist}
 use Rattle.net_model.specs.Nets.{memory_width, word_width}
 use Rattle.net_model.specs.Patterns.{Pattern}
@@ -14,10 +15,6 @@ use Rattle.self_test.specs.Trees.{literal, operands, temps_of, tree_from, widths
 use Rattle.self_test.proofs.Inner.{inner_is}
 use Rattle.test_code.specs.Inner.Jobs.{IsCellJob}
 
-both : (a b : Bool) → a ≡ true → b ≡ true → (a && b) ≡ true
-both true b e f = f
-both false b e f = absurd cc
-
 module _ (netlist : Netlist) where
   -- what a candidate's value becomes is a tree
   pub is_plain : (at : ℕ) (t : ExprModel) → is_tree (tree_from (widths_of netlist) at t) ≡ true
@@ -26,7 +23,7 @@ module _ (netlist : Netlist) where
   is_plain at (const w v) = refl
   is_plain at (read space a w) = refl
   is_plain at (un o a) = is_plain at a
-  is_plain at (bin o a b) = both (is_tree (tree_from (widths_of netlist) at a)) (is_tree (tree_from (widths_of netlist) (at + operands a) b)) (is_plain at a) (is_plain (at + operands a) b)
+  is_plain at (bin o a b) = and_from (is_tree (tree_from (widths_of netlist) at a)) (is_tree (tree_from (widths_of netlist) (at + operands a) b)) (is_plain at a) (is_plain (at + operands a) b)
   is_plain at (slice a hi lo) = by (is_field (slice a hi lo)) (is_plain at a)
     where
       by : (b : Bool) → is_tree (tree_from (widths_of netlist) at a) ≡ true → is_tree (cond b (literal (word_width netlist) (slice a hi lo)) (slice (tree_from (widths_of netlist) at a) hi lo)) ≡ true

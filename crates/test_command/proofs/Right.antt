@@ -1,7 +1,8 @@
 -- A self-test that is made for a netlist is right, where the memory has the cells that it needs and
 -- the code has room for its words.
-use Rattle.std.proofs.Common.{◌≡◌, ℕ, zero, suc, ◌+◌, ◌<◌, ◌≤◌, List, [], ◌∷◌, Option, Some, None, length, refl, replicate, sym, arith, slice_index, subst}
+use Rattle.std.proofs.Common.{◌≡◌, ℕ, ◌+◌, ◌<◌, ◌≤◌, List, [], ◌∷◌, Option, Some, None, length, refl, sym, arith, subst}
 use Rattle.std.specs.List.{AllByRecursion}
+use Rattle.rec_bits.proofs.Lists.{zeros_at, cell_behind}
 use Rattle.net_model.specs.declared.hardware.Netlist.{Netlist}
 use Rattle.net_model.specs.declared.hardware.Space.TheVariants.{Memory as InMemory, File as InFile}
 use Rattle.net_model.specs.declared.hardware.Space.TheVariants.{Memory as InMemory}
@@ -31,12 +32,7 @@ use Rattle.test_code.proofs.Fitting.{job_covered}
 use Rattle.test_code.proofs.Plain.{test_plain}
 use Rattle.test_command.proofs.Leaving.{AreTriedCovers, LeavesAll, all_left, tested_jobs}
 use Rattle.test_command.proofs.Runs.{stand_whole}
-use Rattle.test_command.proofs.Values.{cell_behind, hold, lie}
-
-zero_at : (n k : ℕ) → slice_index (replicate n 0) k ≡ 0
-zero_at zero k = refl
-zero_at (suc n) zero = refl
-zero_at (suc n) (suc k) = zero_at n k
+use Rattle.test_command.proofs.Values.{hold, lie}
 
 tried_long : (netlist : Netlist) (stock : StockModel) (values : List ExprModel) (tried : List (Option JobCoverModel)) (at out : ℕ) → AreTried stock (jobs_from (widths_of netlist) at out values) tried → length tried ≡ length values
 tried_long netlist stock [] [] at out c = refl
@@ -89,7 +85,7 @@ module _ (netlist : Netlist) (order : List ℕ) (keeps : KeepsRules netlist orde
     left : LeavesAll netlist words temps (tested_jobs cell_jobs tried) start (length words)
     left =
         let state = start_fits netlist in
-        let at : counter_in netlist start ≡ 0 = zero_at (length netlist.storages) (counter_of netlist.codes) in
+        let at : counter_in netlist start ≡ 0 = zeros_at (length netlist.storages) (counter_of netlist.codes) in
         let size = keeps.roles.sizes.0.1 in
         let long = state.cells InMemory in
         all_left netlist words made.patterns stock refl formed cell_jobs tried words start

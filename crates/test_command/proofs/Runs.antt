@@ -1,6 +1,7 @@
 -- Runs one after the other, and words that stand in a code.
-use Rattle.std.proofs.Common.{◌≡◌, ℕ, zero, suc, ◌+◌, ◌<◌, ◌≤◌, ◌%◌, List, [], ◌∷◌, ◌++◌, append_assoc, length, length-append, refl, sym, ◌∙◌, arith, subst, slice_index}
+use Rattle.std.proofs.Common.{◌≡◌, ℕ, zero, suc, ◌+◌, ◌<◌, ◌≤◌, ◌%◌, List, [], ◌∷◌, ◌++◌, append_assoc, length, length-append, refl, sym, ◌∙◌, arith, subst}
 use Rattle.std.proofs.Math.Nat.{mod-eq_of_lt}
+use Rattle.rec_bits.proofs.Lists.{index_seam}
 use Rattle.net_model.specs.declared.hardware.Netlist.{Netlist}
 use Rattle.net_model.specs.declared.states.State.{State}
 use Rattle.net_model.specs.Clock.{Clash, Next, Outcome, Reached, clock, run_from, then_run}
@@ -35,16 +36,10 @@ module _ (netlist : Netlist) (code : List ℕ) where
 
 -- ---- words
 
-at_end : (before : List ℕ) (w : ℕ) (ws : List ℕ) (at : ℕ) → at ≡ length before → slice_index (before ++ (w ∷ ws)) at ≡ w
-at_end [] w ws zero e = refl
-at_end [] w ws (suc at) e = absurd (omega (arith, e))
-at_end (x ∷ before) w ws zero e = absurd (omega (arith, e))
-at_end (x ∷ before) w ws (suc at) e = at_end before w ws at (omega (arith, e))
-
 stand_behind : (before ws : List ℕ) (at : ℕ) → at ≡ length before → StandAt (before ++ ws) at ws
 stand_behind before [] at e = tt
 stand_behind before (w ∷ ws) at e = (
-  at_end before w ws at e,
+  index_seam before w ws at e,
   subst (λ (code : List ℕ). StandAt code (at + 1) ws) (append_assoc before (w ∷ []) ws)
       (stand_behind (before ++ w ∷ []) ws (at + 1) (omega (arith, e, length-append before (w ∷ [])))),
 )

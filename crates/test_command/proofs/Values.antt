@@ -1,6 +1,6 @@
 -- The jobs of candidates, one after the other, leave the value of each tree in the candidate's cell.
-use Rattle.std.proofs.Common.{◌≡◌, ℕ, ◌+◌, ◌-◌, ◌<◌, ◌≤◌, List, [], ◌∷◌, Option, Some, None, drop, length, refl, sym, ◌∙◌, ap, arith, slice_index, slice_set, subst, true}
-use Rattle.std.proofs.lemmas.List.{get_or-drop, get_or-set_other, get_or-set_same, length-set}
+use Rattle.std.proofs.Common.{◌≡◌, ℕ, ◌+◌, ◌<◌, ◌≤◌, List, [], ◌∷◌, Option, Some, None, length, refl, sym, ◌∙◌, ap, arith, slice_index, slice_set, subst, true}
+use Rattle.std.proofs.lemmas.List.{get_or-set_other, get_or-set_same, length-set}
 use Rattle.std.specs.List.{AllByRecursion}
 use Rattle.net_model.specs.declared.hardware.Netlist.{Netlist}
 use Rattle.net_model.specs.declared.states.State.{State}
@@ -18,12 +18,6 @@ use Rattle.test_command.specs.Tested.{HoldValues}
 use Rattle.test_command.proofs.Leaving.{tested_jobs}
 use Rattle.test_code.specs.Inner.Jobs.{IsCellJob}
 use Rattle.test_command.proofs.Trees.{AgreeBelow, tree_reads, value_same}
-
--- a cell behind an address from which on two memories are the same
-pub cell_behind : (at a : ℕ) (cells others : List ℕ) → drop at cells ≡ drop at others → at ≤ a → slice_index cells a ≡ slice_index others a
-cell_behind at a cells others e le =
-    let z : at + (a - at) ≡ a = omega arith in
-    ap (slice_index cells) (sym z) ∙ sym (get_or-drop at cells (a - at) 0) ∙ ap (λ xs. slice_index xs (a - at)) e ∙ get_or-drop at others (a - at) 0 ∙ ap (slice_index others) z
 
 -- the tree of a job to a cell
 plain_tree : (bits temps out : ℕ) (tree : ExprModel) → IsCellJob bits temps (record { destination = cell out; trees = tree ∷ [] }) → is_tree tree ≡ true

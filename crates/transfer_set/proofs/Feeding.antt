@@ -1,10 +1,10 @@
 -- What feeds a storage gives its transfers.
-use Rattle.std.proofs.Common.{◌≡◌, ℕ, zero, suc, ◌+◌, ◌^◌, ◌<◌, ◌≤◌, ◌==◌, ◌&&◌, nat_lt, Bool, true, false, if◌then◌else◌, List, [], ◌∷◌, ◌++◌, length, Option, None, Some, slice_get, refl, sym, ap, subst, ◌∙◌, arith}
-use Rattle.std.specs.List.{AllByRecursion}
+use Rattle.std.proofs.Common.{◌≡◌, ℕ, ◌+◌, ◌^◌, ◌<◌, ◌≤◌, ◌==◌, ◌&&◌, nat_lt, Bool, true, false, if◌then◌else◌, List, [], ◌∷◌, ◌++◌, length, Option, None, Some, slice_get, refl, sym, ap, subst, ◌∙◌, arith}
 use Rattle.std.proofs.lemmas.List.{append-nil}
 use Rattle.std.proofs.lemmas.Bool.{ltb-true, ltb-false}
 use borrow.Author.Tests.{eqb-true, eqb-false}
 use Rattle.rec_bits.proofs.Booleans.{both}
+use Rattle.rec_bits.proofs.Lists.{slice_get_past}
 use Rattle.bit_bdd.specs.Diagrams.{Diagrams, has_word, Extends}
 use Rattle.bit_bdd.proofs.CallerLemmas.{same_words}
 use Rattle.ctl_bdd.specs.declared.ControlBits.{ControlBits}
@@ -26,11 +26,6 @@ use Rattle.transfer_set.specs.Inner.Entries.{ArePairs, AreWrites, each, list_if,
 use Rattle.transfer_set.specs.Inner.Sources.{IsArray, memory, file, IsOnSet, AreSources, IsStorageKnown, IsWhenKnown, changes, when_set}
 use Rattle.transfer_set.proofs.Collecting.{sets_later, models_later}
 use Rattle.transfer_set.proofs.Exact.{exact}
-
-pub all_at : {X : Type 0} (P : X → Type 0) (xs : List X) (i : ℕ) (x : X) → slice_get xs i ≡ Some x → AllByRecursion P xs → P x
-all_at P [] i x at h = absurd (cc)
-all_at P (y ∷ xs) zero x at h = (let e : y ≡ x = cc in subst P e h.0)
-all_at P (y ∷ xs) (suc i) x at h = all_at P xs i x at h.1
 
 -- ---- a book that grows
 
@@ -221,11 +216,6 @@ upto i n l xs = by (nat_lt n i) (i == n) (nat_lt n (i + 1)) refl refl refl
     by false false true ea eb ed = (let e : i ≡ n = omega (arith, ltb-false n i ea, ltb-true n (i + 1) ed) in absurd (eqb-false i n eb e))
     by false false false ea eb ed = refl
 
-slice_get-none : {X : Type 0} (xs : List X) (n : ℕ) → length xs ≤ n → slice_get xs n ≡ None
-slice_get-none [] n h = refl
-slice_get-none (x ∷ xs) zero h = absurd (omega (arith, h))
-slice_get-none (x ∷ xs) (suc n) h = slice_get-none xs n (omega (arith, h))
-
 -- past the last storage nothing changes
 pub past : (netlist : Netlist) (word n i : ℕ) (l : Bool) → length netlist.storages ≤ i → list_if (nat_lt n i && l) (changes (transfer_at netlist word n)) ≡ list_if l (changes (transfer_at netlist word n))
 past netlist word n i l long = by (nat_lt n i) refl
@@ -235,7 +225,7 @@ past netlist word n i l long = by (nat_lt n i) refl
     none false = refl
 
     gone : length netlist.storages ≤ n → changes (transfer_at netlist word n) ≡ []
-    gone h = ap (λ s. changes (transfer_of netlist word n s)) (slice_get-none netlist.storages n h)
+    gone h = ap (λ s. changes (transfer_of netlist word n s)) (slice_get_past netlist.storages n h)
 
     by : (b : Bool) → nat_lt n i ≡ b → list_if (b && l) (changes (transfer_at netlist word n)) ≡ list_if l (changes (transfer_at netlist word n))
     by true e = refl

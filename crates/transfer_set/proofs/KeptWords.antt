@@ -2,6 +2,7 @@
 use Rattle.std.proofs.Common.{◌≡◌, ◌↔◌, ℕ, zero, suc, ◌+◌, ◌<◌, ◌==◌, ◌&&◌, not, Bool, true, false, true≢false, List, [], ◌∷◌, ◌++◌, take, length, Some, slice_get, slice_index, add-one, refl, sym, ap, subst, ◌∙◌, arith}
 use Rattle.std.proofs.lemmas.Bool.{eqb-true}
 use Rattle.std.proofs.lemmas.List.{get_or_append_left, get_or_push, length_push}
+use Rattle.rec_bits.proofs.Booleans.{and-true, and_assoc}
 use Rattle.bit_bdd.specs.Diagrams.{Diagrams, Extends, has_word}
 use Rattle.bit_bdd.proofs.CallerLemmas.{same_words}
 use Rattle.net_model.specs.Exprs.{TransferModel, keep, write, write_at}
@@ -16,19 +17,11 @@ entry_at book [] i entry at h = absurd (cc)
 entry_at book (x ∷ entries) zero entry at h = (let e : x ≡ entry = cc in subst (λ (y : Entry). IsSet book y.set) e h.0)
 entry_at book (x ∷ entries) (suc i) entry at h = entry_at book entries i entry at h.1
 
-true_and : (a : Bool) → (a && true) ≡ a
-true_and true = refl
-true_and false = refl
-
-and_assoc : (a b c : Bool) → (a && b) && c ≡ (a && (b && c))
-and_assoc true b c = refl
-and_assoc false b c = refl
-
 keeps_suc : (book : Diagrams) (entries : List Entry) (i : ℕ) (entry : Entry) → slice_get entries i ≡ Some entry → (storage word : ℕ)
     → keeps_all book (take (suc i) entries) storage word ≡ (keeps_all book (take i entries) storage word && not ((entry.storage == storage) && has_word book entry.set word))
 keeps_suc book [] i entry at storage word = absurd (cc)
 keeps_suc book (x ∷ entries) zero entry at storage word =
-    true_and (not ((x.storage == storage) && has_word book x.set word))
+    and-true (not ((x.storage == storage) && has_word book x.set word))
     ∙ (let e : x ≡ entry = cc in λ j. not (((e j).storage == storage) && has_word book (e j).set word))
 keeps_suc book (x ∷ entries) (suc i) entry at storage word =
     ap (λ b. not ((x.storage == storage) && has_word book x.set word) && b) (keeps_suc book entries i entry at storage word)

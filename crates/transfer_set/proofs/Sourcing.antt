@@ -8,6 +8,7 @@ use Rattle.ctl_bdd.specs.Controls.{IsControl}
 use Rattle.ctl_bdd.specs.Places.{is_placed}
 use Rattle.ctl_bdd.specs.declared.ControlBits.{ControlBits}
 use Rattle.rec_bits.proofs.Booleans.{or_left}
+use Rattle.rec_bits.proofs.Lists.{all_at}
 use Rattle.ctl_bdd.proofs.CallerLemmas.{bits_found, one_set, when_placed}
 use Rattle.net_model.specs.declared.hardware.Netlist.{Netlist}
 use Rattle.net_model.specs.declared.hardware.Storage.{Storage}
@@ -23,7 +24,6 @@ use Rattle.transfer_set.specs.Routes.{AreRoutes}
 use Rattle.transfer_set.specs.Inner.Sources.{IsOnSet, AreSources, IsStorageKnown, IsWhenKnown, only_set}
 use Rattle.net_model.proofs.KeptRules.{sound_of}
 use Rattle.net_model.proofs.Offsets.{gathered_at}
-use Rattle.transfer_set.proofs.Feeding.{all_at}
 
 module _ (netlist : Netlist) (order : List ℕ) (kept : KeepsRules netlist order) (book : Diagrams) (controls : ControlBits) (control : IsControl netlist book controls)
     (some : 1 < length book.nodes) (all : (word : ℕ) → has_word book 1 word ≡ true) where
@@ -44,15 +44,15 @@ module _ (netlist : Netlist) (order : List ℕ) (kept : KeepsRules netlist order
   storage_known id (Some (Register name width input when)) at =
       when_known id (Register name width input when) at when refl
       (gathered_at (λ n. is_static netlist n ≡ true) storage_enables netlist.storages id _ at (sound_of netlist order kept).storages)
-      (all_at (StorageKeeps netlist) netlist.storages id _ at kept.formed.storages).1.1
+      (all_at (StorageKeeps netlist) netlist.storages id _ kept.formed.storages at).1.1
   storage_known id (Some (Memory cells)) at =
       when_known id (Memory cells) at cells.when refl
       (gathered_at (λ n. is_static netlist n ≡ true) storage_enables netlist.storages id _ at (sound_of netlist order kept).storages)
-      (all_at (StorageKeeps netlist) netlist.storages id _ at kept.formed.storages).2.2
+      (all_at (StorageKeeps netlist) netlist.storages id _ kept.formed.storages at).2.2
   storage_known id (Some (File cells)) at =
       when_known id (File cells) at cells.when refl
       (gathered_at (λ n. is_static netlist n ≡ true) storage_enables netlist.storages id _ at (sound_of netlist order kept).storages)
-      (all_at (StorageKeeps netlist) netlist.storages id _ at kept.formed.storages).2.2
+      (all_at (StorageKeeps netlist) netlist.storages id _ kept.formed.storages at).2.2
 
   pub source_of : book.bits ≡ word_width netlist → (pool : List Node) (nets : List (List Route)) → AreRoutes netlist book pool controls.legal nets → AreSources netlist book pool controls nets
   source_of bits pool nets routes = record {

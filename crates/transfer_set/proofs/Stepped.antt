@@ -1,9 +1,10 @@
 -- The words of the transfers that step are gathered one transfer after the other.
 use Rattle.std.proofs.Common.{◌≡◌, ◌↔◌, ◌⊎◌, inl, inr, true≢false, ℕ, zero, suc, ◌+◌, ◌<◌, ◌==◌, ◌&&◌, ◌||◌, ◌++◌, Bool, true, false, List, [], ◌∷◌, take, Some, slice_get, add-one, refl, sym, ap, subst, ◌∙◌}
 use Rattle.std.specs.List.{list_any}
-use Rattle.std.proofs.lemmas.Bool.{eqb-true, eq-eqb}
-use Rattle.rec_bits.proofs.Booleans.{both}
+use Rattle.std.proofs.lemmas.Bool.{eqb-true}
+use Rattle.rec_bits.proofs.Booleans.{both, or-false, and-false, and-true, or_cases, or_assoc}
 use Rattle.rec_bits.specs.declared.operator.Op2.TheVariants.{Add}
+use Rattle.rec_bits.proofs.Equality.{number_self}
 use Rattle.bit_bdd.specs.Diagrams.{Diagrams, has_word}
 use Rattle.net_model.specs.Exprs.{TransferModel, ExprModel, keep, write, write_at, reg, const, bin, next_of, swapped_next_of}
 use Rattle.sym_expr.specs.declared.pool.Node.{Node}
@@ -13,14 +14,6 @@ use Rattle.transfer_set.specs.Inner.Entries.{AreKnown, entry_transfer, list_if, 
 use Rattle.transfer_set.specs.Inner.Sources.{changes}
 use Rattle.transfer_set.specs.Stepping.{is_next, is_one, is_reg}
 use Rattle.transfer_set.specs.Inner.Stepping.{any_step, entry_steps, transfer_steps}
-
-or_assoc : (a b c : Bool) → (a || b) || c ≡ (a || (b || c))
-or_assoc true b c = refl
-or_assoc false b c = refl
-
-or_none : (a : Bool) → (a || false) ≡ a
-or_none true = refl
-or_none false = refl
 
 pub value_at : (size : ℕ) (entries : List Entry) (i : ℕ) (entry : Entry) → slice_get entries i ≡ Some entry → AreKnown size entries → entry.value < size
 value_at size [] i entry at h = absurd (cc)
@@ -32,7 +25,7 @@ module _ (book : Diagrams) (pool : List Node) (counter : Counter) (word : ℕ) w
       → any_step book pool counter (take (suc i) entries) word ≡ (any_step book pool counter (take i entries) word || (entry_steps pool counter entry && has_word book entry.set word))
   steps_suc [] i entry at = absurd (cc)
   steps_suc (x ∷ entries) zero entry at =
-      or_none (entry_steps pool counter x && has_word book x.set word)
+      or-false (entry_steps pool counter x && has_word book x.set word)
       ∙ (let e : x ≡ entry = cc in λ j. entry_steps pool counter (e j) && has_word book (e j).set word)
   steps_suc (x ∷ entries) (suc i) entry at =
       ap (λ b. (entry_steps pool counter x && has_word book x.set word) || b) (steps_suc entries i entry at)
@@ -47,10 +40,6 @@ module _ (book : Diagrams) (pool : List Node) (counter : Counter) (word : ℕ) w
 
 -- ---- what the gathered words are
 
-and_true : (a : Bool) → (a && true) ≡ a
-and_true true = refl
-and_true false = refl
-
 any_append : {X : Type 0} (p : X → Bool) (xs ys : List X) → list_any p (xs ++ ys) ≡ (list_any p xs || list_any p ys)
 any_append p [] ys = refl
 any_append p (x ∷ xs) ys = ap (λ b. p x || b) (any_append p xs ys) ∙ sym (or_assoc (p x) (list_any p xs) (list_any p ys))
@@ -63,18 +52,10 @@ any_moves book pool counter word (x ∷ entries) =
     (λ j. one (transfer_steps counter) (entry_transfer pool x) (x.storage == counter.storage) (has_word book x.set word) j || any_moves book pool counter word entries j)
     ∙ sym (any_append (transfer_steps counter) (list_if ((x.storage == counter.storage) && has_word book x.set word) (entry_transfer pool x ∷ [])) (transfers_under book pool entries counter.storage word))
   where
-    and_false : (a : Bool) → (a && false) ≡ false
-    and_false true = refl
-    and_false false = refl
-
     one : (p : TransferModel → Bool) (m : TransferModel) (k h : Bool) → ((k && p m) && h) ≡ list_any p (list_if (k && h) (m ∷ []))
-    one p m true true = and_true (p m) ∙ sym (or_none (p m))
-    one p m true false = and_false (p m)
+    one p m true true = and-true (p m) ∙ sym (or-false (p m))
+    one p m true false = and-false (p m)
     one p m false h = refl
-
-either : (a b : Bool) → (a || b) ≡ true → (a ≡ true) ⊎ (b ≡ true)
-either true b e = inl refl
-either false b e = inr e
 
 module _ (counter : Counter) where
   reg_is : (t : ExprModel) → is_reg counter t ≡ true → t ≡ reg counter.storage counter.width
@@ -91,7 +72,7 @@ module _ (counter : Counter) where
 
   -- the register plus 1 is written in one of two ways
   next_is : (t : ExprModel) → is_next counter t ≡ true → (t ≡ next_of counter.storage counter.width) ⊎ (t ≡ swapped_next_of counter.storage counter.width)
-  next_is (bin Add a b) e = by (either (is_reg counter a && is_one counter.width b) (is_one counter.width a && is_reg counter b) e)
+  next_is (bin Add a b) e = by (or_cases (is_reg counter a && is_one counter.width b) (is_one counter.width a && is_reg counter b) e)
     where
       by : (((is_reg counter a && is_one counter.width b) ≡ true) ⊎ ((is_one counter.width a && is_reg counter b) ≡ true))
           → (bin Add a b ≡ next_of counter.storage counter.width) ⊎ (bin Add a b ≡ swapped_next_of counter.storage counter.width)
@@ -100,14 +81,8 @@ module _ (counter : Counter) where
   next_is _ e = absurd (cc)
 
   next_says : (t : ExprModel) → (t ≡ next_of counter.storage counter.width) ⊎ (t ≡ swapped_next_of counter.storage counter.width) → is_next counter t ≡ true
-  next_says t (inl e) = ap (is_next counter) e ∙ (λ j. ((same counter.storage j && same counter.width j) && (same counter.width j && true)) || false) ∙ refl
-    where
-      same : (n : ℕ) → (n == n) ≡ true
-      same n = eq-eqb n n refl
-  next_says t (inr e) = ap (is_next counter) e ∙ (λ j. (false && false) || ((same counter.width j && true) && (same counter.storage j && same counter.width j))) ∙ refl
-    where
-      same : (n : ℕ) → (n == n) ≡ true
-      same n = eq-eqb n n refl
+  next_says t (inl e) = ap (is_next counter) e ∙ (λ j. ((number_self counter.storage j && number_self counter.width j) && (number_self counter.width j && true)) || false) ∙ refl
+  next_says t (inr e) = ap (is_next counter) e ∙ (λ j. (false && false) || ((number_self counter.width j && true) && (number_self counter.storage j && number_self counter.width j))) ∙ refl
 
   -- a gathered word is one under which the register becomes itself plus 1
   pub steps_when : (m : TransferModel) (l s : Bool) (held : List TransferModel) → held ≡ list_if l (changes m) → s ≡ list_any (transfer_steps counter) held
@@ -119,7 +94,7 @@ module _ (counter : Counter) where
     where
       there : (m : TransferModel) → list_any (transfer_steps counter) (changes m) ≡ true → (m ≡ write (next_of counter.storage counter.width)) ⊎ (m ≡ write (swapped_next_of counter.storage counter.width))
       there keep q = absurd (true≢false (sym q))
-      there (write t) q = by (next_is t (sym (or_none (is_next counter t)) ∙ q))
+      there (write t) q = by (next_is t (sym (or-false (is_next counter t)) ∙ q))
         where
           by : (t ≡ next_of counter.storage counter.width) ⊎ (t ≡ swapped_next_of counter.storage counter.width)
               → (write t ≡ write (next_of counter.storage counter.width)) ⊎ (write t ≡ write (swapped_next_of counter.storage counter.width))
@@ -128,6 +103,6 @@ module _ (counter : Counter) where
       there (write_at a t) q = absurd (true≢false (sym q))
 
       back : (m : TransferModel) → (m ≡ write (next_of counter.storage counter.width)) ⊎ (m ≡ write (swapped_next_of counter.storage counter.width)) → list_any (transfer_steps counter) (changes m) ≡ true
-      back m (inl q) = ap (λ x. list_any (transfer_steps counter) (changes x)) q ∙ or_none (is_next counter (next_of counter.storage counter.width)) ∙ next_says (next_of counter.storage counter.width) (inl refl)
-      back m (inr q) = ap (λ x. list_any (transfer_steps counter) (changes x)) q ∙ or_none (is_next counter (swapped_next_of counter.storage counter.width)) ∙ next_says (swapped_next_of counter.storage counter.width) (inr refl)
+      back m (inl q) = ap (λ x. list_any (transfer_steps counter) (changes x)) q ∙ or-false (is_next counter (next_of counter.storage counter.width)) ∙ next_says (next_of counter.storage counter.width) (inl refl)
+      back m (inr q) = ap (λ x. list_any (transfer_steps counter) (changes x)) q ∙ or-false (is_next counter (swapped_next_of counter.storage counter.width)) ∙ next_says (swapped_next_of counter.storage counter.width) (inr refl)
   steps_when m false s held is e = (λ q. absurd (true≢false (sym q ∙ e ∙ ap (list_any (transfer_steps counter)) is)), λ q. absurd (true≢false (sym q.0)))

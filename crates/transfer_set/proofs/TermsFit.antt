@@ -3,6 +3,7 @@
 use Rattle.std.proofs.Common.{◌≡◌, ℕ, zero, suc, ◌+◌, ◌<◌, ◌≤◌, ◌==◌, ◌&&◌, Bool, true, false, cond, List, [], ◌∷◌, length, Option, Some, None, slice_get, refl, sym, ◌∙◌, ap, subst, arith}
 use Rattle.std.specs.List.{AllByRecursion}
 use Rattle.std.proofs.lemmas.Nat.{pow_pos}
+use Rattle.rec_bits.proofs.Lists.{there}
 use Rattle.net_model.specs.declared.hardware.Netlist.{Netlist}
 use Rattle.net_model.specs.declared.hardware.Gate.{Gate}
 use Rattle.net_model.specs.declared.hardware.Gate.TheVariants.{Word, Reg, Read, Const, Wire, Un, Bin, Slice, Cat, Zext, Sext, Case, Bus}
@@ -87,21 +88,16 @@ module _ (netlist : Netlist) (sound : IsSound netlist) where
         by false e = (h sel g.0, (row 1).fits, (row 0).fits, (wide sel ∙ is_bit netlist sel c.selectors.0 e, (row 0).same ∙ sym (row 1).same))
     gate_of width (Bus drivers) p q g c = bus_of width drivers p q g
 
-  net_there : {A : Type 0} (xs : List A) (n : ℕ) → n < length xs → (x : A) × (slice_get xs n ≡ Some x)
-  net_there [] n lt = absurd (omega (arith, lt))
-  net_there (x ∷ xs) zero lt = (x, refl)
-  net_there (x ∷ xs) (suc n) lt = net_there xs n (omega (arith, lt))
-
   within_fits : (i k n : ℕ) → n < length netlist.nets → ExprFits (sym_within k netlist i n)
   within_fits i zero n lt =
-      let net = net_there netlist.nets n lt in
+      let net = there netlist.nets n lt in
       let w : width_at netlist n ≡ net.0.width = ap net_width net.1 in
       let f : NetFits netlist (Some net.0) = subst (NetFits netlist) net.1 (sound.typed.nets n) in
       let some = f.0 in
       let few = f.1 in
       (omega (arith, w, some), omega (arith, w, few), pow_pos (width_at netlist n))
   within_fits i (suc k) n lt =
-      let net = net_there netlist.nets n lt in
+      let net = there netlist.nets n lt in
       let f : NetFits netlist (Some net.0) = subst (NetFits netlist) net.1 (sound.typed.nets n) in
       subst (λ o. ExprFits (net_expr (sym_within k netlist i) (value_within k netlist no_state i) (is_static netlist) netlist o)) (sym net.1)
       (gate_of (sym_within k netlist i) (value_within k netlist no_state i) (within_fits i k) (width_is netlist i sound.typed k) net.0.width net.0.gate f.0 f.1 f.2

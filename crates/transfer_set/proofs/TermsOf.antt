@@ -1,7 +1,7 @@
 -- The symbolic values of a netlist's nets are its expressions, and so are those of its transfers.
-use Rattle.std.proofs.Common.{lit<, ◌≡◌, ℕ, zero, suc, ◌+◌, ◌^◌, ◌<◌, ◌≤◌, ◌==◌, ◌&&◌, inl, inr, Bool, true, false, cond, List, [], ◌∷◌, length, Option, Some, None, slice_get, sym, ap, arith}
-use Rattle.std.proofs.Math.Nat.{pow-le-pow_right}
+use Rattle.std.proofs.Common.{◌≡◌, ℕ, zero, suc, ◌+◌, ◌^◌, ◌<◌, ◌≤◌, ◌==◌, ◌&&◌, inl, inr, Bool, true, false, cond, List, [], ◌∷◌, length, Option, Some, None, slice_get, sym, ap, arith}
 use Rattle.std.proofs.lemmas.Option.{slice_get_cases, slice_get_past}
+use Rattle.rec_bits.proofs.Bits.{below_64}
 use Rattle.net_model.proofs.Storages.{wide_place}
 use Rattle.net_model.specs.declared.hardware.Netlist.{Netlist}
 use Rattle.net_model.specs.declared.hardware.Net.{Net}
@@ -26,9 +26,6 @@ use Rattle.transfer_set.specs.TextMarks.{IsTransferOf, IsExprOf}
 
 small : (w : ℕ) → w ≤ 64 → w < 2 ^ 64
 small w h = omega arith
-
-below : (c w : ℕ) → w ≤ 64 → c < 2 ^ w → c < 2 ^ 64
-below c w h lt = (let q : 2 ^ w ≤ 2 ^ 64 = pow-le-pow_right (lit< tt) h in omega (arith, q, lt))
 
 -- a net has at most 64 bits, and none where there is no net
 pub narrow : (netlist : Netlist) (net : Option Net) → NetFits netlist net → net_width net ≤ 64
@@ -87,7 +84,7 @@ module _ (netlist : Netlist) (typed : IsTyped netlist) (one : length netlist.cod
     gate_of width (Word code) p q g = word_of code width p g
     gate_of width (Reg id) p q g = reg_of id width p g
     gate_of width (Read memory addr) p q g = (h addr, sym g.1, wide_place (space_at netlist memory) netlist.storages (omega (arith, p, g.1)))
-    gate_of width (Const c) p q g = (small width q, below c width q g)
+    gate_of width (Const c) p q g = (small width q, below_64 c width q g)
     gate_of width (Wire a) p q g = h a
     gate_of width (Un op a) p q g = h a
     gate_of width (Bin op a b) p q g = (h a, h b)

@@ -5,12 +5,13 @@ use Rattle.std.specs.Cmp.Lexicographic.{pointwise}
 use Rattle.std.specs.Fmt.{decimal}
 use Rattle.std.proofs.lemmas.Fmt.{decimal_by_steps}
 use Rattle.std.specs.List.{AllByRecursion, IsDistinct, list_all}
-use Rattle.std.proofs.lemmas.Bool.{eqb-true, eq-eqb}
+use Rattle.std.proofs.lemmas.Bool.{eqb-true}
 use Rattle.rec_bits.proofs.Booleans.{or_left}
 use Rattle.rec_bits.specs.declared.operator.Op1.{Op1}
 use Rattle.rec_bits.specs.declared.operator.Op1.TheVariants.{Not, Neg}
 use Rattle.rec_bits.specs.declared.operator.Op2.{Op2}
 use Rattle.rec_bits.specs.declared.operator.Op2.TheVariants.{Add, Sub, Mul, And, Or, Xor, Shl, Shr, Sar, Eq, Ltu, Lts}
+use Rattle.rec_bits.proofs.Equality.{name_self}
 use Rattle.net_model.proofs.Storages.{same_space}
 use Rattle.net_model.specs.declared.hardware.Space.{Space}
 use Rattle.net_model.specs.declared.hardware.Netlist.{Netlist}
@@ -204,13 +205,9 @@ number_told m n a b e = sym (value_is m a) ∙ ap (value_from 0) e ∙ value_is 
 
 -- ---- names
 
-alike : (s : List ℕ) → pointwise nat_eq s s ≡ true
-alike [] = refl
-alike (b ∷ s) = (λ j. eq-eqb b b refl j && alike s j)
-
 no_other : (x : List ℕ) (names : List (List ℕ)) (j : ℕ) → AllByRecursion (λ y. pointwise nat_eq x y ≡ false) names → slice_get names j ≡ Some x → ⊥
 no_other x [] j all b = cc
-no_other x (y ∷ names) zero all b = (let e : y ≡ x = cc in true≢false (sym (alike x) ∙ ap (pointwise nat_eq x) (sym e) ∙ all.0))
+no_other x (y ∷ names) zero all b = (let e : y ≡ x = cc in true≢false (sym (name_self x) ∙ ap (pointwise nat_eq x) (sym e) ∙ all.0))
 no_other x (y ∷ names) (suc j) all b = no_other x names j all.1 b
 
 -- a name that stands at two places stands at one

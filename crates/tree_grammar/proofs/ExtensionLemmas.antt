@@ -2,28 +2,25 @@
 use Rattle.std.proofs.Common.{◌≡◌, ℕ, ◌+◌, ◌-◌, ◌*◌, ◌%◌, ◌^◌, ◌<◌, ◌≤◌, ◌==◌, ◌&&◌, nat_lt, Bool, true, false, true≢false, cond, Some, None, refl, sym, ap, subst, ◌∙◌, arith}
 use Rattle.std.specs.Prelude.{IfOk, Result, is_some}
 use Rattle.std.proofs.lemmas.Result.{IfOk-weaker}
-use Rattle.std.proofs.lemmas.Bool.{eqb-true, eq-eqb}
-use Rattle.std.proofs.lemmas.Nat.{pow_pos, pow-add, mod_below}
+use Rattle.std.proofs.lemmas.Bool.{eqb-true, eq-eqb, ltb-true, lt-ltb}
+use Rattle.std.proofs.lemmas.Nat.{pow_pos, mod_below}
 use Rattle.std.proofs.Math.Nat.{mod-eq_of_lt}
 use Rattle.std.proofs.Math.Pow.{pow_mono}
 use Rattle.rec_bits.specs.Operators.{sext_of, is_negative_of}
+use Rattle.rec_bits.proofs.Booleans.{same_truth}
+use Rattle.rec_bits.proofs.Options.{some_given}
+use Rattle.rec_bits.proofs.Bits.{double_half}
 use Rattle.net_model.specs.Exprs.{ExprModel, word, slice, zext, sext, expr_width}
-use Rattle.form_model.specs.Shapes.{field_setting, is_field, plain_setting, then_some}
-use Rattle.form_model.proofs.FieldLaws.{less_true, true_less}
+use Rattle.form_model.specs.Shapes.{field_setting, is_field, plain_setting}
 use Rattle.form_model.proofs.PlainLaws.{sext_plain}
 use Rattle.tree_grammar.specs.Inner.Settings.{extension_setting, is_word}
-
-same_test : (a b : Bool) → (a ≡ true → b ≡ true) → (b ≡ true → a ≡ true) → a ≡ b
-same_test true b f g = sym (f refl)
-same_test false true f g = g refl
-same_test false false f g = refl
 
 -- ---- extensions
 
 pub extension_of_none : (v to : ℕ) → (v == 0) ≡ (sext_of (v % 2 ^ 0) 0 to == v)
 extension_of_none v to =
     let z : v % 2 ^ 0 ≡ 0 = omega arith in
-    same_test (v == 0) (0 == v) (λ e. eq-eqb 0 v (sym (eqb-true v 0 e))) (λ e. eq-eqb v 0 (sym (eqb-true 0 v e)))
+    same_truth (v == 0) (0 == v) (λ e. eq-eqb 0 v (sym (eqb-true v 0 e))) (λ e. eq-eqb v 0 (sym (eqb-true 0 v e)))
     ∙ ap (λ x. sext_of x 0 to == v) (sym z)
 
 -- nothing is added where the width doesn't grow
@@ -36,9 +33,9 @@ short_same x from to lt = by (is_negative_of from x)
 
 low_same : (v from : ℕ) → (v % 2 ^ from == v) ≡ nat_lt v (2 ^ from)
 low_same v from =
-    same_test (v % 2 ^ from == v) (nat_lt v (2 ^ from))
-    (λ e. true_less v (2 ^ from) (subst (λ n. n < 2 ^ from) (eqb-true (v % 2 ^ from) v e) (mod_below v (2 ^ from) (pow_pos from))))
-    (λ e. eq-eqb (v % 2 ^ from) v (mod-eq_of_lt (less_true v (2 ^ from) e)))
+    same_truth (v % 2 ^ from == v) (nat_lt v (2 ^ from))
+    (λ e. lt-ltb v (2 ^ from) (subst (λ n. n < 2 ^ from) (eqb-true (v % 2 ^ from) v e) (mod_below v (2 ^ from) (pow_pos from))))
+    (λ e. eq-eqb (v % 2 ^ from) v (mod-eq_of_lt (ltb-true v (2 ^ from) e)))
 
 pub extension_short : (v from to : ℕ) → to < from → nat_lt v (2 ^ from) ≡ (sext_of (v % 2 ^ from) from to == v)
 extension_short v from to lt = sym (ap (λ n. n == v) (short_same (v % 2 ^ from) from to lt) ∙ low_same v from)
@@ -46,15 +43,12 @@ extension_short v from to lt = sym (ap (λ n. n == v) (short_same (v % 2 ^ from)
 -- an extension past 64 bits with a top bit of 1 is past all numbers of 64
 far : (from to : ℕ) → 1 ≤ from → from ≤ to → 64 < to → 2 ^ 64 ≤ 2 ^ (from - 1) + (2 ^ to - 2 ^ from)
 far from to one le wide =
-    let f : 2 ^ from ≡ 2 ^ (from - 1) + 2 ^ (from - 1) = twice from one in
-    let t : 2 ^ to ≡ 2 ^ (to - 1) + 2 ^ (to - 1) = twice to (omega (arith, wide)) in
+    let f : 2 ^ from ≡ 2 ^ (from - 1) + 2 ^ (from - 1) = double_half from one in
+    let t : 2 ^ to ≡ 2 ^ (to - 1) + 2 ^ (to - 1) = double_half to (omega (arith, wide)) in
     let up : 64 ≤ to - 1 = omega (arith, wide) in
     let m : 2 ^ 64 ≤ 2 ^ (to - 1) = pow_mono up in
     let l : 2 ^ (from - 1) ≤ 2 ^ (to - 1) = pow_mono (omega (arith, le)) in
     omega (arith, f, t, m, l)
-  where
-    twice : (n : ℕ) → 1 ≤ n → 2 ^ n ≡ 2 ^ (n - 1) + 2 ^ (n - 1)
-    twice n h = (let e : n ≡ n - 1 + 1 = omega (arith, h) in let p : 2 ^ (n - 1 + 1) ≡ 2 ^ (n - 1) * 2 ^ 1 = pow-add 2 (n - 1) 1 in let d : 2 ^ (n - 1 + 1) ≡ 2 ^ (n - 1) + 2 ^ (n - 1) = omega (arith, p) in ap (λ k. 2 ^ k) e ∙ d)
 
 wide_never : (v from to : ℕ) → v < 2 ^ 64 → 1 ≤ from → from ≤ to → 64 < to → 2 ^ (from - 1) ≤ v → sext_of (v % 2 ^ from) from to ≡ v → ⊥
 wide_never v from to small one le wide top = by (is_negative_of from (v % 2 ^ from)) refl
@@ -68,34 +62,30 @@ extension_wide v from to small one le wide = by (nat_lt v (2 ^ (from - 1))) refl
   where
     by : (b : Bool) → nat_lt v (2 ^ (from - 1)) ≡ b → b ≡ (sext_of (v % 2 ^ from) from to == v)
     by true e =
-        let lt : v < 2 ^ (from - 1) = less_true v (2 ^ (from - 1)) e in
+        let lt : v < 2 ^ (from - 1) = ltb-true v (2 ^ (from - 1)) e in
         let m : 2 ^ (from - 1) ≤ 2 ^ from = pow_mono (omega arith) in
         let low : v % 2 ^ from ≡ v = mod-eq_of_lt (omega (arith, lt, m)) in
         sym (eq-eqb _ _ (ap (λ x. sext_of x from to) low ∙ sext_plain v from to lt))
     by false e =
         let top : 2 ^ (from - 1) ≤ v = grind (arith, e) in
-        same_test false (sext_of (v % 2 ^ from) from to == v) (λ x. absurd (true≢false (sym x)))
+        same_truth false (sext_of (v % 2 ^ from) from to == v) (λ x. absurd (true≢false (sym x)))
         (λ x. absurd (wide_never v from to small one le wide top (eqb-true _ _ x)))
 
 -- ---- fields
 
-some_then : (b : Bool) (n : ℕ) → is_some (then_some b n) ≡ b
-some_then true n = refl
-some_then false n = refl
-
 slice_shows : (a : ExprModel) (hi lo v : ℕ) → (is_word a && nat_lt v (2 ^ (hi + 1 - lo))) ≡ is_some (field_setting (slice a hi lo) v)
-slice_shows (word w) hi lo v = sym (some_then (nat_lt v (2 ^ (hi + 1 - lo))) (v * 2 ^ lo))
+slice_shows (word w) hi lo v = sym (some_given (nat_lt v (2 ^ (hi + 1 - lo))) (v * 2 ^ lo))
 slice_shows _ hi lo v = refl
 
 word_shows : (w v : ℕ) → nat_lt v (2 ^ w) ≡ is_some (field_setting (word w) v)
-word_shows w v = sym (some_then (nat_lt v (2 ^ w)) v)
+word_shows w v = sym (some_given (nat_lt v (2 ^ w)) v)
 
 -- ---- the bits of the word for a value that a field shows
 
 -- what shows a value is a field, as wide as the value
 shown_field : (a : ExprModel) (v : ℕ) → is_some (field_setting a v) ≡ true → (is_field a ≡ true) × (v < 2 ^ expr_width a)
-shown_field (word w) v h = (refl, less_true v (2 ^ w) (word_shows w v ∙ h))
-shown_field (slice (word w) hi lo) v h = (refl, less_true v (2 ^ (hi + 1 - lo)) (slice_shows (word w) hi lo v ∙ h))
+shown_field (word w) v h = (refl, ltb-true v (2 ^ w) (word_shows w v ∙ h))
+shown_field (slice (word w) hi lo) v h = (refl, ltb-true v (2 ^ (hi + 1 - lo)) (slice_shows (word w) hi lo v ∙ h))
 shown_field (slice _ hi lo) v h = absurd (true≢false (sym h))
 shown_field _ v h = absurd (true≢false (sym h))
 

@@ -1,7 +1,8 @@
 -- Numbers of subtrees, from a tree to its operands.
-use Rattle.std.proofs.Common.{◌≡◌, ℕ, zero, suc, ◌+◌, List, [], ◌∷◌, ◌++◌, length, Some, arith, subst, sym, ap, ◌∙◌, refl, length-append}
+use Rattle.std.proofs.Common.{◌≡◌, ℕ, suc, ◌+◌, List, [], ◌∷◌, ◌++◌, length, Some, arith, subst, sym, ◌∙◌, refl, length-append}
 use Rattle.std.specs.Prelude.{slice_get, Result, OnOk}
 use Rattle.std.proofs.lemmas.Result.{on_ok_weaker}
+use Rattle.rec_bits.proofs.Lists.{get_left_some, get_right}
 use Rattle.net_model.specs.declared.hardware.Space.{Space}
 use Rattle.net_model.specs.Exprs.{ExprModel, word, reg, const, read, un, bin, slice, cat, zext, sext, select, size_of}
 use Rattle.tree_grammar.specs.Numbers.{subtrees, HoldsSubtrees}
@@ -30,17 +31,8 @@ Lists nodes at xs = (k : ℕ) (s : ExprModel) → slice_get xs k ≡ Some s → 
 pub lists_tail : (nodes : List ExprModel) (at : ℕ) (x : ExprModel) (xs : List ExprModel) → Lists nodes at (x ∷ xs) → Lists nodes (at + 1) xs
 lists_tail nodes at x xs h k s get = let e : at + 1 + k ≡ at + suc k = omega arith in subst (λ i. slice_get nodes i ≡ Some s) (sym e) (h (suc k) s get)
 
-get_left : (xs ys : List ExprModel) (k : ℕ) (s : ExprModel) → slice_get xs k ≡ Some s → slice_get (xs ++ ys) k ≡ Some s
-get_left [] ys k s h = absurd (cc)
-get_left (x ∷ xs) ys zero s h = h
-get_left (x ∷ xs) ys (suc k) s h = get_left xs ys k s h
-
-get_right : (xs ys : List ExprModel) (k : ℕ) → slice_get (xs ++ ys) (length xs + k) ≡ slice_get ys k
-get_right [] ys k = let e : length {A = ExprModel} [] + k ≡ k = omega arith in ap (slice_get ys) e
-get_right (x ∷ xs) ys k = let e : length (x ∷ xs) + k ≡ suc (length xs + k) = omega arith in ap (λ i. slice_get (x ∷ (xs ++ ys)) i) e ∙ get_right xs ys k
-
 pub lists_left : (nodes : List ExprModel) (at : ℕ) (xs ys : List ExprModel) → Lists nodes at (xs ++ ys) → Lists nodes at xs
-lists_left nodes at xs ys h k s get = h k s (get_left xs ys k s get)
+lists_left nodes at xs ys h k s get = h k s (get_left_some xs ys k s get)
 
 pub lists_right : (nodes : List ExprModel) (at n : ℕ) (xs ys : List ExprModel) → length xs ≡ n → Lists nodes at (xs ++ ys) → Lists nodes (at + n) ys
 lists_right nodes at n xs ys len h k s get =

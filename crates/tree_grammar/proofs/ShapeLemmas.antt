@@ -5,19 +5,17 @@ use Rattle.std.proofs.lemmas.Bool.{cases_eq}
 use Rattle.std.proofs.lemmas.Bool.Decides.{nat_tests}
 use Rattle.std.proofs.Math.Pow.{pow_mono}
 use Rattle.std.proofs.Math.Nat.{mod-eq_of_lt}
+use Rattle.rec_bits.proofs.Booleans.{and-false}
+use Rattle.rec_bits.proofs.Options.{some_given}
 use Rattle.net_model.specs.Exprs.{ExprModel, word, slice, zext}
 use Rattle.form_model.specs.Shapes.{then_some, field_setting, shows, shows_below}
 use Rattle.tree_grammar.specs.Inner.Settings.{IsSteady}
-
-and_false : (b : Bool) → (b && false) ≡ false
-and_false true = refl
-and_false false = refl
 
 pub never_below : (t : ExprModel) (n v : ℕ) → v < n → shows t v ≡ false → shows_below t n ≡ false
 never_below t zero v lt e = absurd (omega arith)
 never_below t (suc n) v lt e = elim (cases_eq v n) [
   | inl same ↦ ap (λ b. b && shows_below t n) (sym (ap (shows t) same) ∙ e)
-  | inr other ↦ ap (λ b. shows t n && b) (never_below t n v (omega arith) e) ∙ and_false (shows t n)
+  | inr other ↦ ap (λ b. shows t n && b) (never_below t n v (omega arith) e) ∙ and-false (shows t n)
 ]
 
 pub always_below : (v w : ℕ) → v < 2 ^ 64 → 64 ≤ w → nat_lt v (2 ^ w) ≡ true
@@ -25,10 +23,6 @@ always_below v w h k = let m = pow_mono k in let lt : v < 2 ^ w = omega (arith, 
 
 pub low_always : (v w : ℕ) → v < 2 ^ 64 → 64 ≤ w → v % 2 ^ w ≡ v
 low_always v w h k = let m = pow_mono k in let lt : v < 2 ^ w = omega (arith, h, m) in mod-eq_of_lt lt
-
-some_given : (b : Bool) (n : ℕ) → is_some (then_some b n) ≡ b
-some_given true n = refl
-some_given false n = refl
 
 lt_steady : (v u w : ℕ) → u ≤ v → nat_lt v w ≡ true → nat_lt u w ≡ true
 lt_steady v u w le h = grind (arith, nat_tests, le, h)

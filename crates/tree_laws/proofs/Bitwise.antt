@@ -8,9 +8,10 @@ use Rattle.std.specs.Int.Bits.{or_add_and, xor_add_and, and_self, or_self, xor_s
 use Rattle.rec_bits.specs.Operators.{apply1_of, apply2_of, bit_of, is_negative_of, sext_of}
 use Rattle.rec_bits.specs.declared.operator.Op1.TheVariants.{Not}
 use Rattle.rec_bits.specs.declared.operator.Op2.TheVariants.{Add, Sub, And, Or, Xor, Eq}
+use Rattle.rec_bits.proofs.Bits.{double_half}
 use Rattle.tree_laws.proofs.KnownTests.{le_holds, le_fails}
 use Rattle.tree_laws.proofs.Low.{pow_split}
-use Rattle.tree_laws.proofs.Signs.{double_half, sign_cases}
+use Rattle.tree_laws.proofs.Signs.{sign_cases}
 
 -- ---- De Morgan, and `or` in any order
 

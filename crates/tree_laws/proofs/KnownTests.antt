@@ -2,9 +2,6 @@
 use Rattle.std.proofs.Common.{◌≡◌, ℕ, ◌+◌, ◌<◌, ◌≤◌, sym, ◌∙◌, arith, refl, inl, inr, Bool, true, false, nat_lt, nat_le}
 use Rattle.std.proofs.lemmas.Bool.{cases_lt, lt-ltb, ltb-true}
 
-pub lt_holds : (a b : ℕ) → a < b → nat_lt a b ≡ true
-lt_holds a b h = lt-ltb a b h
-
 pub lt_fails : (a b : ℕ) → b ≤ a → nat_lt a b ≡ false
 lt_fails a b h = by (nat_lt a b) refl
   where
@@ -15,7 +12,7 @@ lt_fails a b h = by (nat_lt a b) refl
 -- both numbers moved up
 pub lt_moved : (m n h : ℕ) → nat_lt (m + h) (n + h) ≡ nat_lt m n
 lt_moved m n h = elim (cases_lt m n) as (λ _. nat_lt (m + h) (n + h) ≡ nat_lt m n) [
-  | inl l ↦ (let k : m + h < n + h = omega (arith, l) in lt_holds (m + h) (n + h) k ∙ sym (lt_holds m n l))
+  | inl l ↦ (let k : m + h < n + h = omega (arith, l) in lt-ltb (m + h) (n + h) k ∙ sym (lt-ltb m n l))
   | inr l ↦ (let k : n + h ≤ m + h = omega (arith, l) in lt_fails (m + h) (n + h) k ∙ sym (lt_fails m n l))
 ]
 

@@ -4,16 +4,17 @@ use Rattle.std.proofs.Common.{◌≡◌, ℕ, ◌+◌, ◌-◌, ◌*◌, ◌/◌
 use Rattle.std.specs.Prelude.{pos, ◌-ℤ◌, ◌<ℤ◌, ◌≤ℤ◌, ℤ, int_lt, bit_and, bit_xor}
 use Rattle.std.proofs.Math.Nat.{mod-eq_of_lt, add-mod_right, mod-lt}
 use Rattle.std.proofs.lemmas.Int.{ints}
-use Rattle.std.proofs.lemmas.Bool.{cases_lt, eq-eqb, ne_eqb}
+use Rattle.std.proofs.lemmas.Bool.{cases_lt, eq-eqb, ne_eqb, lt-ltb}
 use Rattle.std.proofs.lemmas.Nat.{pow_pos, and_block, xor_block, and_mask, div-mul-add, mod_below}
 use Rattle.std.specs.Int.Bits.{and_zero_r, xor_zero_r}
 use Rattle.rec_bits.specs.Operators.{apply1_of, apply2_of, bit_of, is_negative_of, sext_of, signed_of, slice_of}
 use Rattle.rec_bits.specs.declared.operator.Op1.TheVariants.{Not}
 use Rattle.rec_bits.specs.declared.operator.Op2.TheVariants.{And, Eq, Lts, Ltu, Shl, Sub, Xor}
-use Rattle.tree_laws.proofs.KnownTests.{lt_holds, lt_fails, lt_moved, le_holds, le_fails}
+use Rattle.rec_bits.proofs.Bits.{double_half}
+use Rattle.tree_laws.proofs.KnownTests.{lt_fails, lt_moved, le_holds, le_fails}
 use Rattle.tree_laws.proofs.Shifts.{slice_shl}
 use Rattle.tree_laws.proofs.Compared.{not_ltu, not_gtu}
-use Rattle.tree_laws.proofs.Signs.{double_half, power_up, sign_cases, sext_high, sext_small}
+use Rattle.tree_laws.proofs.Signs.{power_up, sign_cases, sext_high, sext_small}
 use Rattle.tree_laws.proofs.Bitwise.{IsTop, and_bitwise, bitwise_top, either, spread, top_is, top_of, xor_bitwise}
 
 -- ---- numbers in two's complement, moved up to begin at 0
@@ -55,7 +56,7 @@ int_fails x y h = grind (arith, ints)
 
 lt_apart : (m n h : ℕ) → int_lt (pos m -ℤ pos h) (pos n -ℤ pos h) ≡ nat_lt m n
 lt_apart m n h = elim (cases_lt m n) as (λ _. int_lt (pos m -ℤ pos h) (pos n -ℤ pos h) ≡ nat_lt m n) [
-  | inl l ↦ (let s : (pos m -ℤ pos h) <ℤ (pos n -ℤ pos h) = omega (arith, ints, l) in int_holds (pos m -ℤ pos h) (pos n -ℤ pos h) s ∙ sym (lt_holds m n l))
+  | inl l ↦ (let s : (pos m -ℤ pos h) <ℤ (pos n -ℤ pos h) = omega (arith, ints, l) in int_holds (pos m -ℤ pos h) (pos n -ℤ pos h) s ∙ sym (lt-ltb m n l))
   | inr g ↦ (let s : (pos n -ℤ pos h) ≤ℤ (pos m -ℤ pos h) = omega (arith, ints, g) in int_fails (pos m -ℤ pos h) (pos n -ℤ pos h) s ∙ sym (lt_fails m n g))
 ]
 
@@ -75,7 +76,7 @@ lts_top w d g lt =
     lts_shifted w d 0 g ∙ ap (λ n. bit_of (nat_lt (shifted w d) n)) (shifted_zero w)
     ∙ elim (sign_cases w d) as (λ _. bit_of (nat_lt (shifted w d) (2 ^ (w - 1))) ≡ bit_of (is_negative_of w d)) [
       | inl s ↦ (let l : shifted w d < 2 ^ (w - 1) = (let e = shifted_high w d s.1 in let p = double_half w g in omega (arith, e, p, lt, s.1)) in
-          ap bit_of (lt_holds (shifted w d) (2 ^ (w - 1)) l ∙ sym s.0))
+          ap bit_of (lt-ltb (shifted w d) (2 ^ (w - 1)) l ∙ sym s.0))
       | inr s ↦ (let l : 2 ^ (w - 1) ≤ shifted w d = (let e = shifted_small w d s.1 in omega (arith, e)) in
           ap bit_of (lt_fails (shifted w d) (2 ^ (w - 1)) l ∙ sym s.0))
     ]
@@ -129,7 +130,7 @@ module _ (x p q : ℕ) (g : 1 ≤ x) (lp : p < 2 ^ x) (lq : q < 2 ^ x) where
   -- numbers that are no further apart
   pub near_sign : q ≤ p + 2 ^ (x - 1) → p < q + 2 ^ (x - 1) → is_negative_of x (apply2_of Sub x p q) ≡ nat_lt p q
   near_sign h k = elim (cases_lt p q) as (λ _. is_negative_of x (apply2_of Sub x p q) ≡ nat_lt p q) [
-    | inl l ↦ (let n : q - p ≤ 2 ^ (x - 1) = omega (arith, h) in negative_near l n ∙ sym (lt_holds p q l))
+    | inl l ↦ (let n : q - p ≤ 2 ^ (x - 1) = omega (arith, h) in negative_near l n ∙ sym (lt-ltb p q l))
     | inr m ↦ (let n : p - q < 2 ^ (x - 1) = omega (arith, k, m) in positive_near m n ∙ sym (lt_fails p q m))
   ]
 
@@ -163,7 +164,7 @@ below_by_sign : (w a b : ℕ) → 2 ^ (w - 1) ≤ a → b < 2 ^ (w - 1) → 1 �
 below_by_sign w a b h l g lt =
     let e = shifted_high w a h in
     let f = shifted_small w b l in
-    lt_holds (shifted w a) (shifted w b) (omega (arith, e, f, double_half w g, lt))
+    lt-ltb (shifted w a) (shifted w b) (omega (arith, e, f, double_half w g, lt))
 
 above_by_sign : (w a b : ℕ) → a < 2 ^ (w - 1) → 2 ^ (w - 1) ≤ b → 1 ≤ w → b < 2 ^ w → nat_lt (shifted w a) (shifted w b) ≡ false
 above_by_sign w a b l h g lt =
@@ -176,7 +177,7 @@ same_high w a b h k =
     let e = shifted_high w a h in
     let f = shifted_high w b k in
     elim (cases_lt a b) as (λ _. nat_lt (shifted w a) (shifted w b) ≡ nat_lt a b) [
-      | inl l ↦ lt_holds (shifted w a) (shifted w b) (omega (arith, e, f, l, h, k)) ∙ sym (lt_holds a b l)
+      | inl l ↦ lt-ltb (shifted w a) (shifted w b) (omega (arith, e, f, l, h, k)) ∙ sym (lt-ltb a b l)
       | inr l ↦ lt_fails (shifted w a) (shifted w b) (omega (arith, e, f, l, h, k)) ∙ sym (lt_fails a b l)
     ]
 
@@ -185,7 +186,7 @@ same_small w a b h k =
     let e = shifted_small w a h in
     let f = shifted_small w b k in
     elim (cases_lt a b) as (λ _. nat_lt (shifted w a) (shifted w b) ≡ nat_lt a b) [
-      | inl l ↦ lt_holds (shifted w a) (shifted w b) (omega (arith, e, f, l)) ∙ sym (lt_holds a b l)
+      | inl l ↦ lt-ltb (shifted w a) (shifted w b) (omega (arith, e, f, l)) ∙ sym (lt-ltb a b l)
       | inr l ↦ lt_fails (shifted w a) (shifted w b) (omega (arith, e, f, l)) ∙ sym (lt_fails a b l)
     ]
 
@@ -332,7 +333,7 @@ module _ (w a b : ℕ) (g : 1 ≤ w) (p : a < 2 ^ w) (q : b < 2 ^ w) where
           mixes true false (is_negative_of w (apply2_of Sub w a b)) false s.0 t.0 b q t.0 refl ∙ taken (is_negative_of w (apply2_of Sub w a b)) false ∙ sym (lt_fails a b order)
       by (inr s) (inl t) =
           let order : a < b = omega (arith, s.1, t.1) in
-          mixes false true (is_negative_of w (apply2_of Sub w a b)) true s.0 t.0 b q t.0 refl ∙ taken (is_negative_of w (apply2_of Sub w a b)) true ∙ sym (lt_holds a b order)
+          mixes false true (is_negative_of w (apply2_of Sub w a b)) true s.0 t.0 b q t.0 refl ∙ taken (is_negative_of w (apply2_of Sub w a b)) true ∙ sym (lt-ltb a b order)
       by (inr s) (inr t) =
           mixes false false (is_negative_of w (apply2_of Sub w a b)) false s.0 t.0 b q t.0 refl ∙ kept (is_negative_of w (apply2_of Sub w a b)) false ∙ near_gap_small s.1 t.1
 

@@ -1,5 +1,5 @@
 -- slice-shift, shift-slice, shift-wide, shift-shift, zext-and.
-use Rattle.std.proofs.lemmas.Bool.{cases_lt}
+use Rattle.std.proofs.lemmas.Bool.{cases_lt, lt-ltb}
 use Rattle.std.proofs.Common.{◌≡◌, ℕ, ◌+◌, ◌-◌, ◌*◌, ◌/◌, ◌%◌, ◌^◌, ◌<◌, ◌≤◌, sym, ◌∙◌, ap, arith, subst, Bool, true, false, cond, lit<, inl, inr}
 use Rattle.std.proofs.Math.Nat.{mod-eq_of_lt, mul_assoc, div-add-mod, mod-lt, div-eq_of_lt-le, div-le_self, mul-div_cancel, mul-le-mul_left, pow-le-pow_right}
 use Rattle.std.proofs.Math.Pow.{shr_lt, shr_mod}
@@ -7,11 +7,11 @@ use Rattle.std.proofs.lemmas.Nat.{shr-shr, and_mask, pow_pos, mul-mod_first, pow
 use Rattle.rec_bits.specs.Operators.{apply2_of, slice_of, shr_of, is_negative_of, sext_of, sar_of}
 use Rattle.rec_bits.specs.declared.operator.Op2.TheVariants.{And, Or, Xor, Shl, Shr, Sar}
 use Rattle.tree_laws.proofs.Ring.{ring_not}
-use Rattle.tree_laws.proofs.KnownTests.{lt_holds, le_holds, le_fails}
+use Rattle.tree_laws.proofs.KnownTests.{le_holds, le_fails}
 use Rattle.tree_laws.proofs.Low.{slice_low, low_low, pow_split, same_slice_of}
 
 pub shr_is : (w a k : ℕ) → k < w → shr_of w a k ≡ a / 2 ^ k
-shr_is w a k h = ap (λ t. cond t (a / 2 ^ k) 0) (lt_holds k w h)
+shr_is w a k h = ap (λ t. cond t (a / 2 ^ k) 0) (lt-ltb k w h)
 
 -- slice-shift with zeros
 pub slice_shr : (w a k i j : ℕ) → j ≤ i → i + k < w → slice_of (apply2_of Shr w a k) i j ≡ slice_of a (i + k) (j + k)
@@ -50,7 +50,7 @@ pub and_slice : (w a k : ℕ) → apply2_of And w a (2 ^ (k + 1) - 1) ≡ slice_
 and_slice w a k = and_mask a (k + 1) ∙ sym (slice_low a k)
 
 pub shl_is : (w a k : ℕ) → k < w → apply2_of Shl w a k ≡ a * 2 ^ k % 2 ^ w
-shl_is w a k h = ap (λ t. cond t (a * 2 ^ k % 2 ^ w) 0) (lt_holds k w h)
+shl_is w a k h = ap (λ t. cond t (a * 2 ^ k % 2 ^ w) 0) (lt-ltb k w h)
 
 -- shift-shift to the left
 pub shl_shl : (w a j k : ℕ) → j + k < w → apply2_of Shl w (apply2_of Shl w a j) k ≡ apply2_of Shl w a (j + k)

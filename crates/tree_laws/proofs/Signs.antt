@@ -5,19 +5,13 @@ use Rattle.std.proofs.lemmas.Bool.{cases_lt}
 use Rattle.std.proofs.lemmas.Nat.{pow_pos, shr-shr, and_mask}
 use Rattle.rec_bits.specs.Operators.{apply2_of, is_negative_of, sar_of, sext_of, shr_of, slice_of}
 use Rattle.rec_bits.specs.declared.operator.Op2.TheVariants.{And, Mul, Shr}
+use Rattle.rec_bits.proofs.Bits.{double_half}
 use Rattle.tree_laws.proofs.KnownTests.{le_holds, le_fails}
 use Rattle.tree_laws.proofs.Low.{slice_low, pow_split, sext_low}
 use Rattle.tree_laws.proofs.Shifts.{shr_is, shr_slice, slice_sar, slice_shl}
 use Rattle.tree_laws.proofs.Units.{mul_shl}
 
 -- ---- powers
-
-pub double_half : (w : ℕ) → 1 ≤ w → 2 ^ w ≡ 2 ^ (w - 1) + 2 ^ (w - 1)
-double_half w h =
-    let e : w - 1 + 1 ≡ w = omega arith in
-    let p : 2 ^ (w - 1 + 1) ≡ 2 ^ (w - 1) * 2 = Rattle.std.proofs.lemmas.Grind.pow_more 2 (w - 1) in
-    let q : 2 ^ (w - 1) * 2 ≡ 2 ^ (w - 1) + 2 ^ (w - 1) = omega arith in
-    ap (λ n. 2 ^ n) (sym e) ∙ p ∙ q
 
 pub power_up : (i j : ℕ) → i ≤ j → 2 ^ i ≤ 2 ^ j
 power_up i j h = pow-le-pow_right (lit< tt) h

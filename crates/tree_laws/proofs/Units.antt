@@ -1,14 +1,13 @@
 -- comm, assoc, unit, zero, self, fold, mul-shl, double.
 use Rattle.std.proofs.Common.{◌≡◌, ℕ, ◌+◌, ◌-◌, ◌*◌, ◌/◌, ◌%◌, ◌^◌, ◌<◌, ◌≤◌, sym, ◌∙◌, ap, arith, cond, ◌==◌, inl, inr}
 use Rattle.std.proofs.Math.Nat.{mod-eq_of_lt, mod_self, add_comm, mul_comm, add_assoc, mul_assoc, mod-add-mod, add-mod-mod, add-mod_right, add-mod}
-use Rattle.std.proofs.lemmas.Bool.{eq-eqb, ne_eqb, cases_eq, cases_lt}
+use Rattle.std.proofs.lemmas.Bool.{eq-eqb, ne_eqb, cases_eq, cases_lt, lt-ltb}
 use Rattle.std.proofs.lemmas.Nat.{mul-mod_first, mul-mod_second, and_comm, or_comm, xor_comm, and_assoc, and_mask, pow_pos}
 use Rattle.std.specs.Int.Bits.{xor_assoc, xor_self, xor_zero_r, or_zero_r, and_zero_r, and_self, or_self}
 use Rattle.rec_bits.specs.Operators.{apply1_of, apply2_of, bit_of}
 use Rattle.rec_bits.specs.declared.operator.Op1.TheVariants.{Not, Neg}
 use Rattle.rec_bits.specs.declared.operator.Op2.{Op2}
 use Rattle.rec_bits.specs.declared.operator.Op2.TheVariants.{Add, Sub, Mul, And, Or, Xor, Shl, Shr, Eq}
-use Rattle.tree_laws.proofs.KnownTests.{lt_holds}
 
 -- ---- comm and assoc
 
@@ -61,10 +60,10 @@ unit_zero Or w a h p lt = or_zero_r a
 unit_zero Xor w a h p lt = xor_zero_r a
 unit_zero Shl w a h p lt =
     let e : a * 2 ^ 0 ≡ a = omega arith in
-    ap (λ t. cond t (a * 2 ^ 0 % 2 ^ w) 0) (lt_holds 0 w p) ∙ ap (λ n. n % 2 ^ w) e ∙ mod-eq_of_lt lt
+    ap (λ t. cond t (a * 2 ^ 0 % 2 ^ w) 0) (lt-ltb 0 w p) ∙ ap (λ n. n % 2 ^ w) e ∙ mod-eq_of_lt lt
 unit_zero Shr w a h p lt =
     let e : a / 2 ^ 0 ≡ a = omega arith in
-    ap (λ t. cond t (a / 2 ^ 0) 0) (lt_holds 0 w p) ∙ e
+    ap (λ t. cond t (a / 2 ^ 0) 0) (lt-ltb 0 w p) ∙ e
 unit_zero _ w a h p lt = absurd h
 
 pub unit_one : (w a : ℕ) → a < 2 ^ w → apply2_of Mul w a 1 ≡ a
@@ -96,10 +95,10 @@ self_or w a = or_self a
 -- ---- mul-shl, double, neg
 
 pub mul_shl : (w a k : ℕ) → k < w → apply2_of Mul w a (2 ^ k) ≡ apply2_of Shl w a k
-mul_shl w a k h = sym (ap (λ t. cond t (a * 2 ^ k % 2 ^ w) 0) (lt_holds k w h))
+mul_shl w a k h = sym (ap (λ t. cond t (a * 2 ^ k % 2 ^ w) 0) (lt-ltb k w h))
 
 pub double : (w a : ℕ) → 1 < w → apply2_of Shl w a 1 ≡ apply2_of Add w a a
-double w a h = let e : a * 2 ^ 1 ≡ a + a = omega arith in ap (λ t. cond t (a * 2 ^ 1 % 2 ^ w) 0) (lt_holds 1 w h) ∙ ap (λ n. n % 2 ^ w) e
+double w a h = let e : a * 2 ^ 1 ≡ a + a = omega arith in ap (λ t. cond t (a * 2 ^ 1 % 2 ^ w) 0) (lt-ltb 1 w h) ∙ ap (λ n. n % 2 ^ w) e
 
 pub neg_zero_sub : (w a : ℕ) → apply1_of Neg w a ≡ apply2_of Sub w 0 a
 neg_zero_sub w a = let e : 0 + 2 ^ w - a ≡ 2 ^ w - a = omega arith in sym (ap (λ n. n % 2 ^ w) e)

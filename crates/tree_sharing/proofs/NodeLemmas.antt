@@ -1,6 +1,7 @@
 -- Each numbered tree of a job has its own subtrees behind it.
 use Rattle.std.proofs.Common.{◌≡◌, ℕ, zero, suc, ◌+◌, List, [], ◌∷◌, ◌++◌, length, Some, arith, refl, sym, ap, ◌∙◌, inl, inr, ◌⊎◌}
 use Rattle.std.specs.Prelude.{slice_get}
+use Rattle.rec_bits.proofs.Lists.{get_left_some, get_right}
 use Rattle.net_model.specs.Exprs.{ExprModel, word, reg, const, read, un, bin, slice, cat, zext, sext, select, size_of}
 use Rattle.form_model.specs.Forms.{DestinationModel, into, filed, cell, stored, temporary, tested}
 use Rattle.tree_grammar.specs.Numbers.{subtrees, HoldsSubtrees}
@@ -20,21 +21,12 @@ get_split (x ∷ xs) ys (suc n) t h = elim (get_split xs ys n t h) [
   | inr b ↦ inr (b.0, (let e = b.1 in omega (arith, e)), b.2)
 ]
 
-get_left : (xs ys : List ExprModel) (k : ℕ) (s : ExprModel) → slice_get xs k ≡ Some s → slice_get (xs ++ ys) k ≡ Some s
-get_left [] ys k s h = absurd (cc)
-get_left (x ∷ xs) ys zero s h = h
-get_left (x ∷ xs) ys (suc k) s h = get_left xs ys k s h
-
-pub get_right : (xs ys : List ExprModel) (k : ℕ) → slice_get (xs ++ ys) (length xs + k) ≡ slice_get ys k
-get_right [] ys k = let e : length {A = ExprModel} [] + k ≡ k = omega arith in ap (slice_get ys) e
-get_right (x ∷ xs) ys k = let e : length (x ∷ xs) + k ≡ suc (length xs + k) = omega arith in ap (λ i. slice_get (x ∷ (xs ++ ys)) i) e ∙ get_right xs ys k
-
 whole_none : Whole []
 whole_none n t k s h = absurd (cc)
 
 whole_append : (xs ys : List ExprModel) → Whole xs → Whole ys → Whole (xs ++ ys)
 whole_append xs ys wx wy n t k s h get = elim (get_split xs ys n t h) [
-  | inl a ↦ get_left xs ys (n + k) s (wx n t k s a get)
+  | inl a ↦ get_left_some xs ys (n + k) s (wx n t k s a get)
   | inr b ↦ (let e : n + k ≡ length xs + (b.0 + k) = (let f = b.1 in omega (arith, f)) in
       ap (slice_get (xs ++ ys)) e ∙ get_right xs ys (b.0 + k) ∙ wy b.0 t k s b.2 get)
 ]
@@ -76,7 +68,7 @@ from_start xs k s h = let e : 0 + k ≡ k = omega arith in ap (slice_get xs) e �
 -- the trees of the instance begin at 0
 pub root_stands : (destination : DestinationModel) (t : ExprModel) → Stands (job_nodes destination t) 0 destination t
 root_stands (stored a) t = record {
-  address = λ k s get. from_start (subtrees a ++ subtrees t) k s (get_left (subtrees a) (subtrees t) k s get);
+  address = λ k s get. from_start (subtrees a ++ subtrees t) k s (get_left_some (subtrees a) (subtrees t) k s get);
   value = λ k s get. (let e : 0 + size_of a + k ≡ length (subtrees a) + k = (let l = size_length a in omega (arith, l)) in ap (slice_get (subtrees a ++ subtrees t)) e ∙ get_right (subtrees a) (subtrees t) k ∙ get);
 }
 root_stands filed t = record { address = tt; value = from_start (subtrees t) }

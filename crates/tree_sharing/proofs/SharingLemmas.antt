@@ -1,5 +1,5 @@
 -- Equal subtrees have one root, and its number is the least of theirs.
-use Rattle.std.proofs.Common.{◌≡◌, ℕ, zero, suc, ◌+◌, ◌<◌, ◌≤◌, Bool, List, [], ◌∷◌, ◌++◌, length, Option, Some, None, true, ◌&&◌, true≢false, refl, sym, ap, ◌∙◌, subst, arith, nat_eq, eq-eqb, length-append, inl, inr, ◌⊎◌}
+use Rattle.std.proofs.Common.{◌≡◌, ℕ, zero, suc, ◌+◌, ◌<◌, ◌≤◌, List, [], ◌∷◌, ◌++◌, length, Option, Some, None, true, ◌&&◌, true≢false, refl, sym, ap, ◌∙◌, subst, arith, nat_eq, length-append, inl, inr, ◌⊎◌}
 use Rattle.std.proofs.lemmas.Bool.{cases_lt}
 use Rattle.std.proofs.lemmas.Option.{slice_get_within}
 use borrow.Author.Tests.{eqb-true}
@@ -7,13 +7,11 @@ use Rattle.std.specs.Prelude.{slice_get, slice_set}
 use Rattle.std.specs.Map.{lookup}
 use Rattle.std.specs.Option.{option_map}
 use Rattle.indexmap.specs.IndexMap.{insert_entry}
-use Rattle.rec_bits.proofs.Booleans.{both}
-use Rattle.rec_bits.specs.declared.operator.Op1.{Op1}
-use Rattle.rec_bits.specs.declared.operator.Op1.TheVariants.{Not, Neg}
+use Rattle.rec_bits.proofs.Booleans.{both, and_from}
 use Rattle.rec_bits.specs.declared.operator.Op2.{Op2}
-use Rattle.rec_bits.specs.declared.operator.Op2.TheVariants.{Add, Sub, Mul, And, Or, Xor, Shl, Shr, Sar, Eq, Ltu, Lts}
 use Rattle.rec_bits.specs.contracts.operator.Op1PartialEq.TheImpl.{ghosts as op1_eq}
 use Rattle.rec_bits.specs.contracts.operator.Op2PartialEq.TheImpl.{ghosts as op2_eq}
+use Rattle.rec_bits.proofs.Equality.{number_self, op1_is, op2_is, op1_self, op2_self, of_two_numbers, of_three_numbers}
 use Rattle.net_model.specs.declared.hardware.Space.TheVariants.{Memory as InMemory}
 use Rattle.net_model.specs.Exprs.{ExprModel, const, read, un, bin, slice, zext, sext, size_of}
 use Rattle.form_model.specs.Trees.{model_of_tree}
@@ -33,94 +31,34 @@ use Rattle.tree_sharing.proofs.EntryLemmas.{each_found, each_added, any_weaker, 
 
 -- ---- equal roots are the same
 
-pub exact_op1 : (a b : Op1) → op1_eq.eq a b ≡ true → a ≡ b
-exact_op1 Not Not h = refl
-exact_op1 Neg Neg h = refl
-exact_op1 a b h = absurd (true≢false (sym h))
-
-pub exact_op2 : (a b : Op2) → op2_eq.eq a b ≡ true → a ≡ b
-exact_op2 Add Add h = refl
-exact_op2 Sub Sub h = refl
-exact_op2 Mul Mul h = refl
-exact_op2 And And h = refl
-exact_op2 Or Or h = refl
-exact_op2 Xor Xor h = refl
-exact_op2 Shl Shl h = refl
-exact_op2 Shr Shr h = refl
-exact_op2 Sar Sar h = refl
-exact_op2 Eq Eq h = refl
-exact_op2 Ltu Ltu h = refl
-exact_op2 Lts Lts h = refl
-exact_op2 a b h = absurd (true≢false (sym h))
-
-two : {X : Type 0} (f : ℕ → ℕ → X) (a b a' b' : ℕ) → (nat_eq a a' && nat_eq b b') ≡ true → f a b ≡ f a' b'
-two f a b a' b' h =
-    let p = both (nat_eq a a') (nat_eq b b') h in
-    let ea : a ≡ a' = eqb-true a a' p.0 in
-    let eb : b ≡ b' = eqb-true b b' p.1 in
-    (λ j. f (ea j) (eb j))
-
-three : {X : Type 0} (f : ℕ → ℕ → ℕ → X) (a b c a' b' c' : ℕ) → (nat_eq a a' && (nat_eq b b' && nat_eq c c')) ≡ true → f a b c ≡ f a' b' c'
-three f a b c a' b' c' h =
-    let p = both (nat_eq a a') (nat_eq b b' && nat_eq c c') h in
-    let q = both (nat_eq b b') (nat_eq c c') p.1 in
-    let ea : a ≡ a' = eqb-true a a' p.0 in
-    let eb : b ≡ b' = eqb-true b b' q.0 in
-    let ec : c ≡ c' = eqb-true c c' q.1 in
-    (λ j. f (ea j) (eb j) (ec j))
-
 pub exact_root : (a b : Root) → root_eq.eq a b ≡ true → a ≡ b
-exact_root (Lit w v) (Lit w' v') h = two Lit w v w' v' h
-exact_root (Read a w) (Read a' w') h = two Read a w a' w' h
+exact_root (Lit w v) (Lit w' v') h = of_two_numbers Lit w v w' v' h
+exact_root (Read a w) (Read a' w') h = of_two_numbers Read a w a' w' h
 exact_root (Un o a) (Un o' a') h =
     let p = both (op1_eq.eq o o') (nat_eq a a') h in
-    let eo : o ≡ o' = exact_op1 o o' p.0 in
+    let eo : o ≡ o' = op1_is o o' p.0 in
     let ea : a ≡ a' = eqb-true a a' p.1 in
     (λ j. Un (eo j) (ea j))
 exact_root (Bin o a b) (Bin o' a' b') h =
     let p = both (op2_eq.eq o o') (nat_eq a a' && nat_eq b b') h in
     let q = both (nat_eq a a') (nat_eq b b') p.1 in
-    let eo : o ≡ o' = exact_op2 o o' p.0 in
+    let eo : o ≡ o' = op2_is o o' p.0 in
     let ea : a ≡ a' = eqb-true a a' q.0 in
     let eb : b ≡ b' = eqb-true b b' q.1 in
     (λ j. Bin (eo j) (ea j) (eb j))
-exact_root (Slice a h l) (Slice a' h' l') e = three Slice a h l a' h' l' e
-exact_root (Zext a w) (Zext a' w') h = two Zext a w a' w' h
-exact_root (Sext a w) (Sext a' w') h = two Sext a w a' w' h
+exact_root (Slice a h l) (Slice a' h' l') e = of_three_numbers Slice a h l a' h' l' e
+exact_root (Zext a w) (Zext a' w') h = of_two_numbers Zext a w a' w' h
+exact_root (Sext a w) (Sext a' w') h = of_two_numbers Sext a w a' w' h
 exact_root a b h = absurd (true≢false (sym h))
 
-same_op1 : (a : Op1) → op1_eq.eq a a ≡ true
-same_op1 Not = refl
-same_op1 Neg = refl
-
-same_op2 : (a : Op2) → op2_eq.eq a a ≡ true
-same_op2 Add = refl
-same_op2 Sub = refl
-same_op2 Mul = refl
-same_op2 And = refl
-same_op2 Or = refl
-same_op2 Xor = refl
-same_op2 Shl = refl
-same_op2 Shr = refl
-same_op2 Sar = refl
-same_op2 Eq = refl
-same_op2 Ltu = refl
-same_op2 Lts = refl
-
-both_true : (p q : Bool) → p ≡ true → q ≡ true → (p && q) ≡ true
-both_true p q e f = ap (λ b. b && q) e ∙ f
-
-same_number : (a : ℕ) → nat_eq a a ≡ true
-same_number a = eq-eqb a a refl
-
 same_root : (a : Root) → root_eq.eq a a ≡ true
-same_root (Lit w v) = both_true (nat_eq w w) (nat_eq v v) (same_number w) (same_number v)
-same_root (Read a w) = both_true (nat_eq a a) (nat_eq w w) (same_number a) (same_number w)
-same_root (Un o a) = both_true (op1_eq.eq o o) (nat_eq a a) (same_op1 o) (same_number a)
-same_root (Bin o a b) = both_true (op2_eq.eq o o) (nat_eq a a && nat_eq b b) (same_op2 o) (both_true (nat_eq a a) (nat_eq b b) (same_number a) (same_number b))
-same_root (Slice a h l) = both_true (nat_eq a a) (nat_eq h h && nat_eq l l) (same_number a) (both_true (nat_eq h h) (nat_eq l l) (same_number h) (same_number l))
-same_root (Zext a w) = both_true (nat_eq a a) (nat_eq w w) (same_number a) (same_number w)
-same_root (Sext a w) = both_true (nat_eq a a) (nat_eq w w) (same_number a) (same_number w)
+same_root (Lit w v) = and_from (nat_eq w w) (nat_eq v v) (number_self w) (number_self v)
+same_root (Read a w) = and_from (nat_eq a a) (nat_eq w w) (number_self a) (number_self w)
+same_root (Un o a) = and_from (op1_eq.eq o o) (nat_eq a a) (op1_self o) (number_self a)
+same_root (Bin o a b) = and_from (op2_eq.eq o o) (nat_eq a a && nat_eq b b) (op2_self o) (and_from (nat_eq a a) (nat_eq b b) (number_self a) (number_self b))
+same_root (Slice a h l) = and_from (nat_eq a a) (nat_eq h h && nat_eq l l) (number_self a) (and_from (nat_eq h h) (nat_eq l l) (number_self h) (number_self l))
+same_root (Zext a w) = and_from (nat_eq a a) (nat_eq w w) (number_self a) (number_self w)
+same_root (Sext a w) = and_from (nat_eq a a) (nat_eq w w) (number_self a) (number_self w)
 
 -- ---- one root for equal trees, and one tree for a root
 

@@ -2,6 +2,8 @@
 -- another spelling: no job costs more.
 use Rattle.std.proofs.Common.{ℕ, zero, suc, ◌+◌, ◌≤◌, ◌≡◌, inl, inr, Bool, List, [], ◌∷◌, length, Some, refl, sym, ◌∙◌, ap, subst, arith, slice_get}
 use Rattle.std.proofs.lemmas.Option.{slice_get_within}
+use Rattle.rec_bits.proofs.Options.{same_Some}
+use Rattle.rec_bits.proofs.Lists.{there}
 use Rattle.branch_fix.specs.Bounds.{program_bound, sum_of}
 use Rattle.form_model.specs.Covers.{StockModel}
 use Rattle.form_set.specs.Listing.{greatest_reach}
@@ -15,7 +17,6 @@ use Rattle.right_code.specs.Bounded.{HasBound}
 use Rattle.right_code.specs.Covered.{AllPlanned, ArePlans, HasBareTree, mode_stock, plan_costs}
 use Rattle.right_code.specs.Tasks.{Task, task_temps, task_jobs}
 use Rattle.right_code.specs.FlowJobs.{node_limit}
-use Rattle.right_code.proofs.Inside.{get_there}
 use Rattle.right_code.proofs.OneBound.{bound_one, costs_one, plans_alike}
 use Rattle.code_gen.specs.Refusals.{IsBeyondReach, IsImageTooLong}
 use Rattle.code_gen.specs.Spelled.{IsSpelledTask, IsTunedFault, with_jobs}
@@ -77,10 +78,7 @@ module _ (stock : ℕ → StockModel) (Usable : ℕ → Type 0) (width temps nod
   plan_at : (jobs : List JobModel) (plans : List PlanModel) → AllPlanned stock Usable jobs plans → (number : ℕ) (job : JobModel) → slice_get jobs number ≡ Some job → (p : PlanModel) × Plans job p
   plan_at [] plans h number job e = absurd (cc e)
   plan_at (a ∷ jobs) [] h number job e = absurd h
-  plan_at (a ∷ jobs) (p ∷ plans) h zero job e = (p, subst (λ (w : JobModel). Plans w p) (same_job a job e) h.0)
-    where
-      same_job : (x y : JobModel) → Some x ≡ Some y → x ≡ y
-      same_job x y e = cc
+  plan_at (a ∷ jobs) (p ∷ plans) h zero job e = (p, subst (λ (w : JobModel). Plans w p) (same_Some a job e) h.0)
   plan_at (a ∷ jobs) (p ∷ plans) h (suc number) job e = plan_at jobs plans h.1 number job e
 
   -- a job that stands for one with a plan has one
@@ -132,7 +130,7 @@ module _ (task : Task) (within : IsWithin task) (spelled : Task) (is : IsSpelled
           let bare = h.bare in
           let at = slice_get_within is.jobs number bare.job bare.at in
           let count = is.are.count in
-          let own = get_there task.jobs number (omega (arith, at, count)) in
+          let own = there task.jobs number (omega (arith, at, count)) in
           let stock = mode_stock task h.isas in
           let usable = IsUsable task.netlist h.isas in
           let cover = plan_at stock usable task.width (task_temps task) node_limit task.jobs plans (own_in h.isas) number own.0 own.1 in

@@ -1,7 +1,8 @@
 -- A state in which each transfer of a group is done, and what is live is kept, follows the group.
-use Rattle.std.proofs.Common.{zero, suc, ◌≡◌, ℕ, ◌<◌, ◌||◌, ◌&&◌, ◌⊎◌, inl, inr, Bool, true, false, List, [], ◌∷◌, length, slice_index, slice_set, refl, sym, ◌∙◌, ap, arith, subst}
+use Rattle.std.proofs.Common.{zero, suc, ◌≡◌, ℕ, ◌<◌, ◌||◌, ◌&&◌, ◌⊎◌, inl, inr, true, false, List, [], ◌∷◌, length, slice_index, slice_set, refl, sym, ◌∙◌, ap, arith, subst}
 use Rattle.std.proofs.lemmas.Bool.{true≢false, eqb-true, or_cases, or_from, cases_eq, cases_Bool}
 use Rattle.std.proofs.lemmas.List.{get_or-set_same, get_or-set_other, length-set}
+use Rattle.rec_bits.proofs.Booleans.{left_true}
 use Rattle.net_model.specs.declared.hardware.Space.{Space}
 use Rattle.net_model.specs.declared.hardware.Space.TheVariants.{Memory as InMemory, File as InFile}
 use Rattle.net_model.specs.declared.states.State.{State}
@@ -145,10 +146,6 @@ module _ (s t : State) (size : length t.regs ≡ length s.regs) where
       regs = λ r e. at r (cases_Bool (group_writes m g r)) e;
     }
       where
-        left : (a b : Bool) → (a || b) ≡ true → b ≡ false → a ≡ true
-        left true b e h = refl
-        left false b e h = absurd (true≢false (sym e ∙ h))
-
         at : (r : ℕ) → (group_writes m g r ≡ true) ⊎ (group_writes m g r ≡ false) → (live r || group_writes m g r) ≡ true → slice_index t.regs r ≡ slice_index (group_effect m g s).regs r
         at r (inl u) e = sym (all_regs g s r d refl u)
-        at r (inr u) e = sym (all_stay g s r d refl (sym (f r (left (live r) (group_writes m g r) e u) u)))
+        at r (inr u) e = sym (all_stay g s r d refl (sym (f r (left_true (live r) (group_writes m g r) e u) u)))

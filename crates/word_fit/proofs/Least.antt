@@ -1,15 +1,10 @@
 -- The least words of groups fit them.
-use Rattle.std.proofs.Common.{◌≡◌, ℕ, zero, suc, List, [], ◌∷◌, drop, slice_get, slice_index, Some, None, refl, sym, ◌∙◌, ap, add-one, arith, subst}
+use Rattle.std.proofs.Common.{◌≡◌, ℕ, zero, suc, List, [], ◌∷◌, drop, slice_get, slice_index, Some, refl, sym, ◌∙◌, ap, add-one, arith, subst}
+use Rattle.rec_bits.proofs.Options.{same_Some, none-some}
 use Rattle.form_model.specs.Effects.{Operation}
 use Rattle.form_model.specs.Live.{Regs, live_at, live_before}
 use Rattle.word_fit.specs.Fits.{IsLeastFit}
 use Rattle.word_fit.specs.Groups.{GroupsFit, AllHaveWords, AreLeast}
-
-some_same : {X : Type 0} (x y : X) → Some x ≡ Some y → x ≡ y
-some_same x y e = cc
-
-none_some : {X : Type 0} (x : X) → None ≡ Some x → ⊥
-none_some x e = cc
 
 module _ {A : Type 0} (m : A → Operation) (fits : ℕ → List A → Regs → Type 0) (after : Regs) where
   later : (g : List A) (gs : List (List A)) (k : ℕ) → live_at m (g ∷ gs) after (suc k) ≡ live_at m gs after k
@@ -31,8 +26,8 @@ module _ {A : Type 0} (m : A → Operation) (fits : ℕ → List A → Regs → 
 
   -- the word of the group at a place
   pub word_at_place : (gs : List (List A)) (k : ℕ) (g : List A) → slice_get gs k ≡ Some g → AllHaveWords m fits gs after → (w : ℕ) × fits w g (live_at m gs after k)
-  word_at_place [] k g e h = absurd (none_some g e)
-  word_at_place (f ∷ gs) zero g e h = subst (λ z. (w : ℕ) × fits w z (live_before m gs after)) (some_same f g e) h.0
+  word_at_place [] k g e h = absurd (none-some g e)
+  word_at_place (f ∷ gs) zero g e h = subst (λ z. (w : ℕ) × fits w z (live_before m gs after)) (same_Some f g e) h.0
   word_at_place (f ∷ gs) (suc k) g e h =
       subst (λ (live : Regs). (w : ℕ) × fits w g live) (sym (later f gs k)) (word_at_place gs k g e h.1)
 

@@ -1,16 +1,11 @@
 -- Live registers are those that are still needed.
-use Rattle.std.proofs.Common.{◌≡◌, ℕ, ◌<◌, zero, suc, ◌||◌, ◌&&◌, ◌⊎◌, inl, inr, Bool, true, false, not, List, [], ◌∷◌, refl, sym, arith, subst, Some, None, slice_get, ◌↔◌, ap, ◌∙◌, add-one, drop, length}
+use Rattle.std.proofs.Common.{◌≡◌, ℕ, ◌<◌, zero, suc, ◌||◌, ◌&&◌, ◌⊎◌, inl, inr, Bool, true, false, not, List, [], ◌∷◌, refl, sym, arith, subst, Some, slice_get, ◌↔◌, ap, ◌∙◌, add-one, drop, length}
 use Rattle.std.proofs.lemmas.Bool.{true≢false, or_cases, and_parts}
+use Rattle.rec_bits.proofs.Booleans.{not_true}
+use Rattle.rec_bits.proofs.Options.{same_Some, none-some}
 use Rattle.form_model.specs.Effects.{Operation}
 use Rattle.form_model.specs.Live.{Regs, group_reads, group_writes, live_at, live_before}
 use Rattle.word_fit.specs.Groups.{IsReadIn, IsLiveBehind, lives_of}
-
-not_true : (b : Bool) → not b ≡ true → b ≡ false
-not_true true e = absurd (true≢false (sym e))
-not_true false e = refl
-
-some_same : {X : Type 0} (x y : X) → Some x ≡ Some y → x ≡ y
-some_same x y e = cc
 
 live_from : (a l w : Bool) → a ≡ true → (a || (l && not w)) ≡ true
 live_from true l w e = refl
@@ -27,11 +22,11 @@ module _ {A : Type 0} (m : A → Operation) where
   read_here g gs r e = record { place = 0; reader = g; at = refl; reads = e; between = λ i h p q. absurd (omega arith) }
 
   between_more : (g : List A) (gs : List (List A)) (r n : ℕ) → group_writes m g r ≡ false → ((i : ℕ) (h : List A) → i < n → slice_get gs i ≡ Some h → group_writes m h r ≡ false) → (i : ℕ) (h : List A) → i < suc n → slice_get (g ∷ gs) i ≡ Some h → group_writes m h r ≡ false
-  between_more g gs r n e b zero h p q = subst (λ z. group_writes m z r ≡ false) (some_same g h q) e
+  between_more g gs r n e b zero h p q = subst (λ z. group_writes m z r ≡ false) (same_Some g h q) e
   between_more g gs r n e b (suc i) h p q = b i h (omega arith) q
 
   all_more : (g : List A) (gs : List (List A)) (r : ℕ) → group_writes m g r ≡ false → ((i : ℕ) (h : List A) → slice_get gs i ≡ Some h → group_writes m h r ≡ false) → (i : ℕ) (h : List A) → slice_get (g ∷ gs) i ≡ Some h → group_writes m h r ≡ false
-  all_more g gs r e b zero h q = subst (λ z. group_writes m z r ≡ false) (some_same g h q) e
+  all_more g gs r e b zero h q = subst (λ z. group_writes m z r ≡ false) (same_Some g h q) e
   all_more g gs r e b (suc i) h q = b i h q
 
   read_more : (g : List A) (gs : List (List A)) (r : ℕ) → group_writes m g r ≡ false → IsReadIn m gs r → IsReadIn m (g ∷ gs) r
@@ -52,11 +47,8 @@ module _ {A : Type 0} (m : A → Operation) where
       ]
 
   read_live : (gs : List (List A)) (after : Regs) (r n : ℕ) (x : List A) → slice_get gs n ≡ Some x → group_reads m x r ≡ true → ((i : ℕ) (h : List A) → i < n → slice_get gs i ≡ Some h → group_writes m h r ≡ false) → live_before m gs after r ≡ true
-  read_live [] after r n x e f b = absurd (none_some x e)
-    where
-      none_some : (x : List A) → None ≡ Some x → ⊥
-      none_some x e = cc
-  read_live (g ∷ gs) after r zero x e f b = live_from _ _ _ (subst (λ z. group_reads m z r ≡ true) (sym (some_same g x e)) f)
+  read_live [] after r n x e f b = absurd (none-some x e)
+  read_live (g ∷ gs) after r zero x e f b = live_from _ _ _ (subst (λ z. group_reads m z r ≡ true) (sym (same_Some g x e)) f)
   read_live (g ∷ gs) after r (suc n) x e f b =
       live_kept _ _ _ (read_live gs after r n x e f (λ i h p q. b (suc i) h (omega arith) q)) (b 0 g (omega arith) refl)
 

@@ -1,20 +1,13 @@
 -- A register that an expression reads is one that occurs in it.
-use Rattle.std.proofs.Common.{◌≡◌, ℕ, ◌==◌, ◌||◌, Bool, true, false, refl, sym}
-use Rattle.std.proofs.lemmas.Bool.{eqb-true, eq-eqb, eqb-false, ne_eqb}
+use Rattle.std.proofs.Common.{◌≡◌, ℕ, ◌||◌, refl}
+use Rattle.rec_bits.proofs.Equality.{number_turned}
 use Rattle.net_model.specs.Exprs.{ExprModel, word, reg, const, read, un, bin, slice, cat, zext, sext, select, TransferModel, keep, write, write_at}
 use Rattle.net_model.specs.Occurs.{occurs, transfer_occurs}
 use Rattle.form_model.specs.Effects.{register, expr_reads, transfer_reads}
 
-swapped : (a b : ℕ) → (a == b) ≡ (b == a)
-swapped a b = by (b == a) refl
-  where
-    by : (c : Bool) → (b == a) ≡ c → (a == b) ≡ c
-    by true e = eq-eqb a b (sym (eqb-true b a e))
-    by false e = ne_eqb a b (λ k. eqb-false b a e (sym k))
-
 pub reads_occurs : (t : ExprModel) (i r : ℕ) → expr_reads i t (register r) ≡ occurs r t
 reads_occurs (word w) i r = refl
-reads_occurs (reg q w) i r = swapped r q
+reads_occurs (reg q w) i r = number_turned r q
 reads_occurs (const w v) i r = refl
 reads_occurs (read space a w) i r = reads_occurs a i r
 reads_occurs (un o a) i r = reads_occurs a i r

@@ -1,8 +1,9 @@
 -- Words that fit the groups leave what the groups leave, in memory and in the live registers.
 use Rattle.std.proofs.Common.{◌≡◌, ℕ, ◌≤◌, ◌==◌, ◌||◌, ◌&&◌, inl, inr, Bool, true, false, not, List, [], ◌∷◌, length, slice_index, slice_set, refl, sym, ◌∙◌, ap, arith, subst}
-use Rattle.std.proofs.lemmas.Bool.{true≢false, ne_eqb, cases_eq, cases_lt, or_left, or_right}
+use Rattle.std.proofs.lemmas.Bool.{ne_eqb, cases_eq, cases_lt, or_left, or_right}
 use Rattle.std.proofs.Math.Bool.{or_assoc}
 use Rattle.std.proofs.lemmas.List.{get_or-set_same, get_or-set_other, length-set, set_past, get_or_past}
+use Rattle.rec_bits.proofs.Booleans.{left_true}
 use Rattle.net_model.specs.declared.hardware.Space.{Space}
 use Rattle.net_model.specs.declared.hardware.Space.TheVariants.{Memory as InMemory, File as InFile}
 use Rattle.net_model.specs.MemoryText.{with_cell}
@@ -43,21 +44,13 @@ set_alike xs ys q x r b n h e =
             | inl u ↦ get_or-set_same xs q x 0 u ∙ sym (get_or-set_same ys q x 0 (omega arith))
             | inr u ↦ past xs ys q x n u
           ])
-      | inr k ↦ get_or-set_other xs q r x 0 k ∙ h (here b (q == r) e (ne_eqb q r (λ z. k (sym z)))) ∙ sym (get_or-set_other ys q r x 0 k)
+      | inr k ↦ get_or-set_other xs q r x 0 k ∙ h (left_true b (q == r) e (ne_eqb q r (λ z. k (sym z)))) ∙ sym (get_or-set_other ys q r x 0 k)
     ]
   where
-    here : (a c : Bool) → (a || c) ≡ true → c ≡ false → a ≡ true
-    here true c f g = refl
-    here false c f g = absurd (true≢false (sym f ∙ g))
-
     past : (xs ys : List ℕ) (q x : ℕ) → length xs ≡ length ys → length xs ≤ q → slice_index (slice_set xs q x) q ≡ slice_index (slice_set ys q x) q
     past xs ys q x n u =
         let v : length ys ≤ q = omega arith in
         ap (λ (z : List ℕ). slice_index z q) (set_past xs q x u) ∙ get_or_past xs q 0 u ∙ sym (ap (λ (z : List ℕ). slice_index z q) (set_past ys q x v) ∙ get_or_past ys q 0 v)
-
-or_false : (a : Bool) → (a || false) ≡ true → a ≡ true
-or_false true e = refl
-or_false false e = e
 
 -- one value goes into one cell of two states
 put_alike : (n k : State) (l : Regs) (space : Space) (i j x y : ℕ) → i ≡ j → x ≡ y → Agree l n k → Agree l (with_cell n space i x) (with_cell k space j y)
@@ -65,7 +58,7 @@ put_alike n k l InMemory i j x y e f b = record { size = b.size; cells = rw (e, 
 put_alike n k l InFile i j x y e f b = record { size = b.size; cells = b.cells; file = rw (e, f, b.file) refl; regs = b.regs }
 
 transfer_alike : (move : TransferModel) (storage setting : ℕ) (space : Space) (o u n k : State) (l : Regs) → SeenAlike (λ r. transfer_reads setting move (register r)) o u → Agree l n k → Agree (λ r. l r || transfer_writes storage move r) (apply_transfer storage space move setting o n) (apply_transfer storage space move setting u k)
-transfer_alike keep storage setting space o u n k l a b = agree_less l _ n k (λ r e. or_false (l r) e) b
+transfer_alike keep storage setting space o u n k l a b = agree_less l _ n k (λ r e. left_true (l r) false e refl) b
 transfer_alike (write v) storage setting space o u n k l a b =
     let e : mean v o setting ≡ mean v u setting = mean_seen v setting o u (a) in
     subst (λ x. Agree (λ r. l r || transfer_writes storage (write v) r) (apply_transfer storage space (write v) setting o n) (let s : State = record { regs = slice_set k.regs storage x; cells = k.cells; file = k.file } in s)) e
@@ -78,14 +71,14 @@ transfer_alike (write v) storage setting space o u n k l a b =
 transfer_alike (write_at c v) storage setting space o u n k l a b =
     let e : mean c o setting ≡ mean c u setting = mean_seen c setting o u (seen_less _ _ o u (λ r z. or_left (expr_reads setting c (register r)) (expr_reads setting v (register r)) z) a) in
     let f : mean v o setting ≡ mean v u setting = mean_seen v setting o u (seen_less _ _ o u (λ r z. or_right (expr_reads setting c (register r)) (expr_reads setting v (register r)) z) a) in
-    agree_less l _ _ _ (λ r z. or_false (l r) z) (put_alike n k l space _ _ _ _ e f b)
+    agree_less l _ _ _ (λ r z. left_true (l r) false z refl) (put_alike n k l space _ _ _ _ e f b)
 
 operation_alike : (p : Operation) (o u n k : State) (l : Regs) → SeenAlike (λ r. reads p (register r)) o u → Agree l n k → Agree (λ r. l r || writes p r) (apply_operation p o n) (apply_operation p u k)
 operation_alike p o u n k l a b = transfer_alike p.move p.storage p.setting p.space o u n k l a b
 
 module _ {A : Type 0} (m : A → Operation) where
   all_alike : (g : List A) (o u n k : State) (l : Regs) → SeenAlike (group_reads m g) o u → Agree l n k → Agree (λ r. l r || group_writes m g r) (apply_all m g o n) (apply_all m g u k)
-  all_alike [] o u n k l a b = agree_less l _ n k (λ r e. or_false (l r) e) b
+  all_alike [] o u n k l a b = agree_less l _ n k (λ r e. left_true (l r) false e refl) b
   all_alike (x ∷ g) o u n k l a b =
       let c : Agree (λ r. l r || writes (m x) r) (apply_operation (m x) o n) (apply_operation (m x) u k) =
       operation_alike (m x) o u n k l (seen_less _ _ o u (λ r z. or_left (reads (m x) (register r)) (group_reads m g r) z) a) b in

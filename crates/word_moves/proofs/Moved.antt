@@ -1,9 +1,8 @@
 -- A storage's transfer depends on the nets that feed it alone.
-use Rattle.std.proofs.Common.{◌≡◌, ℕ, zero, suc, ◌<◌, if◌then◌else◌, Some, List, [], ◌∷◌, ◌++◌, length, get_or, slice_get, inl, inr, refl, sym, ap, subst, ◌∙◌}
+use Rattle.std.proofs.Common.{◌≡◌, ℕ, ◌<◌, if◌then◌else◌, Some, List, [], ◌∷◌, ◌++◌, length, get_or, slice_get, inl, inr, refl, sym, ap, subst, ◌∙◌}
 use Rattle.std.proofs.lemmas.Option.{slice_get_read}
-use Rattle.rec_bits.proofs.Lists.{pushed_at}
+use Rattle.rec_bits.proofs.Lists.{pushed_at, all_at}
 use Rattle.word_moves.specs.declared.moves.StorageMove.{StorageMove}
-use Rattle.std.specs.List.{AllByRecursion}
 use Rattle.net_model.specs.declared.hardware.Netlist.{Netlist}
 use Rattle.net_model.specs.declared.hardware.Storage.{Storage}
 use Rattle.net_model.specs.declared.hardware.Storage.TheVariants.{Register, Memory, File}
@@ -36,11 +35,6 @@ module _ (netlist : Netlist) (word : ℕ) (nodes : List Node) (ids : List ℕ) (
       ap (λ (e : ExprModel). if is_enabled u when then (if same_reg e id then keep else write e) else keep) (a.exprs input f.0.0)
   storage_same u id (Memory cells) f = array_same u cells f
   storage_same u id (File cells) f = array_same u cells f
-
-all_at : {X : Type 0} (P : X → Type 0) (xs : List X) (i : ℕ) (x : X) → AllByRecursion P xs → slice_get xs i ≡ Some x → P x
-all_at P [] i x h e = absurd (cc)
-all_at P (y ∷ ys) zero x h e = let s : y ≡ x = cc in subst P s h.0
-all_at P (y ∷ ys) (suc i) x h e = all_at P ys i x h.1 e
 
 -- ---- one more storage
 

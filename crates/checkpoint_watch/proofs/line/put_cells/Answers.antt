@@ -1,6 +1,8 @@
 use Rattle.std.proofs.Common.{drop, length, take, arith}
+use Rattle.rec_bits.proofs.Booleans.{impossible}
+use Rattle.rec_bits.proofs.Lists.{goes_first, fits_first}
 use Rattle.checkpoint_watch.specs.Texts.{changes_from}
-use Rattle.checkpoint_watch.proofs.Changing.{next_in_memory, goes_first, fits_first, impossible}
+use Rattle.checkpoint_watch.proofs.Changing.{next_in_memory}
 use Rattle.checkpoint_watch.proofs.line.put_cells.Goals as goal
 
 pub returns-in_err-put_change-clause-succeeds : goal.returns-in_err-put_change-clause-succeeds

@@ -1,6 +1,8 @@
 use Rattle.std.proofs.Common.{drop, take, arith, sym, ap, ◌∙◌}
+use Rattle.rec_bits.proofs.Booleans.{impossible}
+use Rattle.rec_bits.proofs.Lists.{goes_first, fits_first}
 use Rattle.checkpoint_watch.specs.Texts.{changes, store_from}
-use Rattle.checkpoint_watch.proofs.Changing.{next_changes, more_cells, goes_first, fits_first, impossible}
+use Rattle.checkpoint_watch.proofs.Changing.{next_changes, more_cells}
 use Rattle.checkpoint_watch.proofs.line.put_changes.Goals as goal
 
 pub returns-in_err-put_cells-clause-succeeds : goal.returns-in_err-put_cells-clause-succeeds

@@ -3,6 +3,7 @@ use Rattle.std.proofs.Common.{◌≡◌, ◌∙◌, ◌+◌, ◌++◌, [], ◌�
 use Rattle.std.specs.Prelude.{slice_index_or}
 use Rattle.std.proofs.lemmas.List.{length-map}
 use Rattle.std.proofs.lemmas.Option.{slice_get_within}
+use Rattle.rec_bits.proofs.Options.{same_Some}
 use Rattle.cover.specs.Best.{model_of_job_cover}
 use Rattle.form_model.specs.declared.trees.Job.{Job}
 use Rattle.mode_set.specs.declared.plans.Plan.{Plan}
@@ -14,7 +15,7 @@ use Rattle.code_gen.specs.Inner.Coded.{IsBlockCode}
 use Rattle.code_gen.specs.Inner.Planning.{plans_in, jobs_in}
 use Rattle.code_gen.specs.Inner.Views.{IsTestJob}
 use Rattle.code_gen.proofs.Coding.{test_more}
-use Rattle.code_gen.proofs.Frames.{plan_of_job, same_some, test_job, test_mode}
+use Rattle.code_gen.proofs.Frames.{plan_of_job, test_job, test_mode}
 use Rattle.code_gen.proofs.Listing.{mapped_get}
 use Rattle.code_gen.proofs.blocks.push_test.Goals as goal
 
@@ -52,10 +53,10 @@ test_block-requires-clause-job c =
     let jobs = length-map program.jobs.now model_of_job in
     let plans = length-map program.plans.now model_of_plan in
     let job : model_of_job c.index-program-tree.result ≡ t.job =
-    same_some (model_of_job c.index-program-tree.result) t.job
+    same_Some (model_of_job c.index-program-tree.result) t.job
     (sym (mapped_get model_of_job program.jobs.now c.args.tree c.index-program-tree.result (omega (arith, few, jobs)) c.index-program-tree.is) ∙ t.at) in
     let cover : model_of_plan c.index-program-tree-2.result ≡ d.0 =
-    same_some (model_of_plan c.index-program-tree-2.result) d.0
+    same_Some (model_of_plan c.index-program-tree-2.result) d.0
     (sym (mapped_get model_of_plan program.plans.now c.args.tree c.index-program-tree-2.result (omega (arith, as_many, plans)) c.index-program-tree-2.is) ∙ d.1) in
     let mode = test_mode modes program q.task q.isas q.planning c.args.tree t.job d.0 t.at d.1 t.destination in
     let own = ap model_of_job (sym c.index-program-tree.is) ∙ job in
@@ -85,7 +86,7 @@ returns-clause-code c = λ task isas q.
     let has : slice_get (plans_in program) c.args.tree ≡ Some (model_of_plan plan) =
     mapped_get model_of_plan program.plans.now c.args.tree c.index-program-tree-2.result (omega (arith, as_many, plans)) c.index-program-tree-2.is
     ∙ ap (λ (x : Plan). Some (model_of_plan x)) c.index-program-tree-2.is in
-    let own : model_of_job job ≡ t.job = same_some (model_of_job job) t.job (sym model ∙ t.at) in
+    let own : model_of_job job ≡ t.job = same_Some (model_of_job job) t.job (sym model ∙ t.at) in
     let mode : plan.mode ≡ 0 = test_mode modes program task isas q c.args.tree (model_of_job job) (model_of_plan plan) model has (ap (λ (w : JobModel). w.destination) own ∙ t.destination) in
     let zero : slice_get (plans_in program) c.args.tree ≡ Some (record { mode = 0; choice = model_of_job_cover plan.cover }) = has ∙ (λ j. Some (record { mode = mode j; choice = model_of_job_cover plan.cover })) in
     let more =

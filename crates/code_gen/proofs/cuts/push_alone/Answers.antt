@@ -1,11 +1,11 @@
 use Rattle.std.proofs.Common.{◌≡◌, List, None, Option, Some, ap, subst, sym, ◌∙◌}
 use Rattle.std.proofs.lemmas.Option.{slice_get-get_or, slice_get_within}
 use Rattle.std.proofs.lemmas.Result.{on_ok_weaker}
+use Rattle.rec_bits.proofs.Options.{same_Some}
 use Rattle.form_model.specs.declared.forms.Step.{Step}
 use Rattle.code_gen.specs.declared.views.Passage.{Passage}
 use Rattle.code_gen.specs.Inner.Coded.{AddsPacked, HaveWordsIn}
 use Rattle.code_gen.specs.Inner.Views.{HasModeBit}
-use Rattle.code_gen.proofs.Frames.{same_some}
 use Rattle.code_gen.proofs.ModeRegs.{mode_bit, mode_offset}
 use Rattle.code_gen.proofs.Running.{alone_mode, alone_passage, alone_run, alone_steps, alone_within, place_steps}
 use Rattle.code_gen.proofs.cuts.push_alone.Goals as goal
@@ -53,7 +53,7 @@ unreachable-requires c =
     let q = c.requires.planned in
     let known = alone_passage c.args.program.now.modes c.args.program.now q.task q.isas q.planning c.args.mode c.args.at c.requires.some (sym c.requires.mode) in
     c.in_default.not-Some known.0
-    (same_some _ (Some known.0) (sym (slice_get-get_or c.args.program.now.modes.passages.now c.args.mode None (slice_get_within c.args.program.now.modes.passages.now c.args.mode (Some known.0) known.1)) ∙ known.1))
+    (same_Some _ (Some known.0) (sym (slice_get-get_or c.args.program.now.modes.passages.now c.args.mode None (slice_get_within c.args.program.now.modes.passages.now c.args.mode (Some known.0) known.1)) ∙ known.1))
 
 pub returns-clause-run : goal.returns-clause-run
 returns-clause-run c =

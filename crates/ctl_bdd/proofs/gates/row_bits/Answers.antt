@@ -1,8 +1,9 @@
 use Rattle.std.proofs.lemmas.Result.{IfOk-from_err}
 use Rattle.std.proofs.Common.{◌∙◌, cond, ap}
+use Rattle.rec_bits.proofs.Equality.{number_turned}
 use Rattle.ctl_bdd.specs.Bits.{bits_value, number_at}
 use Rattle.ctl_bdd.proofs.Sets.{sets_later, number_later}
-use Rattle.ctl_bdd.proofs.Numbers.{number_choice, eqb_turned}
+use Rattle.ctl_bdd.proofs.Numbers.{number_choice}
 use Rattle.bit_bdd.proofs.CallerLemmas.{extends_trans}
 use Rattle.ctl_bdd.proofs.gates.row_bits.Goals as goal
 
@@ -22,7 +23,7 @@ pub returns-clause-number : goal.returns-clause-number
 returns-clause-number c word =
     let on = number_later c.args.book.now c.equals.new.book c.in_ok-test.ensures.grows c.args.on.now c.requires.on word in
     let off = number_later c.args.book.now c.equals.new.book c.in_ok-test.ensures.grows c.args.off.now c.requires.off word in
-    let test = c.in_ok-test.ensures.words word ∙ eqb_turned (number_at c.args.book.now c.args.sel.now word) c.args.key in
+    let test = c.in_ok-test.ensures.words word ∙ number_turned (number_at c.args.book.now c.args.sel.now word) c.args.key in
     ap bits_value (c.in_ok-out.ensures.words word)
     ∙ number_choice _ _ _
     ∙ (λ j. cond (test j) (on j) (off j))

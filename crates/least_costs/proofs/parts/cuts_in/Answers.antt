@@ -1,9 +1,10 @@
 use Rattle.std.proofs.Common.{◌≡◌, ◌+◌, ◌++◌, [], ◌∷◌, take, sym, refl, subst, ap, ◌∙◌, arith}
 use Rattle.std.proofs.lemmas.List.{take_all}
 use Rattle.std.proofs.lemmas.Option.{slice_get_read}
+use Rattle.rec_bits.proofs.Lists.{take_get}
 use Rattle.tree_grammar.specs.Leaves.{models_of_leaves, AreAt}
 use Rattle.form_model.specs.Covers.{cuts_of}
-use Rattle.least_costs.proofs.PartLemmas.{take_get, stored_step, stored_at}
+use Rattle.least_costs.proofs.PartLemmas.{stored_step, stored_at}
 use Rattle.least_costs.proofs.parts.cuts_in.Goals as goal
 
 pub loop-part-preserved : goal.loop-part-preserved

@@ -1,9 +1,10 @@
 use Rattle.std.proofs.Common.{◌≡◌, ◌+◌, ◌++◌, [], ◌∷◌, take, sym, refl, subst, ap, ◌∙◌, arith}
 use Rattle.std.proofs.lemmas.List.{take_all}
 use Rattle.std.proofs.lemmas.Option.{slice_get_read}
+use Rattle.rec_bits.proofs.Lists.{take_get}
 use Rattle.tree_grammar.specs.Leaves.{models_of_leaves, AreAt}
 use Rattle.form_model.specs.Covers.{operands_of}
-use Rattle.least_costs.proofs.PartLemmas.{take_get, input_step, input_at, low_at}
+use Rattle.least_costs.proofs.PartLemmas.{input_step, input_at, low_at}
 use Rattle.least_costs.proofs.parts.operands_in.Goals as goal
 
 pub loop-part-preserved : goal.loop-part-preserved

@@ -1,8 +1,8 @@
 use Rattle.std.proofs.Common.{◌++◌, ◌∷◌, [], sym, subst, arith}
 use Rattle.std.proofs.lemmas.Grind.{common_steps}
+use Rattle.rec_bits.proofs.Faults.{among_front}
 use Rattle.net_model.specs.Depends.{Among}
 use Rattle.net_check.specs.Inner.Components.{Rising}
-use Rattle.net_check.proofs.Walks.{among_old}
 use Rattle.net_check.proofs.Marks.{rising_parts}
 use Rattle.net_check.proofs.Closes.{merged_here, still_kept}
 use Rattle.net_check.proofs.cycle.merge.Goals as goal
@@ -19,7 +19,7 @@ loop-start-preserved c =
     let rising : Rising (c.pop.new.self ++ c.in-Some.start ∷ []) = subst Rising c.in-Some.ensures c.loop-start.invariant.rising in
     record {
       rising = (rising_parts _ _ rising).0;
-      from = λ s h. c.loop-start.invariant.from s (subst (Among s) (sym c.in-Some.ensures) (among_old s c.in-Some.start c.pop.new.self h));
+      from = λ s h. c.loop-start.invariant.from s (subst (Among s) (sym c.in-Some.ensures) (among_front s c.in-Some.start c.pop.new.self h));
       kept = still_kept c.args.at c.args.starts.now c.pop.new.self c.in-Some.start (λ s h l. subst (Among s) c.in-Some.ensures (c.loop-start.invariant.kept s h l)) c.if-start-at.false;
     }
 

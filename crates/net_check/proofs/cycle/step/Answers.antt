@@ -1,11 +1,13 @@
 use Rattle.std.proofs.Common.{◌≡◌, ◌<◌, ◌+◌, ◌++◌, ◌∷◌, [], ℕ, List, inl, inr, sym, ◌∙◌, ap, arith, length, slice_get, slice_index, slice_set, Some}
 use Rattle.std.proofs.lemmas.Grind.{common_steps}
 use Rattle.std.proofs.lemmas.List.{length_push}
+use Rattle.rec_bits.proofs.Lists.{all_at}
+use Rattle.rec_bits.proofs.Faults.{among_last}
 use Rattle.net_model.specs.Depends.{Among, direct}
 use Rattle.net_check.specs.Inner.Graphs.{named_in}
 use Rattle.net_check.specs.Inner.Components.{IsSearch, IsMerged, IsPathTo, SeenFrom, MetAt, mark_at}
 use Rattle.net_check.specs.declared.cycle.Mark.TheVariants.{New, Met}
-use Rattle.net_check.proofs.Walks.{all_at, among_at, among_last, read_at}
+use Rattle.net_check.proofs.Walks.{among_at, read_at}
 use Rattle.net_check.proofs.Marks.{reach_depends}
 use Rattle.net_check.proofs.Meets.{met_kept, met_later, met_less}
 use Rattle.net_check.proofs.Joins.{to_top, joined_kept, joined_seen, on_kept, on_later, on_less}

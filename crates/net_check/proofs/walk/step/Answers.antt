@@ -1,9 +1,10 @@
 use Rattle.std.proofs.Common.{◌≡◌, ◌<◌, ◌≤◌, sym, length, slice_get, slice_index, Some, arith}
 use Rattle.std.proofs.lemmas.Grind.{common_steps}
+use Rattle.rec_bits.proofs.Lists.{slice_get_past}
 use Rattle.net_check.specs.Inner.Graphs.{named_in}
 use Rattle.net_check.specs.Inner.Walk.{stage_at}
 use Rattle.net_check.specs.declared.walk.Stage.TheVariants.{New, Open, Placed}
-use Rattle.net_check.proofs.Walks.{read_at, past_end}
+use Rattle.net_check.proofs.Walks.{read_at}
 use Rattle.net_check.proofs.Steps.{goes_off, goes_seen, goes_new, goes_placed, open_cycle}
 use Rattle.net_check.proofs.walk.step.Goals as goal
 
@@ -16,7 +17,7 @@ pub returns-then-place-named : goal.returns-then-place-named
 returns-then-place-named c =
     let here : Open c.in-Open.place ≡ stage_at c.args.walk.now.stages c.args.top = rw c.as_slice.ensures at c.in-Open.ensures in
     let past : length (named_in c.args.graph.now c.args.top) ≤ c.in-Open.place = rw c.named_at-named.ensures at c.if-place-named.true in
-    goes_placed _ c.requires.range c.args.walk.now c.args.top c.requires.kept _ (sym here) (past_end _ _ past) _ _ c.set.ensures c.in_ok-push.ensures.pushed
+    goes_placed _ c.requires.range c.args.walk.now c.args.top c.requires.kept _ (sym here) (slice_get_past _ _ past) _ _ c.set.ensures c.in_ok-push.ensures.pushed
 
 pub returns-in_ok-push-in-New-2 : goal.returns-in_ok-push-in-New-2
 returns-in_ok-push-in-New-2 c =

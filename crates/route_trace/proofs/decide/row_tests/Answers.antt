@@ -1,9 +1,9 @@
 use Rattle.std.proofs.lemmas.Result.{IfOk-from_err}
 use Rattle.std.proofs.Common.{◌==◌, ap, ◌∙◌}
 use Rattle.std.specs.List.{slice_index_or}
+use Rattle.rec_bits.proofs.Equality.{number_turned}
 use Rattle.bit_bdd.proofs.CallerLemmas.{extends_trans}
 use Rattle.ctl_bdd.specs.Bits.{number_at}
-use Rattle.ctl_bdd.proofs.Numbers.{eqb_turned}
 use Rattle.ctl_bdd.proofs.Sets.{sets_later, number_later}
 use Rattle.route_trace.proofs.Deciding.{tests_later, tests_push, rows_later, rows_push}
 use Rattle.route_trace.proofs.decide.row_tests.Goals as goal
@@ -20,7 +20,7 @@ loop-row-preserved c =
       sets = tests_push c.equals.new.book c.loop-row.tests _ row.1 (tests_later c.loop-row.book c.equals.new.book c.in_ok-set.ensures.grows c.loop-row.tests c.loop-row.invariant.sets) c.in_ok-set.ensures.within;
       tests = λ word. rows_push c.equals.new.book word (number_at c.args.book.now c.args.bits.now word) _ c.loop-row.tests c.args.rows.now c.loop-row.row-index c.loop-row-test.true
           (rows_later c.loop-row.book c.equals.new.book c.in_ok-set.ensures.grows word (number_at c.args.book.now c.args.bits.now word) c.loop-row.tests _ c.loop-row.invariant.sets (c.loop-row.invariant.tests word))
-          (c.in_ok-set.ensures.words word ∙ ap (λ n. n == row.0) (number_later c.args.book.now c.loop-row.book c.loop-row.invariant.book c.args.bits.now c.requires.bits word) ∙ eqb_turned _ row.0);
+          (c.in_ok-set.ensures.words word ∙ ap (λ n. n == row.0) (number_later c.args.book.now c.loop-row.book c.loop-row.invariant.book c.args.bits.now c.requires.bits word) ∙ number_turned _ row.0);
     })
 
 pub returns-in_err-push-clause-sets : goal.returns-in_err-push-clause-sets

@@ -1,6 +1,7 @@
 use Rattle.std.proofs.Common.{◌<◌, ◌^◌, ◌&&◌, not, map, length, refl, sym, ap, subst, ◌∙◌, arith}
 use Rattle.std.proofs.lemmas.List.{append-nil}
 use Rattle.std.proofs.lemmas.Result.{err_from_is_err_and, IfOk-from_err}
+use Rattle.rec_bits.proofs.Booleans.{and_left}
 use Rattle.bit_bdd.specs.Diagrams.{has_word}
 use Rattle.bit_bdd.proofs.CallerLemmas.{extends_refl, extends_trans, same_words}
 use Rattle.sym_expr.specs.Pools.{expr_of_id}
@@ -14,7 +15,7 @@ use Rattle.route_trace.proofs.Merging.{held_later, set_at}
 use Rattle.route_trace.proofs.Products.{below_later, both_later, expr_at, table_later}
 use Rattle.route_trace.proofs.Loops.{all_fit_later, map-same, binary-same, binary_below, binary_fit_at}
 use Rattle.route_trace.proofs.Stopping.{many_in}
-use Rattle.route_trace.proofs.Lookups.{and_left, fewer, held_at, left_apart, left_first, left_free, left_none, left_part, left_step}
+use Rattle.route_trace.proofs.Lookups.{fewer, held_at, left_apart, left_first, left_free, left_none, left_part, left_step}
 use Rattle.route_trace.proofs.pairs.add_pairs.Goals as goal
 
 pub loop-word-init : goal.loop-word-init

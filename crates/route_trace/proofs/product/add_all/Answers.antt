@@ -1,5 +1,6 @@
 use Rattle.std.proofs.lemmas.Result.{IfOk-from_err}
 use Rattle.std.proofs.Common.{◌<◌, ◌^◌, ◌&&◌, not, [], ◌∷◌, map, length, refl, sym, ap, subst, ◌∙◌, arith}
+use Rattle.rec_bits.proofs.Booleans.{and_left}
 use Rattle.bit_bdd.specs.Diagrams.{has_word}
 use Rattle.bit_bdd.proofs.CallerLemmas.{extends_refl, extends_trans, same_words}
 use Rattle.net_model.specs.Exprs.{expr_width}
@@ -9,7 +10,7 @@ use Rattle.route_trace.specs.Inner.Heads.{head_expr}
 use Rattle.route_trace.specs.Inner.Lookups.{is_free}
 use Rattle.route_trace.proofs.Merging.{held_later, set_at}
 use Rattle.route_trace.proofs.Products.{both_later, fits-later, head-same, fit_at, expr_at, table_later}
-use Rattle.route_trace.proofs.Lookups.{and_left, fewer, left_apart, left_first, left_free, left_none, left_part, left_step, held_at}
+use Rattle.route_trace.proofs.Lookups.{fewer, left_apart, left_first, left_free, left_none, left_part, left_step, held_at}
 use Rattle.route_trace.proofs.product.add_all.Goals as goal
 
 pub place_of-requires : goal.place_of-requires

@@ -1,9 +1,11 @@
 use Rattle.std.proofs.Common.{◌≡◌, ◌<◌, length, drop, Some, sym, ◌∙◌, arith}
 use Rattle.std.specs.Prelude.{slice_get}
 use Rattle.std.proofs.lemmas.Option.{slice_get_within}
+use Rattle.rec_bits.proofs.Booleans.{impossible}
+use Rattle.rec_bits.proofs.Lists.{goes_first, fits_first}
 use Rattle.net_model.specs.Nets.{held}
 use Rattle.state_text.specs.Shown.{cell_lines}
-use Rattle.state_text.proofs.Shown.{cell_next, fits_first, impossible, goes_first, no_more}
+use Rattle.state_text.proofs.Shown.{cell_next, no_more}
 use Rattle.state_text.proofs.writing.put_cells.Goals as goal
 
 pub returns-in_err-put_cell-clause-succeeds : goal.returns-in_err-put_cell-clause-succeeds

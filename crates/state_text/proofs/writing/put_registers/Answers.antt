@@ -1,8 +1,10 @@
 use Rattle.std.proofs.Common.{◌∙◌, ap, drop, length, refl, arith}
 use Rattle.std.proofs.lemmas.Option.{slice_get_read}
 use Rattle.std.specs.Prelude.{slice_get}
+use Rattle.rec_bits.proofs.Booleans.{impossible}
+use Rattle.rec_bits.proofs.Lists.{goes_first, fits_first}
 use Rattle.state_text.specs.Shown.{register_lines}
-use Rattle.state_text.proofs.Shown.{register_next, fits_first, goes_first, impossible}
+use Rattle.state_text.proofs.Shown.{register_next}
 use Rattle.state_text.proofs.writing.put_registers.Goals as goal
 
 pub put_storage-requires-clause-here : goal.put_storage-requires-clause-here

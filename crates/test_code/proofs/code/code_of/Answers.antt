@@ -1,6 +1,7 @@
 use Rattle.std.proofs.Common.{◌≡◌, ◌+◌, ◌-◌, ◌^◌, ◌<◌, ℕ, List, Some, length, get_or, slice_get, subst, sym, take, arith}
 use Rattle.std.specs.List.{AllByRecursion}
 use Rattle.std.proofs.lemmas.List.{length-map, length-take-le}
+use Rattle.rec_bits.proofs.Lists.{take_get, all_at}
 use Rattle.bit_bdd.proofs.CallerLemmas.{extends_trans}
 use Rattle.net_model.specs.Nets.{memory_width}
 use Rattle.form_model.specs.Covers.{stock_with}
@@ -8,9 +9,8 @@ use Rattle.form_model.specs.declared.trees.Job.{Job}
 use Rattle.form_model.specs.Forms.{models_of_forms}
 use Rattle.src_trees.specs.Jobs.{model_of_job, models_of_jobs}
 use Rattle.src_trees.specs.Lowered.{JobModel}
-use Rattle.transfer_set.proofs.Feeding.{all_at}
 use Rattle.code_gen.specs.Machines.{known_netlist, known_patterns}
-use Rattle.code_gen.proofs.Listing.{mapped_get, take_get}
+use Rattle.code_gen.proofs.Listing.{mapped_get}
 use Rattle.self_test.specs.Cells.{test_jobs}
 use Rattle.test_code.specs.Codes.{IsCodeOf}
 use Rattle.test_code.specs.Inner.Jobs.{IsCellJob}
@@ -32,9 +32,10 @@ add_job-requires-clause-job c =
     let index = c.loop-job.job-index in
     let job = c.job-item.result in
     let at : slice_get (models_of_jobs jobs) index ≡ Some (model_of_job job) = job_at c.deref-job-items.result.now jobs index job c.deref-job-items.ensures.value c.loop-job-test.true c.job-item.is in
-    all_at (IsCellJob (memory_width netlist.storages) tests.temps) (models_of_jobs jobs) index (model_of_job job) at
+    all_at (IsCellJob (memory_width netlist.storages) tests.temps) (models_of_jobs jobs) index (model_of_job job)
     (subst (AllByRecursion (IsCellJob (memory_width netlist.storages) tests.temps)) (sym c.requires.jobs)
     (subst (λ (temps : ℕ). AllByRecursion (IsCellJob (memory_width netlist.storages) temps) (test_jobs netlist forms patterns)) (sym c.requires.temps) (test_plain netlist forms patterns)))
+    at
 
 pub add_job-requires-clause-few : goal.add_job-requires-clause-few
 add_job-requires-clause-few c =

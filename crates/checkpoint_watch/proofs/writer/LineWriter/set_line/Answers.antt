@@ -1,7 +1,8 @@
 use Rattle.std.proofs.Common.{ap, arith, length}
+use Rattle.rec_bits.proofs.Booleans.{impossible}
 use Rattle.checkpoint_watch.specs.Texts.{trace_entry, store_from}
 use Rattle.checkpoint_watch.proofs.Rooms.{line_short}
-use Rattle.checkpoint_watch.proofs.Lines.{entry_fits, impossible}
+use Rattle.checkpoint_watch.proofs.Lines.{entry_fits}
 use Rattle.checkpoint_watch.proofs.writer.LineWriter.set_line.Goals as goal
 
 pub unreachable-requires : goal.unreachable-requires

@@ -4,6 +4,7 @@ use Rattle.std.proofs.lemmas.Bool.{OnTrue_at, OnFalse_at}
 use Rattle.std.proofs.lemmas.Option.{slice_get_read}
 use Rattle.std.proofs.lemmas.Result.{IfOk-weaker}
 use Rattle.std.specs.declared.alloc.Global.{Global}
+use Rattle.rec_bits.proofs.Lists.{there}
 use Rattle.form_model.specs.Trees.{model_of_tree}
 use Rattle.form_model.specs.Covers.{Operand}
 use Rattle.form_model.specs.CoverModels.{operands_cost}
@@ -20,7 +21,7 @@ use Rattle.least_costs.specs.Rows.{row_subgoal, IsTried, IsClosed, IsLeastRow, I
 use Rattle.least_costs.specs.Slots.{place, IsSlot}
 use Rattle.least_costs.specs.Matched.{AreMatches}
 use Rattle.least_costs.proofs.OfferLemmas.{blank_row, look_within, tried_none, tried_more, least_row_of}
-use Rattle.least_costs.proofs.MatchLemmas.{at_index, at_place, matches_all, match_parts, match_sizes, offer_clobbers, offer_start, offer_below, offer_cheap}
+use Rattle.least_costs.proofs.MatchLemmas.{at_place, matches_all, match_parts, match_sizes, offer_clobbers, offer_start, offer_below, offer_cheap}
 use Rattle.net_model.specs.Exprs.{size_of}
 use Rattle.least_costs.proofs.LeastLemmas.{order_one, other_left, cut_none, cut_more, order_more, order_all, order_none, from_parts, from_none, from_last}
 use Rattle.least_costs.specs.declared.matches.FormMatch.{FormMatch}
@@ -61,13 +62,13 @@ row_of-fill-requires t c = (omega (arith, c.decreases), (c.requires.matches, (c.
 pub fill-note-requires : goal.fill-note-requires
 fill-note-requires t c =
     let lt : c.loop-i.i < length c.args.matches.now.list.items = search rules in
-    let (m, got) = at_index c.args.matches.now.list.items c.loop-i.i lt in
+    let (m, got) = there c.args.matches.now.list.items c.loop-i.i lt in
     record { len = c.loop-i.invariant.len; within = look_within (search_stock c.args.self.now) c.args.limits (model_of_tree c.args.matches.now.tree.now) c.args.matches.now.whole c.deref.result.now m.form c.in_ok-offer.offer (c.in_ok-offer.ensures.offer m got) }
 
 pub fill-loop-i-preserved : goal.fill-loop-i-preserved
 fill-loop-i-preserved t c =
     let lt : c.loop-i.i < length c.args.matches.now.list.items = search rules in
-    let (m, got) = at_index c.args.matches.now.list.items c.loop-i.i lt in
+    let (m, got) = there c.args.matches.now.list.items c.loop-i.i lt in
     record {
       len = c.note.ensures.len;
       tried = tried_more (search_stock c.args.self.now) c.args.limits (model_of_tree c.args.matches.now.tree.now) c.args.matches.now.whole c.args.matches.now.list.items c.loop-i.i m got c.in_ok-offer.offer _ _ _ _ c.loop-i.invariant.tried (subst (λ l. IsOffer (search_stock c.args.self.now) c.args.limits (model_of_tree c.args.matches.now.tree.now) c.args.matches.now.whole l m.form c.in_ok-offer.offer) c.deref.ensures.value (c.in_ok-offer.ensures.offer m got)) c.in_ok-note.ensures.noted;

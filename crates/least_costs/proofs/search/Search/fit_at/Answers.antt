@@ -3,6 +3,7 @@ use Rattle.std.specs.Prelude.{slice_get}
 use Rattle.std.proofs.lemmas.Result.{IfOk-weaker}
 use Rattle.form_model.specs.declared.forms.Form.{Form}
 use Rattle.std.proofs.lemmas.Bool.{OnTrue_at, OnFalse_at}
+use Rattle.std.proofs.lemmas.Option.{slice_get-get_or}
 use Rattle.form_model.specs.Forms.{FormModel, model_of_form}
 use Rattle.form_model.specs.Covers.{operands_of, cuts_of, cells_of_goal}
 use Rattle.tree_grammar.specs.Leaves.{model_of_match, models_of_leaves, AreAt}
@@ -10,7 +11,6 @@ use Rattle.least_costs.specs.Subgoals.{KeepsTo}
 use Rattle.least_costs.proofs.LeastLemmas.{no_form}
 use Rattle.least_costs.specs.Searches.{search_stock, search_nodes, AreParts}
 use Rattle.least_costs.specs.Fits.{model_of_subgoal, FitsParts, IsFit}
-use Rattle.least_costs.proofs.RowLemmas.{listed}
 use Rattle.least_costs.proofs.StartLemmas.{form_at}
 use Rattle.least_costs.specs.Matched.{AreLowLeaves}
 use Rattle.least_costs.proofs.FitLemmas.{want_at, want_takes, want_low, want_parts, parts_fit}
@@ -24,7 +24,7 @@ fit_parts-requires-clause-at c =
 pub fit_parts-requires-clause-low : goal.fit_parts-requires-clause-low
 fit_parts-requires-clause-low c =
     let form : Form = get_or c.args.self.now.forms.now c.args.k c.index-self-k.result in
-    let got : slice_get c.args.self.now.forms.now c.args.k ≡ Some form = listed _ _ _ c.requires.form in
+    let got : slice_get c.args.self.now.forms.now c.args.k ≡ Some form = slice_get-get_or _ _ _ c.requires.form in
     subst (λ l. AreLowLeaves (models_of_leaves l)) (sym c.deref.ensures.value)
     (want_low c.args.self.now form c.args.k c.args.goal.now c.in-Some.found got
     (want_takes c.args.self.now form c.args.goal.now c.in_ok-found.field-0 c.in-Some.found c.in_ok-found.ensures.found c.in-Some.is))
@@ -39,7 +39,7 @@ fit_parts-requires-clause-few c =
 pub returns-clause-fit : goal.returns-clause-fit
 returns-clause-fit c =
     let form : Form = get_or c.args.self.now.forms.now c.args.k c.index-self-k.result in
-    let got : slice_get c.args.self.now.forms.now c.args.k ≡ Some form = listed _ _ _ c.requires.form in
+    let got : slice_get c.args.self.now.forms.now c.args.k ≡ Some form = slice_get-get_or _ _ _ c.requires.form in
     IfOk-weaker c.fit_parts.result (λ o. FitsParts (search_stock c.args.self.now) c.args.limits (operands_of (models_of_leaves c.deref.result.now)) (cuts_of (models_of_leaves c.deref.result.now)) o)
     (λ o. IsFit (search_stock c.args.self.now) c.args.limits (model_of_subgoal c.args.goal.now) c.args.k o)
     (λ o fits. parts_fit (search_stock c.args.self.now) c.args.limits (model_of_subgoal c.args.goal.now) c.args.k (model_of_form form) (model_of_match c.in-Some.found) o
@@ -50,7 +50,7 @@ returns-clause-fit c =
 pub returns-then-not-keeps_to-clause-fit : goal.returns-then-not-keeps_to-clause-fit
 returns-then-not-keeps_to-clause-fit c =
     let form : Form = get_or c.args.self.now.forms.now c.args.k c.index-self-k.result in
-    let got : slice_get c.args.self.now.forms.now c.args.k ≡ Some form = listed _ _ _ c.requires.form in
+    let got : slice_get c.args.self.now.forms.now c.args.k ≡ Some form = slice_get-get_or _ _ _ c.requires.form in
     let at : slice_get (search_stock c.args.self.now).forms c.args.k ≡ Some (model_of_form form) = form_at c.args.self.now c.args.k form got in
     no_form (search_stock c.args.self.now) c.args.limits (model_of_subgoal c.args.goal.now) c.args.k
     (λ model found here kept is.

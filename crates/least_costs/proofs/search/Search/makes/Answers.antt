@@ -1,5 +1,6 @@
 use Rattle.std.proofs.Common.{◌≡◌, Some, sym, ap, ◌∙◌, subst, get_or}
 use Rattle.std.specs.Option.{option_map}
+use Rattle.std.proofs.lemmas.Option.{slice_get-get_or}
 use Rattle.form_model.specs.Forms.{model_of_goal, model_of_form}
 use Rattle.form_model.specs.Trees.{model_of_tree}
 use Rattle.form_model.specs.declared.forms.Form.{Form}
@@ -10,7 +11,6 @@ use Rattle.least_costs.specs.Searches.{search_stock, search_nodes}
 use Rattle.least_costs.specs.Subgoals.{free}
 use Rattle.least_costs.specs.Least.{IsLeastForm}
 use Rattle.least_costs.proofs.MadeLemmas.{goal_holds, makes_none, makes_some, part_subgoal, part_stands}
-use Rattle.least_costs.proofs.RowLemmas.{listed}
 use Rattle.least_costs.proofs.StartLemmas.{form_at}
 use Rattle.least_costs.proofs.search.Search.makes.Goals as goal
 
@@ -31,7 +31,7 @@ returns-in-Some-2-clause-makes c =
     let form : Form = get_or search.forms.now c.args.k c.index-self-k.result in
     let d = model_of_destination c.in-Some.destination in
     let there : part_goal (model_of_goal form.goal) ≡ Some d = sym c.part_destination.ensures ∙ ap (option_map model_of_destination) c.in-Some.is in
-    makes_some stock t c.args.k (model_of_form form) (form_at search c.args.k form (listed _ _ _ c.requires.form)) d c.in-Some-2.field-0 there
+    makes_some stock t c.args.k (model_of_form form) (form_at search c.args.k form (slice_get-get_or _ _ _ c.requires.form)) d c.in-Some-2.field-0 there
     (subst (IsLeastForm stock (free stock) (part_subgoal d t) c.args.k) c.in-Some-2.is c.in_ok-form_least.ensures.least)
 
 pub returns-in-None-clause-makes : goal.returns-in-None-clause-makes
@@ -42,5 +42,5 @@ returns-in-None-clause-makes c =
     let form : Form = get_or search.forms.now c.args.k c.index-self-k.result in
     let d = model_of_destination c.in-Some.destination in
     let there : part_goal (model_of_goal form.goal) ≡ Some d = sym c.part_destination.ensures ∙ ap (option_map model_of_destination) c.in-Some.is in
-    makes_none stock t c.args.k (model_of_form form) (form_at search c.args.k form (listed _ _ _ c.requires.form)) d there
+    makes_none stock t c.args.k (model_of_form form) (form_at search c.args.k form (slice_get-get_or _ _ _ c.requires.form)) d there
     (subst (IsLeastForm stock (free stock) (part_subgoal d t) c.args.k) c.in-None.is c.in_ok-form_least.ensures.least)
