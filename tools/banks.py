@@ -1,245 +1,197 @@
 #!/usr/bin/env python3
-"""Compiles random programs for random small processors with two data memories, and clocks each netlist here on the words that were made.
+"""Compiles random programs for random small processors with two data memories, and clocks each
+netlist here on the words that were made.
 
 Usage: banks.py BINARY [COUNT] [SEED]
 
-Each of COUNT runs (200 where none are given) makes a netlist with a bank, a program with elements at computed places, and a part of its variables, and
-compiles them by `record dual`. No command clocks such a netlist, so it is clocked by clocked.py as its text has it, with both its memories, from random
-cells and registers. At the marks the variables, in the memory or in the bank as the image's places say, have to be those that the interpreter of
-programs.py has before each test and at the end, each test always under one label, each within one image length of clocks of the last; no bus clashes,
-and behind the end nothing changes. A run that is refused, for want of a cover for example, is counted and not compared. Of every fourth netlist the
-least word of each pattern that `record extract` tells is clocked from a random state, and the pattern's storage has to hold what its expression is, by
-meanings.py, over the cells of both memories behind each other. The exit status is 1 where something differs.
+Each of COUNT runs (200 where none are given) makes a netlist with a bank, a program with elements
+at computed places, and a part of its variables, and compiles them by `record dual`. No command
+clocks such a netlist, so it is clocked by tools/rtn/clock.py as its text has it, with both its
+memories, from random cells and registers. At the marks the variables, in the memory or in the bank
+as the image's places say, have to be those that the interpreter has before each test and at the
+end, each test always under one label, each within one image length of clocks of the last; no bus
+clashes, and behind the end nothing changes. A run that is refused, for want of a cover for example,
+is counted and not compared. Of every fourth netlist the least word of each pattern that `record
+extract` tells is clocked from a random state, and the pattern's storage has to hold what its
+expression is, over the cells of both memories behind each other. The exit status is 1 where
+something differs.
 """
 import collections
+import dataclasses
 import pathlib
 import random
-import subprocess
-import sys
 import tempfile
 
-from clocked import Clash, Netlist
-from meanings import Meaning, read_expr, storages
-from programs import CYCLES, GATES, WORD, Codes, Fields, Maker, addresses, differs, random_ways, statement_text
+import command_line
+from rtn.calls import Program
+from rtn.checkpoints import Checkpoint, Watch
+from rtn.clock import Clash, Netlist, State
+from rtn.images import Image, read_image
+from rtn.patterns import Meaning, Pattern, read_patterns
+from rtn.random_processors import Kind, random_processor
+from rtn.random_programs import COUNTERS, LAST, PLAIN, Indexing, assigned, program_text
+from rtn.reading import read_netlist
 
-ARRAYS = {'x': 4, 'y': 5}
-WAYS = ['field', 'plain', 'behind', 'behind']
 BEHIND_END = 5
+CYCLES = 1500
+SECONDS = 60
+WRONG = 'wrong'
 
 
-def random_bank_netlist(pick):
-    """The text of a processor with a bank, its operators, the bits of its addresses, and whether it writes the bank and finds computed places."""
-    fields = Fields()
-    fields.take(8)
-    bits = pick.choice([5, 6, 8, 8])
-    near = fields.take(bits) if pick.random() < 0.7 else 'm'
-    registers = [f'R{k}' for k in range(pick.randint(1, 3))]
-    operators = ['+', '-'] + pick.sample('*&|^', pick.randint(0, 2))
-    ways = [pick.choice(WAYS) for _ in 'mn']
-    lines = [line for name, place, way in zip(('at_m', 'at_n'), ('m', near), ways) for line in placed(pick, fields, bits, name, place, way)]
-    codes = Codes(pick, fields) if pick.random() < 0.4 else None
-    loads = ['read(M, at_m)', 'read(N, at_n)']
-    if pick.random() < 0.8:
-        lines.append(f'net load : 16 = case {fields.take(1)} {{ 0: {loads[0]}; 1: {loads[1]}; }};')
-    operands = ['load'] * 5 + registers if 'load' in lines[-1] else loads + registers
-    for register in registers:
-        rows = [*loads, 'zext(f, 16)'] + [f'{GATES[o]}({register}, {pick.choice(operands)})' for o in operators]
-        if register != 'R0' and pick.random() < 0.4:
-            rows = rows[:2] if pick.random() < 0.5 else [rows[1], rows[-1]]
-        if codes:
-            value, when = codes.rows(rows[:5])
-        else:
-            selector, when = fields.take(3), fields.take(1)
-            value = f"case {selector} {{ {' '.join(f'{k}: {row};' for k, row in enumerate(rows))} else: {register}; }}"
-        lines.append(f'register {register} : 16 in {value} when {when};')
-    turns = [f'eq({pick.choice(registers[:2])}, 0#16)']
-    turns += [f'{order}({", ".join(pick.sample(registers, 2))})' for order in ('ltu', 'lts') if len(registers) > 1]
-    rows = ' '.join(f'{k}: case {turn} {{ {random_ways(pick)} }};' for k, turn in enumerate(turns, 2))
-    lines.append(f'register PC : 8 in case {fields.take(3)} {{ 1: f; {rows} else: next; }};')
-    stored = 'R0' if pick.random() < 0.7 else pick.choice(registers)
-    memory = f'memory M : 16 size {1 << bits} addr {bits} write {stored} at at_m when {fields.take(1)};'
-    size = pick.choice([1 << bits, pick.randint(1, 1 << bits), pick.randint(9, 1 << bits)])
-    written = f' write {pick.choice([stored, stored, *registers])} at at_n when {fields.take(1)}' if pick.random() < 0.7 else ''
-    lines += pick.sample([memory, f'bank N : 16 size {size} addr {bits}{written};'], 2)
-    head = ['version 4;', f'code I : {fields.bits} size 256 at PC;', 'net f : 8 = I[7:0];', f'net m : {bits} = f[{bits - 1}:0];',
-            'net next : 8 = add(PC, 1#8);']
-    text = '\n'.join(head + pick.sample(lines, len(lines))) + '\n'
-    return text, operators, bits, written != '', 'field' not in ways
-
-
-def placed(pick, fields, bits, name, place, way):
-    """Where a memory is read and written: at a field, or also at an address register, or so many cells behind it as the field says."""
-    if way == 'field':
-        return [f'net {name} : {bits} = {place};']
-    index = name.replace('at', 'index')
-    wide, low = (bits, f'[{bits - 1}:0]') if way == 'plain' else (16, '')
-    lines = [f'register {index} : {wide} in R0{low} when {fields.take(1)};']
-    if way == 'behind':
-        lines.append(f'net behind_{name} : 16 = add({index}, zext({place}, 16));')
-    computed = index if way == 'plain' else f'behind_{name}[{bits - 1}:0]'
-    return [*lines, f'net {name} : {bits} = case {fields.take(1)} {{ 0: {place}; 1: {computed}; }};']
-
-
-class Indexing(Maker):
-    """A random program with elements of two arrays, at numbers, at counters that stay within the array, and at masked values."""
-
-    def __init__(self, pick, operators, computes):
-        super().__init__(pick, operators)
-        self.around, self.computes = [], computes or pick.random() < 0.1
-
-    def element(self):
-        name, length = self.pick.choice(sorted(ARRAYS.items()))
-        ways = [('number', self.pick.randrange(length))]
-        if not self.computes:
-            return ('element', name, ways[0])
-        for counter, last in self.around:
-            ways += [('plain', counter)] * 3 * (last < length)
-            ways += [('two', '+', ('plain', counter), ('number', 1))] * (last + 1 < length)
-        if '&' in self.operators:
-            ways.append(('two', '&', ('plain', self.pick.choice(self.plain)), ('number', 3)))
-        return ('element', name, self.pick.choice(ways))
-
-    def program(self):
-        """Mostly one that begins with a loop, where it has elements at computed places."""
-        return [*([self.loop(2)] if self.computes and self.pick.random() < 0.7 else []), *super().program()]
-
-    def leaf(self):
-        return self.element() if self.computes and self.around and self.pick.random() < 0.5 else super().leaf()
-
-    def body(self, counter, start, last, depth):
-        if last < start:
-            return self.block(depth)
-        self.around.append((counter, last))
-        block = self.block(depth)
-        self.around.pop()
-        return block
-
-
-def assigned(block):
-    """The variables that a block changes."""
-    for s in block:
-        if s[0] in ('assign', 'element', 'for'):
-            yield s[1]
-        for part in s:
-            if isinstance(part, list):
-                yield from assigned(part)
-
-
-def random_state(pick, netlist):
+def random_state(pick: random.Random, netlist: Netlist) -> State:
     """A state whose program counter is 0."""
     state = netlist.zeros()
-    for name, item in netlist.registers.items():
-        if name != netlist.the_code[4] and pick.random() < 0.7:
-            state[name] = pick.randrange(1 << item[2])
+    for name, register in netlist.registers.items():
+        if name != netlist.code.counter and pick.random() < 0.7:
+            state[name] = pick.randrange(1 << register.width)
     for name, cells in state.items():
         if isinstance(cells, list):
-            state[name] = [pick.choice([0, 1, 2, 3, pick.randrange(WORD)]) for _ in cells]
+            state[name] = [pick.choice([0, 1, 2, 3, pick.randrange(LAST + 1)]) for _ in cells]
     return state
 
 
-def untrue(binary, path, netlist, pick):
-    """A pattern of the netlist whose least word does something else, from a random state; or None."""
-    code, registers, _ = storages(path.read_text())
-    joined = len(netlist.zeros()['M'] + netlist.zeros()['N'])
-    meaning = Meaning(code, registers, {'M': (16, joined)})
-    for line in subprocess.run([binary, 'extract', path], capture_output=True, text=True).stdout.split('\n')[1:-2]:
-        transfer, word = line.split(' ', 1)[1].rsplit(' ; ', 1)
-        target, expr = transfer.split(' := ')
-        state, word = random_state(pick, netlist), int(word, 16)
-        before = state, {'M': dict(enumerate(state['M'] + state['N']))}
+class View:
+    """What the patterns of a netlist with a bank mean: over one memory, behind whose cells stand
+    those of the bank."""
+
+    def __init__(self, text: str):
+        self.meaning = Meaning(read_netlist(text))
+        self.size = self.meaning.sizes['M'] + self.meaning.sizes['N']
+        self.meaning.sizes['M'] = self.size
+
+    def is_true(self, pattern: Pattern, netlist: Netlist, state: State) -> bool:
+        """Whether the pattern's word does what it says, from a state."""
+        word = int(pattern.word, 16)
         after = netlist.clock(state, word)
-        value, _ = meaning.of(read_expr(expr), before, word)
-        if '[' not in target:
-            found = after[target]
-        else:
-            address, _ = meaning.of(read_expr(target[2:-1]), before, word)
-            found = (after['M'] + after['N'])[address] if address < joined else value
-        if found != value:
-            return line
-    return None
+        before = {**state, 'M': dict(enumerate(state['M'] + state['N']))}
+        value = self.meaning.value(pattern.value, before, word)
+        if pattern.address is None:
+            return after[pattern.target] == value
+        address = self.meaning.value(pattern.address, before, word)
+        return address >= self.size or (after['M'] + after['N'])[address] == value
 
 
-def store_in(state, held, size):
-    """What the variables' cells hold: those of the bank have their addresses behind the memory's."""
-    return {cell: state['M'][address] if address < size else state['N'][address - size] for address, cell in held.items()}
+@dataclasses.dataclass
+class Run:
+    """A random netlist, a random program and a random part of its variables, in files of a
+    folder."""
 
+    record: Program
+    folder: pathlib.Path
+    seed: int
 
-def watched(netlist, image, state, held, size):
-    """The lines that `go` would write, and what is wrong with the clocks themselves, or None."""
-    words = [int(line.split()[2], 16) for line in image if line.startswith('word ')]
-    marks = {int(line.split()[1]): line.split()[2] for line in image if line.startswith('mark ')}
-    counter, lines, shown = netlist.the_code[4], [], {cell: 0 for cell in held.values()}
+    def __post_init__(self):
+        self.pick = random.Random(self.seed)
+        self.processor = random_processor(self.pick, Kind.BANK)
+        maker = Indexing(self.pick, self.processor.operators, self.processor.has_computed_places)
+        self.program = maker.program()
+        self.part = self.some_names()
+        self.netlist = Netlist(self.processor.text)
+        self.put_files()
 
-    def clock():
-        return netlist.clock(state, words[state[counter]] if state[counter] < len(words) else 0)
+    def some_names(self) -> list[str]:
+        """Some of the variables, none that the program changes where the bank isn't written."""
+        kept = set() if self.processor.is_bank_written else set(assigned(self.program))
+        return [name for name in self.names() if name not in kept and self.pick.random() < 0.5]
 
-    for cycle in range(CYCLES + 1):
-        label = marks.get(state[counter])
-        if label:
-            store = store_in(state, held, size)
-            changes = ''.join(f' {cell}={value}' for _, cell in sorted(held.items()) for value in [store[cell]] if value != shown[cell])
-            lines.append(f'at {cycle} {label}{changes}')
-            shown = store
-        if label == 'end':
-            break
-        state = clock()
-    else:
-        return [*lines, 'budget'], None
-    for _ in range(BEHIND_END):
-        state = clock()
-        if marks.get(state[counter]) != 'end' or store_in(state, held, size) != shown:
-            return [*lines, 'end'], 'the end is left'
-    return [*lines, 'end'], None
+    @staticmethod
+    def names() -> list[str]:
+        return [*PLAIN, *COUNTERS, *Indexing.ARRAYS]
 
+    def put_files(self) -> None:
+        names = self.pick.sample(self.names(), len(self.names()))
+        lengths = {name: f'{name}[{length}]' for name, length in Indexing.ARRAYS.items()}
+        source = program_text([lengths.get(name, name) for name in names], self.program)
+        part = ''.join(f'{name}\n' for name in self.part)
+        self.files = [self.folder / name for name in ('n.rtn', 'p.src', 'p.part')]
+        for file, text in zip(self.files, (self.processor.text, source, part)):
+            file.write_text(text)
 
-def one(binary, folder, seed):
-    """What became of one run: what is wrong, or None, and how it is counted."""
-    pick = random.Random(seed)
-    text, operators, bits, is_written, computes = random_bank_netlist(pick)
-    program = Indexing(pick, operators, computes).program()
-    names = ['a', 'b', 'c', 'i', 'j', *ARRAYS]
-    free = names if is_written else [name for name in names if name not in set(assigned(program))]
-    part = [name for name in free if pick.random() < 0.5]
-    declared = ', '.join(f'{name}[{ARRAYS[name]}]' if name in ARRAYS else name for name in pick.sample(names, len(names)))
-    source = f'var {declared};\n' + '\n'.join(statement_text(s) for s in program) + '\n'
-    files = {'n.rtn': text, 'p.src': source, 'p.part': ''.join(f'{name}\n' for name in part)}
-    for name, content in files.items():
-        (folder / name).write_text(content)
-    netlist = Netlist(text)
-    found = untrue(binary, folder / 'n.rtn', netlist, random.Random(seed)) if seed % 4 == 0 else None
-    if found:
-        return f'pattern {found}', 'wrong'
-    made = subprocess.run([binary, 'dual', *(folder / name for name in files)], capture_output=True, text=True, timeout=60)
-    if made.returncode != 0:
-        return None, ' '.join(made.stdout.split()[:3]) or f'status {made.returncode}'
-    image = made.stdout.split('\n')
-    held = addresses(image, [f'{name}[{k}]' for name, length in ARRAYS.items() for k in range(length)])
-    if {cell.split('[')[0] for address, cell in held.items() if address >= 1 << bits} != set(part):
-        return 'other variables stand in the bank', 'wrong'
-    state = random_state(pick, netlist)
-    start = store_in(state, held, 1 << bits)
-    try:
-        lines, found = watched(netlist, image, state, held, 1 << bits)
-    except Clash:
-        return 'a bus clashes', 'wrong'
-    found = found or differs(lines, program, dict(start), int(image[0].split()[2]))
-    return found, 'wrong' if found else 'with an empty part' if not part else 'as it should be'
+    def untrue(self) -> Pattern | None:
+        """A pattern whose least word does something else, from a random state; or None."""
+        pick, view = random.Random(self.seed), View(self.processor.text)
+        listed = read_patterns(self.record.text('extract', self.files[0]))
+        for pattern in (pattern for mode in listed for pattern in mode):
+            if not view.is_true(pattern, self.netlist, random_state(pick, self.netlist)):
+                return pattern
+        return None
+
+    def judged(self) -> tuple[str | None, str]:
+        """What is wrong with the run, or None, and how it is counted."""
+        found = self.untrue() if self.seed % 4 == 0 else None
+        if found:
+            return f'pattern {found.transfer} ; {found.word}', WRONG
+        answer = self.record('dual', *self.files)
+        if answer.status:
+            return None, ' '.join(answer.text.split()[:3]) or f'status {answer.status}'
+        found = self.differs(read_image(answer.text))
+        right = 'as it should be' if self.part else 'with an empty part'
+        return found, WRONG if found else right
+
+    def differs(self, image: Image) -> str | None:
+        """What is wrong with the clocks of an image, or None."""
+        size, held = 1 << self.processor.address_bits, image.cells()
+        if {cell.split('[')[0] for at, cell in held.items() if at >= size} != set(self.part):
+            return 'other variables stand in the bank'
+        state = random_state(self.pick, self.netlist)
+        watch = Watch(self.program, self.store(state, held), len(image.words))
+        try:
+            checkpoints, ending, found = self.watched(image, state, held)
+        except Clash:
+            return 'a bus clashes'
+        return found or watch.differs(checkpoints, ending, CYCLES)
+
+    def store(self, state: State, held: dict[int, str]) -> dict[str, int]:
+        """What the variables' cells hold: those of the bank stand behind the memory's."""
+        size = 1 << self.processor.address_bits
+        return {cell: state['M'][at] if at < size else state['N'][at - size]
+                for at, cell in held.items()}
+
+    def watched(self, image: Image, state: State,
+                held: dict[int, str]) -> tuple[list[Checkpoint], str, str | None]:
+        """The checkpoints that `go` would write and their last line, and what is wrong with the
+        clocks behind the end, or None."""
+        counter, shown, found = self.netlist.code.counter, {cell: 0 for cell in held.values()}, []
+        for cycle in range(CYCLES + 1):
+            label = image.marks.get(state[counter])
+            if label:
+                store = self.store(state, held)
+                changes = tuple((cell, store[cell]) for _, cell in sorted(held.items())
+                                if store[cell] != shown[cell])
+                told = ''.join(f' {cell}={value}' for cell, value in changes)
+                found.append(Checkpoint(f'at {cycle} {label}{told}', cycle, label, changes))
+                shown = store
+            if label == 'end':
+                return found, 'end', self.leaves(image, state, held)
+            state = self.netlist.clock(state, image.word(state[counter]))
+        return found, 'budget', None
+
+    def leaves(self, image: Image, state: State, held: dict[int, str]) -> str | None:
+        """Whether a state at the end mark is left, or its store changes."""
+        counter, store = self.netlist.code.counter, self.store(state, held)
+        for _ in range(BEHIND_END):
+            state = self.netlist.clock(state, image.word(state[counter]))
+            if image.marks.get(state[counter]) != 'end' or self.store(state, held) != store:
+                return 'the end is left'
+        return None
 
 
 def main():
-    binary, *words = sys.argv[1:]
-    count, first = [*map(int, words), *[200, 0][len(words):]]
-    counts = collections.Counter()
+    words = command_line.Parser(__doc__)
+    words.add_program()
+    words.add_runs(200)
+    given, counts = words.words(), collections.Counter()
+    record = dataclasses.replace(given.binary, seconds=SECONDS)
     with tempfile.TemporaryDirectory() as folder:
-        for seed in range(first, first + count):
-            found, kind = one(str(pathlib.Path(binary).resolve()), pathlib.Path(folder), seed)
+        for seed in range(given.seed, given.seed + given.count):
+            found, kind = Run(record, pathlib.Path(folder), seed).judged()
             counts[kind] += 1
             if found:
                 print(f'seed {seed}: {found}', flush=True)
     for kind, number in counts.most_common():
         print(f'{number:6} {kind}')
-    sys.exit(1 if counts['wrong'] else 0)
+    return 1 if counts[WRONG] else 0
 
 
 if __name__ == '__main__':
-    main()
+    command_line.run(main)

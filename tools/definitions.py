@@ -1,8 +1,10 @@
-"""The definitions of specs/ and what cites what, for reading.py, apart.py and pages.py: it prints nothing itself.
+"""The definitions of specs/ and what cites what, for reading.py, apart.py and pages.py: it prints
+nothing itself.
 
-A definition is named by its crate, its file below specs/ (`Trees`, or `Inner/Tables`) and its own name. What it cites is found by its words: a name of its
-own file, or one that the file imports. A field or a constructor stands for the definition that declares it. So what is found is never too little; it is too
-much where a variable has a definition's name.
+A definition is named by its crate, its file below specs/ (`Trees`, or `Inner/Tables`) and its own
+name. What it cites is found by its words: a name of its own file, or one that the file imports. A
+field or a constructor stands for the definition that declares it. So what is found is never too
+little; it is too much where a variable has a definition's name.
 """
 import functools
 import pathlib
@@ -13,6 +15,9 @@ CRATES = TOP / "crates"
 WORD = re.compile(r"[A-Za-z_][\w'-]*")
 IMPORT = re.compile(r"(?m)^\s*(?:ghost |pub )*use Rattle\.(\w+)\.specs\.([\w.]+)\.\{([^}]*)\}")
 HEAD = r"(?:abbrev |unfoldable )*(pub )?(data |record )?([A-Za-z_][\w'-]*)\s*[({:]"
+BLOCK = re.compile(r"(?m)^(?:impl|pub trait|trait)\b[^{\n]*")
+FUNCTION = re.compile(r"(?m)^([ \t]*)((?:pub(?:\([a-z]+\))? )?)"
+                      r"(?:const |ghost |unsafe )*fn (\w+)")
 
 
 def crates():
@@ -20,19 +25,21 @@ def crates():
 
 
 def imports(text):
-    """What a file imports from specs/ of this repository: its own name of it, to crate, file and name."""
+    """What a file imports from specs/ of this repository: its own name of it, to crate, file and
+    name."""
     found = {}
     for crate, path, names in IMPORT.findall(text):
         if (CRATES / crate).is_dir():
             for name in filter(None, map(str.strip, names.split(","))):
-                first, *alias = name.split(" as ")
-                found[(alias or [first])[0].strip()] = (crate, path.replace(".", "/"), first.strip())
+                first, _, alias = map(str.strip, name.partition(" as "))
+                found[alias or first] = (crate, path.replace(".", "/"), first)
     return found
 
 
 @functools.cache
 def definitions(crate):
-    """The definitions of a crate, each with its lines, and the fields and constructors, each with its definition."""
+    """The definitions of a crate, each with its lines, and the fields and constructors, each with
+    its definition."""
     lines_of, owner = {}, {}
     for file in sorted((CRATES / crate / "specs").rglob("*.antt")):
         name = file.relative_to(CRATES / crate / "specs").with_suffix("").as_posix()
@@ -80,8 +87,9 @@ def resolved(crate, file, name):
 def cited(definition):
     """The definitions that a definition cites."""
     crate, file, name = definition
-    found = set()
-    for word in set(WORD.findall("\n".join(line for line in definitions(crate)[0][(file, name)] if not line.strip().startswith("--")))):
+    lines, found = definitions(crate)[0][(file, name)], set()
+    code = "\n".join(line for line in lines if not line.strip().startswith("--"))
+    for word in set(WORD.findall(code)):
         other = resolved(crate, file, word)
         if not other and word in imports_of(crate, file):
             other = resolved(*imports_of(crate, file)[word])
@@ -108,12 +116,14 @@ def cited_in(text, names):
 
 
 def functions(text):
-    """The functions of a file: name, the word before `fn`, head up to the body, the line of the `impl` or trait round it, and where it begins."""
-    blocks = [(m.start(), m.group(0)) for m in re.finditer(r"(?m)^(?:impl|pub trait|trait)\b[^{\n]*", text)]
-    for m in re.finditer(r"^([ \t]*)((?:pub(?:\([a-z]+\))? )?)(?:const |ghost |unsafe )*fn (\w+)", text, re.M):
+    """The functions of a file: name, the word before `fn`, head up to the body, the line of the
+    `impl` or trait round it, and where it begins."""
+    blocks = [(m.start(), m.group(0)) for m in BLOCK.finditer(text)]
+    for m in FUNCTION.finditer(text):
         end = re.compile(r"^" + re.escape(m.group(1)) + r"\{|\{[ \t]*$|;[ \t]*$", re.M)
         heads = (text[m.start():found.start()] for found in end.finditer(text, m.end()))
-        head = next((head for head in heads if head.count("{") == head.count("}")), text[m.start():])
+        closed = (head for head in heads if head.count("{") == head.count("}"))
+        head = next(closed, text[m.start():])
         around = [line for at, line in blocks if at < m.start()] if m.group(1) else []
         yield m.group(3), m.group(2).strip(), head, around[-1] if around else "", m.start()
 
@@ -133,7 +143,8 @@ def sources(crate):
 
 
 def public_functions(crate):
-    """The functions that others can call: file, its text, name, head, the line of the block round it, and where it begins."""
+    """The functions that others can call: file, its text, name, head, the line of the block round
+    it, and where it begins."""
     names, modules = exported(crate)
     for file, text in sources(crate):
         is_open = file.stem in modules or file.stem in ("lib", "main")
@@ -141,12 +152,14 @@ def public_functions(crate):
         for name, public, head, block, start in functions(text):
             is_member = bool(set(WORD.findall(block)) & (names | types))
             is_of_trait = "trait " in block or " for " in block
-            if public == "pub" and (name in names or is_open or is_member) or public == "" and is_member and is_of_trait:
+            is_own = public == "pub" and (name in names or is_open or is_member)
+            if is_own or public == "" and is_member and is_of_trait:
                 yield file, text, name, head, block, start
 
 
 def public_citations(crate):
-    """What the contracts of a crate's public functions and the views of its types cite. An invariant of a type isn't among it: it is proved."""
+    """What the contracts of a crate's public functions and the views of its types cite. An
+    invariant of a type isn't among it: it is proved."""
     found = set()
     for _, text, _, head, _, _ in public_functions(crate):
         found |= cited_in(head, imports(text))

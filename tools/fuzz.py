@@ -1,96 +1,154 @@
 #!/usr/bin/env python3
-"""Runs `record` on texts that were made from good ones by cutting, doubling, swapping and replacing tokens.
+"""Runs `record` on texts that were made from good ones by cutting, doubling, swapping and replacing
+tokens.
 
 Usage: fuzz.py BINARY [COUNT] [SEED]
 
-Of COUNT texts (2,000 where none is given) each is given to `extract`, `compile`, `dual`, `run`, `asm` and `dis`, as a netlist, a program, a part,
-an image, a memory text or an assembler text. Each run has to end within a second with a status of docs/FORMATS.md, and to write something unless the
-status is 4 or `dis` shows an image without words. Runs that don't are printed, with the text, and the exit status is then 1.
+Of COUNT texts (2,000 where none is given) each is given to `extract`, `compile`, `dual`, `run`,
+`asm` and `dis`, as a netlist, a program, a part, an image, a memory text or an assembler text. Each
+run has to end within a second with a status of docs/FORMATS.md, and to write something unless the
+status is 4 or `dis` shows an image without words. Runs that don't are printed, with the text, and
+the exit status is then 1.
 """
+import collections
+import dataclasses
 import pathlib
 import random
 import re
-import subprocess
-import sys
 import tempfile
 
-STATUSES = {0, 2, 3, 5, 6, 7, 8, 9, 10, 11, 12, 13, 16, 17, 19}
+import command_line
+from rtn.calls import Program, Slow
+from rtn.operators import OPERATORS, WIRING
+from rtn.runs import EXAMPLES
+
+SECONDS = 1
+STATUSES = frozenset({0, 2, 3, 5, 6, 7, 8, 9, 10, 11, 12, 13, 16, 17, 19})
 TOKENS = re.compile(r'//[^\n]*\n|\s+|\w+|.', re.S)
-RTN = '''version file mode bank code register memory net bus module part size at in out when addr write case else read slice zext sext cat add sub mul
-and or xor not neg shl shr sar eq ltu lts : ; , = . # ( ) { } [ ] 0 1 2 7 8 16 64 65 4096 65536 18446744073709551615
-18446744073709551616 0x 0xff I PC ACC M x y'''.split()
-SRC = '''var if else while for to zext sext low slt sle sgt sge { } ( ) [ ] ; , = + - * & | ^ ~ << >> >>> == != < <= > >= 0 1 31 32 255 65535
-65536 18446744073709551616 a b i s'''.split()
-TRANSFERS = ''':= & with keep raw PC ACC A X M read slice add eq select ( ) [ ] , # : = 7 0 1 8 16 03 0f'''.split()
-PARTS = ['a', 'b', 'i', 's', 'x', 'y', '\n', '\n', ' ', '[', '0']
-LINES = 'image temps place tree mark word done end cycles - 0 1 2 03 3f 82 PC M R 255 65536'.split()
+KINDS = ('rtn', 'src', 'part', 'img', 'mem', 'asm')
+CHANGED = ('rtn', 'rtn', 'rtn', 'src', 'part', 'img', 'mem', 'asm')
+CALLS = ('extract rtn', 'compile rtn src', 'dual rtn src part', 'run rtn img mem 50',
+         'asm rtn asm', 'dis rtn img')
+LINES = 'image temps place tree mark word done end cycles - 0 1 2 03 3f 82 PC M R 255 65536'
+
+# The words that are put in, by the kind of text.
+WORDS = {
+    'rtn': [*'''version file mode bank code register memory net bus module part size at in out when
+                addr write case else read'''.split(), *WIRING, *OPERATORS,
+            *''': ; , = . # ( ) { } [ ] 0 1 2 7 8 16 64 65 4096 65536 18446744073709551615
+                18446744073709551616 0x 0xff I PC ACC M x y'''.split()],
+    'src': '''var if else while for to zext sext low slt sle sgt sge { } ( ) [ ] ; , = + - * & | ^ ~
+              << >> >>> == != < <= > >= 0 1 31 32 255 65535 65536 18446744073709551616 a b i
+              s'''.split(),
+    'part': ['a', 'b', 'i', 's', 'x', 'y', '\n', '\n', ' ', '[', '0'],
+    'img': LINES.split(),
+    'mem': LINES.split(),
+    'asm': ''':= & with keep raw PC ACC A X M read slice add eq select ( ) [ ] , # : = 7 0 1 8 16 03
+              0f'''.split(),
+}
 
 
-def changed(pick, text, words):
+def changed(pick: random.Random, text: str, words: list[str]) -> str:
+    """A text with a few of its tokens changed."""
     tokens = TOKENS.findall(text)
     for _ in range(pick.choice([1, 1, 2, 3, 8])):
         if not tokens:
             break
-        at, to = pick.randrange(len(tokens)), pick.randrange(len(tokens))
-        what = pick.randrange(12)
-        if what == 0:
-            del tokens[at:at + pick.choice([1, 1, 2, 20])]
-        elif what == 1:
-            tokens[at:at] = tokens[at:at + pick.choice([1, 5, 40])]
-        elif what == 2:
-            tokens[at], tokens[to] = tokens[to], tokens[at]
-        elif what == 3:
-            tokens[at] = pick.choice(words)
-        elif what == 4:
-            tokens[at:at] = [' ', pick.choice(words), ' ']
-        elif what == 5:
-            del tokens[at:]
-        else:
-            # one of the same kind, so that more texts are still of the grammar
-            alike = [t for t in tokens + words if t.isalnum() and t[:1].isdigit() == tokens[at][:1].isdigit()]
-            if tokens[at].isalnum() and alike:
-                tokens[at] = pick.choice(alike)
+        change(pick, tokens, words)
     return ''.join(tokens)
 
 
+def change(pick: random.Random, tokens: list[str], words: list[str]) -> None:
+    """Changes tokens at one place."""
+    at, to = pick.randrange(len(tokens)), pick.randrange(len(tokens))
+    match pick.randrange(12):
+        case 0:
+            del tokens[at:at + pick.choice([1, 1, 2, 20])]
+        case 1:
+            tokens[at:at] = tokens[at:at + pick.choice([1, 5, 40])]
+        case 2:
+            tokens[at], tokens[to] = tokens[to], tokens[at]
+        case 3:
+            tokens[at] = pick.choice(words)
+        case 4:
+            tokens[at:at] = [' ', pick.choice(words), ' ']
+        case 5:
+            del tokens[at:]
+        case _:
+            replace(pick, tokens, at, words)
+
+
+def replace(pick: random.Random, tokens: list[str], at: int, words: list[str]) -> None:
+    """Puts one of the same kind in a token's place, so that more texts are still of the grammar."""
+    is_number = tokens[at][:1].isdigit()
+    alike = [token for token in tokens + words
+             if token.isalnum() and token[:1].isdigit() == is_number]
+    if tokens[at].isalnum() and alike:
+        tokens[at] = pick.choice(alike)
+
+
+class Good:
+    """The texts of examples/ by their kinds."""
+
+    def __init__(self):
+        self.texts = {kind: [path.read_text() for path in sorted(EXAMPLES.glob(f'*.{kind}'))]
+                      for kind in KINDS}
+        self.parts = sorted(EXAMPLES.glob('*.part'))
+        self.images = sorted(EXAMPLES.glob('*.hand.img'))
+
+    def some(self, pick: random.Random) -> dict[str, str]:
+        """A text of each kind; often such that go together."""
+        texts = {kind: pick.choice(good) for kind, good in self.texts.items()}
+        if pick.random() < 0.3:
+            # a netlist with two memories, and a part of the program
+            part = pick.choice(self.parts)
+            files = {'rtn': EXAMPLES / 'twin.rtn', 'src': part.with_suffix('.src'), 'part': part}
+        elif pick.random() < 0.5:
+            # an image and an assembler text of the netlist
+            image = pick.choice(self.images)
+            files = {'rtn': EXAMPLES / f'{image.name.split(".")[1]}.rtn', 'img': image,
+                     'asm': image.with_suffix('.asm')}
+        else:
+            files = {}
+        return texts | {kind: path.read_text() for kind, path in files.items()}
+
+
+def ended(record: Program, call: str, folder: pathlib.Path) -> tuple[int | str, bool]:
+    """The status of a call, and whether it ended as it has to."""
+    try:
+        answer = record(*call.split(), folder=folder)
+    except Slow:
+        return 'none within a second', False
+    has_told = bool(answer.text) or call.startswith('dis ')
+    is_quiet = answer.status != 0 or not answer.errors
+    return answer.status, answer.status in STATUSES and has_told and is_quiet
+
+
 def main():
-    binary = pathlib.Path(sys.argv[1]).resolve()
-    count = int(sys.argv[2]) if len(sys.argv) > 2 else 2000
-    pick = random.Random(int(sys.argv[3]) if len(sys.argv) > 3 else 1)
-    examples = pathlib.Path(__file__).resolve().parent.parent / 'examples'
-    good = {kind: [p.read_text() for p in sorted(examples.glob('*.' + kind))] for kind in ('rtn', 'src', 'part', 'img', 'mem', 'asm')}
-    words = {'rtn': RTN, 'src': SRC, 'part': PARTS, 'img': LINES, 'mem': LINES, 'asm': TRANSFERS}
-    wrong, seen = 0, {}
-    with tempfile.TemporaryDirectory() as folder:
-        folder = pathlib.Path(folder)
-        for number in range(count):
-            kind = pick.choice(['rtn', 'rtn', 'rtn', 'src', 'part', 'img', 'mem', 'asm'])
-            texts = {k: pick.choice(v) for k, v in good.items()}
-            if pick.random() < 0.3:
-                # a netlist with two memories, and a part of the program
-                part = pick.choice(sorted(examples.glob('*.part')))
-                texts['rtn'], texts['src'], texts['part'] = [path.read_text() for path in (examples / 'twin.rtn', part.with_suffix('.src'), part)]
-            elif pick.random() < 0.5:
-                # an image and an assembler text of the netlist
-                image = pick.choice(sorted(examples.glob('*.hand.img')))
-                texts['rtn'] = (examples / f'{image.name.split(".")[1]}.rtn').read_text()
-                texts['img'], texts['asm'] = image.read_text(), image.with_suffix('.asm').read_text()
-            texts[kind] = changed(pick, texts[kind], words[kind])
-            for k, text in texts.items():
-                (folder / k).write_text(text)
-            for call in (['extract', 'rtn'], ['compile', 'rtn', 'src'], ['dual', 'rtn', 'src', 'part'], ['run', 'rtn', 'img', 'mem', '50'],
-                         ['asm', 'rtn', 'asm'], ['dis', 'rtn', 'img']):
-                try:
-                    run = subprocess.run([binary, *call], cwd=folder, capture_output=True, timeout=1)
-                    status, ok = run.returncode, run.returncode in STATUSES and bool(run.stdout or call[0] == 'dis') and not (run.returncode == 0 and run.stderr)
-                except subprocess.TimeoutExpired:
-                    status, ok = 'none within a second', False
-                seen[status] = seen.get(status, 0) + 1
-                if not ok:
+    words = command_line.Parser(__doc__)
+    words.add_program()
+    words.add_runs(2000, seed=1)
+    given = words.words()
+    record, pick = dataclasses.replace(given.binary, seconds=SECONDS), random.Random(given.seed)
+    good, wrong, seen = Good(), 0, collections.Counter()
+    with tempfile.TemporaryDirectory() as name:
+        folder = pathlib.Path(name)
+        for number in range(given.count):
+            kind = pick.choice(CHANGED)
+            texts = good.some(pick)
+            texts[kind] = changed(pick, texts[kind], WORDS[kind])
+            for file, text in texts.items():
+                (folder / file).write_text(text)
+            for call in CALLS:
+                status, is_right = ended(record, call, folder)
+                seen[status] += 1
+                if not is_right:
                     wrong += 1
-                    print(f'text {number}, {" ".join(call)}: status {status}\n{texts[kind]}\n')
-    print(f'{count} texts, {wrong} wrong; ' + ', '.join(f'status {s}: {n}' for s, n in sorted(seen.items(), key=str)))
-    sys.exit(1 if wrong else 0)
+                    print(f'text {number}, {call}: status {status}\n{texts[kind]}\n')
+    told = ', '.join(f'status {status}: {count}' for status, count in sorted(seen.items(), key=str))
+    print(f'{given.count} texts, {wrong} wrong; {told}')
+    return 1 if wrong else 0
 
 
-main()
+if __name__ == '__main__':
+    command_line.run(main)

@@ -1,226 +1,291 @@
 #!/usr/bin/env python3
-"""Lists the code of a program on a netlist: its words with what they do, below the statements that they are of.
+"""Lists the code of a program on a netlist: its words with what they do, below the statements that
+they are of.
 
 Usage: listing.py BINARY [--tune] NET.rtn PROGRAM.src [PROGRAM.part] [--check LISTING]
 
-BINARY is run as `extract` and `compile`, with --tune as `tune`, and for a netlist with a bank as `dual` with the part. Above stand the cells of the variables. Each statement has its line in the program, its tree's number
-and cost, and its words: their address, with a * where the image has a mark, the word in hexadecimal, and the wanted transfers, each in a line, with
-the numbers in the word's fields in place of the slices, and behind them the variable of a cell that is read or written at a number. A `for` stands
-three times: where its counter is set, at its test, and where it is stepped. A jump stands at the end of the statement before it.
+BINARY is run as `extract` and `compile`, with --tune as `tune`, and for a netlist with a bank as
+`dual` with the part. Above stand the cells of the variables. Each statement has its line in the
+program, its tree's number and cost, and its words: their address, with a * where the image has a
+mark, the word in hexadecimal, and the wanted transfers, each in a line, with the numbers in the
+word's fields in place of the slices, and behind them the variable of a cell that is read or written
+at a number. A `for` stands three times: where its counter is set, at its test, and where it is
+stepped. A jump stands at the end of the statement before it.
 
-An assignment ends with the word that writes its variable, or behind that with the one that puts mode 0 back, a test with its branches. Where a step
-was packed ahead into a word of the statement before, it stands there. The last line has the sums.
+An assignment ends with the word that writes its variable, or behind that with the one that puts
+mode 0 back, a test with its branches. Where a step was packed ahead into a word of the statement
+before, it stands there. The last line has the sums.
 
-With --check nothing is written where LISTING is this listing; else what differs is, and the exit status is 1. It is also 1 where the program or
-the netlist is refused, and 2 where the words are none of these.
+With --check nothing is written where LISTING is this listing; else what differs is, and the exit
+status is 1. It is also 1 where the program or the netlist is refused, and 2 where the words are
+none of these.
 """
+from __future__ import annotations
+
+import dataclasses
 import difflib
 import pathlib
 import re
-import signal
-import subprocess
 import sys
+from collections.abc import Iterator
 
-WORD = re.compile(r'(?:\s|//[^\n]*)*(?:(?P<word>\w+|[=!<>]=|>>>|<<|>>|.)|$)', re.S)
+import command_line
+from rtn.calls import Program
+from rtn.images import Image, read_image
+from rtn.operators import bits, mask
+from rtn.patterns import read_patterns
+from rtn.reading import read_netlist
+from rtn.syntax import Array, Code, Memory, Register
+
+TOKEN = re.compile(r'(?:\s|//[^\n]*)*(?:(?P<word>\w+|[=!<>]=|>>>|<<|>>|.)|$)', re.S)
 
 
-class Fault(Exception):
-    """Why there is no listing."""
+@dataclasses.dataclass
+class Row:
+    """A word of the code: its address, its digits, and the texts of its wanted transfers."""
+
+    address: int
+    digits: str
+    texts: list[str]
 
 
+@dataclasses.dataclass
 class Statement:
-    """The part of a program that is one tree: its line, its text, and whether it is a test."""
+    """The part of a program that is one tree: its line, its text, and its words."""
 
-    def __init__(self, line, text, is_test):
-        self.line, self.text, self.is_test = line, text, is_test
-        self.rows = []
+    line: int
+    text: str
+    rows: list[Row] = dataclasses.field(default_factory=list)
 
 
-class Program:
-    """The statements of a program text in the order of their trees. The text is one that `compile` took."""
+class Source:
+    """The statements of a program text in the order of their trees. The text is one that `compile`
+    took."""
 
-    def __init__(self, text):
-        self.text, self.statements = text, []
-        self.words = [(found['word'], found.start('word')) for found in WORD.finditer(text) if found['word']]
+    def __init__(self, text: str):
+        self.text = text
+        self.statements: list[Statement] = []
+        self.words = [(found['word'], found.start('word'))
+                      for found in TOKEN.finditer(text) if found['word']]
         self.place = 0
-        while self.place < len(self.words) and self.words[self.place][0] == 'var':
+        while not self.is_at_end() and self.word == 'var':
             self.until(';')
-        while self.place < len(self.words):
+        while not self.is_at_end():
             self.statement()
 
-    def until(self, *ends):
-        """Passes one of these words, and gives the text before it."""
+    def is_at_end(self) -> bool:
+        return self.place == len(self.words)
+
+    @property
+    def word(self) -> str:
+        return self.words[self.place][0]
+
+    def until(self, end: str) -> str:
+        """Passes a word, and gives the text before it."""
         first = self.words[self.place][1]
-        while self.words[self.place][0] not in ends:
+        while self.word != end:
             self.place += 1
         self.place += 1
         return ' '.join(self.text[first:self.words[self.place - 1][1]].split())
 
-    def put(self, first, text, is_test=False):
-        self.statements.append(Statement(self.text.count('\n', 0, first) + 1, text, is_test))
+    def put(self, first: int, text: str) -> None:
+        self.statements.append(Statement(self.text.count('\n', 0, first) + 1, text))
 
-    def statement(self):
+    def statement(self) -> None:
         word, first = self.words[self.place]
         if word not in ('if', 'while', 'for'):
             return self.put(first, self.until(';') + ';')
         head = self.until('{')
         if word == 'for':
             self.put(first, f'{head}: start')
-        self.put(first, f'{head}: test' if word == 'for' else head, True)
+        self.put(first, f'{head}: test' if word == 'for' else head)
         self.block()
         if word == 'for':
             self.put(first, f'{head}: step')
-        if word == 'if' and self.words[self.place:] and self.words[self.place][0] == 'else':
+        if word == 'if' and not self.is_at_end() and self.word == 'else':
             self.until('{')
             self.block()
+        return None
 
-    def block(self):
-        while self.words[self.place][0] != '}':
+    def block(self) -> None:
+        while self.word != '}':
             self.statement()
         self.place += 1
 
 
 class Netlist:
-    """What `extract` says of a netlist: its transfers in each mode, and the names of its word, counter, memory and mode."""
+    """What `extract` says of a netlist: its transfers in each mode, and the names of its word,
+    counter, memory and mode."""
 
-    def __init__(self, text, patterns):
-        self.transfers = []
-        for line in patterns.splitlines()[:-1]:
-            if line.startswith('patterns '):
-                self.transfers.append([])
-            elif ' ; ' in line:
-                self.transfers[-1].append(line.split(' ', 1)[1].rsplit(' ; ', 1)[0])
-        self.code, self.counter = re.search(r'^\s*code\s+(\w+)[^;]*\bat\s+(\w+)', text, re.M).groups()
-        self.memory = re.search(r'^\s*memory\s+(\w+)', text, re.M)[1]
-        self.mode = (re.findall(r'^\s*mode\s+(\w+)', text, re.M) or [None])[0]
+    def __init__(self, text: str, patterns: str):
+        self.transfers = [[pattern.transfer for pattern in mode]
+                          for mode in read_patterns(patterns)]
+        items = read_netlist(text)
+        code = next(item for item in items if isinstance(item, Code))
+        self.code, self.counter = code.name, code.counter
+        self.memory = next(item.name for item in items
+                           if isinstance(item, Memory) and item.array == Array.MEMORY)
+        self.mode = next((item.name for item in items
+                          if isinstance(item, Register) and item.is_mode), None)
 
-    def shown(self, mode, number, word):
+    def shown(self, mode: int, number: int, word: int) -> str:
         """A transfer of a mode with the numbers that the word's fields have."""
-        def field(found):
-            high, low = map(int, found.groups())
-            return str(word >> low & (2 << high - low) - 1)
+        def field(found: re.Match) -> str:
+            return str(bits(word, *map(int, found.groups())))
+
+        def total(found: re.Match) -> str:
+            first, second, width = map(int, found.groups())
+            return str(first + second & mask(width))
 
         text = re.sub(rf'slice\({self.code},(\d+),(\d+)\)', field, self.transfers[mode][number])
         text = re.sub(r'zext\((\d+),\d+\)', r'\1', text)
-        text = re.sub(r'add\((\d+),(\d+)#(\d+)\)', lambda sum: str(int(sum[1]) + int(sum[2]) & (1 << int(sum[3])) - 1), text)
+        text = re.sub(r'add\((\d+),(\d+)#(\d+)\)', total, text)
         return re.sub(rf'\b{self.code}\b', str(word), text)
 
-    def is_turn(self, mode, number):
+    def is_turn(self, mode: int, number: int) -> bool:
+        """Whether a transfer sets the program counter."""
         return self.transfers[mode][number].startswith(f'{self.counter} := ')
 
-    def put_mode(self, text):
+    def put_mode(self, text: str) -> int | None:
         """The mode that a transfer puts, or None."""
         found = re.fullmatch(rf'{self.mode} := (\d+)(#\d+)?', text)
         return int(found[1]) if self.mode and found else None
 
-    def written(self, text):
-        """The cell that a transfer writes, None for a computed one, and nothing where it writes a register."""
+    def writes(self, text: str, least: int) -> bool:
+        """Whether a transfer writes a cell from the least on, or one that is computed."""
         found = re.match(rf'{self.memory}\[(.*)\] := ', text)
-        return (int(found[1].split('#')[0]) if re.fullmatch(r'\d+(#\d+)?', found[1]) else None,) if found else ()
+        if not found:
+            return False
+        is_number = re.fullmatch(r'\d+(#\d+)?', found[1])
+        return not is_number or int(found[1].split('#')[0]) >= least
+
+
+@dataclasses.dataclass
+class Spread:
+    """Where the words of an image are given to statements: the statement that is due, whether its
+    test has begun, whether that has turned, and the mode."""
+
+    now: int = 0
+    in_test: bool = False
+    has_turned: bool = False
+    mode: int = 0
+
+    def begin(self, mark: str | None, is_turn: bool) -> None:
+        """Goes on to a test at its mark, and to the statement behind a test's branches."""
+        if mark is not None and mark != 'end':
+            self.now, self.in_test, self.has_turned = int(mark), True, False
+        elif self.has_turned and not is_turn:
+            self.now, self.in_test, self.has_turned = self.now + 1, False, False
+        self.has_turned = self.in_test and is_turn
 
 
 class Listing:
     """The lines of an image below the statements of its program."""
 
-    def __init__(self, image, netlist, program):
-        self.netlist, self.statements = netlist, program.statements
-        self.bits, self.count = map(int, re.match(r'image (\d+) (\d+)', image).groups())
-        self.temps = int(re.search(r'^temps (\d+)$', image, re.M)[1])
-        self.places = [(name, int(at), int(length)) for name, at, length in re.findall(r'^place (\w+) (\d+) (\d+)$', image, re.M)]
-        self.costs = list(map(int, re.findall(r'^tree \d+ (\d+)$', image, re.M)))
-        self.marks = {int(at): label for at, label in re.findall(r'^mark (\d+) (\w+)$', image, re.M)}
-        words = re.findall(r'^word \d+ (\w+) (\S+)$', image, re.M)
-        self.words = [(word, [] if numbers == '-' else list(map(int, numbers.split(',')))) for word, numbers in words]
-        self.names = {at + k: f'{name}[{k}]' if length > 1 else name for name, at, length in self.places for k in range(length)}
-        self.end, self.turns = [], 0
+    def __init__(self, image: Image, netlist: Netlist, source: Source):
+        self.image, self.netlist, self.statements = image, netlist, source.statements
+        self.names, self.end, self.turns = image.cells(), [], 0
         self.spread()
 
-    def spread(self):
-        """Gives each word to its statement. A test goes from its mark to its branches, an assignment to the word that writes its variable."""
-        now, in_test, has_turned, mode = 0, False, False, 0
-        for at, (word, numbers) in enumerate(self.words):
-            texts = [self.netlist.shown(mode, number, int(word, 16)) for number in numbers]
-            is_turn = any(self.netlist.is_turn(mode, number) for number in numbers)
-            self.turns += is_turn
-            put = next((value for value in map(self.netlist.put_mode, texts) if value is not None), mode)
-            is_last = is_turn or put < mode
-            mode = put
-            mark = self.marks.get(at)
-            if mark is not None and mark != 'end':
-                now, in_test, has_turned = int(mark), True, False
-            elif has_turned and not is_turn:
-                now, in_test, has_turned = now + 1, False, False
-            has_turned = in_test and is_turn
-            rows = self.end if mark == 'end' else self.statements[now if in_test or not is_last else max(now - 1, 0)].rows
-            rows.append((at, word, texts))
-            if not in_test and any(cell is None or cell >= self.temps for text in texts for cell in self.netlist.written(text)):
-                now += 1
+    def spread(self) -> None:
+        """Gives each word to its statement.
 
-    def words_of(self, rows):
-        for at, word, texts in rows:
-            head = f'{"*" if at in self.marks else " "}{at:5}  {word}'
-            for text in texts or ['']:
+        A test goes from its mark to its branches, an assignment to the word that writes its
+        variable.
+        """
+        state = Spread()
+        for at, word in enumerate(self.image.words):
+            texts = [self.netlist.shown(state.mode, number, word.number)
+                     for number in word.patterns]
+            is_turn = any(self.netlist.is_turn(state.mode, number) for number in word.patterns)
+            self.turns += is_turn
+            mode = self.mode_after(state.mode, texts)
+            is_last = is_turn or mode < state.mode
+            state.mode = mode
+            mark = self.image.marks.get(at)
+            state.begin(mark, is_turn)
+            rows = self.end if mark == 'end' else self.rows_of(state, is_last)
+            rows.append(Row(at, word.digits, texts))
+            least = self.image.temporaries
+            if not state.in_test and any(self.netlist.writes(text, least) for text in texts):
+                state.now += 1
+
+    def mode_after(self, mode: int, texts: list[str]) -> int:
+        put = map(self.netlist.put_mode, texts)
+        return next((value for value in put if value is not None), mode)
+
+    def rows_of(self, state: Spread, is_last: bool) -> list[Row]:
+        """The words of the statement that a word is of; one that ends an assignment is of the one
+        before."""
+        is_behind = is_last and not state.in_test
+        return self.statements[max(state.now - 1, 0) if is_behind else state.now].rows
+
+    def words_of(self, rows: list[Row]) -> Iterator[str]:
+        for row in rows:
+            mark = '*' if row.address in self.image.marks else ' '
+            head = f'{mark}{row.address:5}  {row.digits}'
+            for text in row.texts or ['']:
                 cells = re.findall(rf'\b{self.netlist.memory}(?:\[|,)(\d+)[\])]', text)
                 names = ', '.join(self.names.get(int(cell), f'temporary {cell}') for cell in cells)
                 yield f'{head}  {text:44}  {names}'.rstrip()
                 head = ' ' * len(head)
 
-    def lines(self, title):
-        yield f'{title}: {self.count} words of {self.bits} bits'
-        yield ''
-        if self.temps:
-            yield f'cells {"0" if self.temps == 1 else f"0 to {self.temps - 1}"}: temporary'
-        for name, at, length in self.places:
-            yield f'cells {at} to {at + length - 1}: {name}' if length > 1 else f'cell {at}: {name}'
+    def lines(self, title: str) -> Iterator[str]:
+        image, count = self.image, len(self.image.words)
+        yield from [f'{title}: {count} words of {image.width} bits', '', *self.cells()]
         for number, statement in enumerate(self.statements):
-            count = len(statement.rows)
-            yield ''
-            yield f'line {statement.line}: {statement.text}'
-            yield f'tree {number}, cost {self.costs[number]}, {count} word{"s" * (count != 1)}'
+            words = len(statement.rows)
+            yield from ['', f'line {statement.line}: {statement.text}']
+            told = f'{words} word{"s" * (words != 1)}'
+            yield f'tree {number}, cost {image.costs[number]}, {told}'
             yield from self.words_of(statement.rows)
-        yield ''
-        yield 'end'
-        yield from self.words_of(self.end)
-        yield ''
-        yield f'{self.count - self.turns} words for {sum(self.costs)} steps, {self.turns} for jumps and branches, the end\'s among them'
+        yield from ['', 'end', *self.words_of(self.end), '']
+        yield (f'{count - self.turns} words for {sum(image.costs)} steps, '
+               f"{self.turns} for jumps and branches, the end's among them")
+
+    def cells(self) -> Iterator[str]:
+        """What stands in which cells."""
+        last = self.image.temporaries - 1
+        if last >= 0:
+            yield f'cells {"0" if last == 0 else f"0 to {last}"}: temporary'
+        for place in self.image.places:
+            if place.length > 1:
+                yield f'cells {place.address} to {place.address + place.length - 1}: {place.name}'
+            else:
+                yield f'cell {place.address}: {place.name}'
 
 
-def listed(binary, netlist, source, part=None, word='compile'):
-    """The listing of a program on a netlist, which has a bank where there is a part, as a text."""
-    texts = []
-    for words in (('extract', netlist), ('dual', netlist, source, part) if part else (word, netlist, source)):
-        run = subprocess.run([binary, *map(str, words)], capture_output=True, text=True)
-        if run.returncode:
-            raise Fault(run.stdout.strip() or run.stderr.strip())
-        texts.append(run.stdout)
-    program = Program(pathlib.Path(source).read_text(errors='replace'))
-    listing = Listing(texts[1], Netlist(pathlib.Path(netlist).read_text(errors='replace'), texts[0]), program)
-    return '\n'.join(listing.lines(f'{pathlib.Path(source).name} on {pathlib.Path(netlist).name}')) + '\n'
+def listed(record: Program, netlist: pathlib.Path, source: pathlib.Path,
+           part: pathlib.Path | None = None, word: str = 'compile') -> str:
+    """The listing of a program on a netlist, which has a bank where there is a part, as a text; a
+    Fault where one is refused."""
+    patterns = record.done('extract', netlist)
+    image = record.done('dual', netlist, source, part) if part else (
+        record.done(word, netlist, source))
+    listing = Listing(read_image(image), Netlist(netlist.read_text(errors='replace'), patterns),
+                      Source(source.read_text(errors='replace')))
+    return '\n'.join(listing.lines(f'{source.name} on {netlist.name}')) + '\n'
 
 
 def main():
-    words, checked = sys.argv[1:], None
-    word = 'tune' if '--tune' in words else 'compile'
-    words = [other for other in words if other != '--tune']
-    if words[-2:-1] == ['--check']:
-        checked = words.pop()
-        words.pop()
-    if len(words) not in (3, 4) or '--check' in words:
-        print(__doc__, file=sys.stderr)
-        sys.exit(2)
-    try:
-        text = listed(pathlib.Path(words[0]).resolve(), *words[1:], word=word)
-        if checked is None:
-            sys.stdout.write(text)
-            return
-        kept = pathlib.Path(checked).read_text()
-    except (Fault, OSError) as fault:
-        print(f'listing: {fault}', file=sys.stderr)
-        sys.exit(1)
-    sys.stdout.writelines(difflib.unified_diff(kept.splitlines(True), text.splitlines(True), checked, 'as it is now'))
-    sys.exit(text != kept)
+    words = command_line.Parser(__doc__)
+    words.add_program()
+    words.add_argument('--tune', action='store_true')
+    words.add_argument('--check', metavar='LISTING')
+    words.add_argument('netlist', metavar='NET.rtn', type=pathlib.Path)
+    words.add_argument('source', metavar='PROGRAM.src', type=pathlib.Path)
+    words.add_argument('part', metavar='PROGRAM.part', type=pathlib.Path, nargs='?')
+    given = words.words()
+    word = 'tune' if given.tune else 'compile'
+    text = listed(given.binary, given.netlist, given.source, given.part, word)
+    if given.check is None:
+        sys.stdout.write(text)
+        return 0
+    kept = pathlib.Path(given.check).read_text().splitlines(True)
+    lines = text.splitlines(True)
+    sys.stdout.writelines(difflib.unified_diff(kept, lines, given.check, 'as it is now'))
+    return int(kept != lines)
 
 
 if __name__ == '__main__':
-    signal.signal(signal.SIGPIPE, signal.SIG_DFL)
-    main()
+    command_line.run(main, refused=1)

@@ -1,43 +1,57 @@
 #!/usr/bin/env python3
-"""Writes the parts of the pages that are made from the sources, or looks whether they are up to date.
+"""Writes the parts of the pages that are made from the sources, or looks whether they are up to
+date.
 
 Usage: pages.py [--check]
 
-A part stands in its page between the lines `<!-- pages.py: PART -->` and `<!-- pages.py: end -->`; what stands outside them is written by hand. The parts are
+A part stands in its page between the lines `<!-- pages.py: PART -->` and `<!-- pages.py: end -->`;
+what stands outside them is written by hand. The parts are
 
-    crates       of docs/ARCHITECTURE.md: the crates, what each stands on, and the first sentence of its guide
-    reading      of docs/ARCHITECTURE.md: the files of definitions that the promise of the top call rests on
-    tools        of docs/ARCHITECTURE.md: the tools, and the first sentence of what each says of itself
-    promises     of docs/PROMISES.md: each public function with a contract, crate by crate, and the promise that the crate's guide makes
-    definitions  of docs/DEFINITIONS.md: each file of definitions with its head, and its public names with the remarks before them
-    planted      of docs/PLANTED.md: the edits that must fail and the number of planted bugs of each crate
+    crates       of docs/ARCHITECTURE.md: the crates, what each stands on, and the first sentence of
+                 its guide
+    reading      of docs/ARCHITECTURE.md: the files of definitions that the promise of the top call
+                 rests on
+    tools        of docs/ARCHITECTURE.md: the tools and their packages, and the first sentence of
+                 what each says of itself
+    promises     of docs/PROMISES.md: each public function with a contract, crate by crate, and the
+                 promise that the crate's guide makes
+    definitions  of docs/DEFINITIONS.md: each file of definitions with its head, and its public
+                 names with the remarks before them
+    planted      of docs/PLANTED.md: the edits that must fail and the number of planted bugs of each
+                 crate
 
-A guide is the remark at the head of a crate's root file. With --check nothing is written: a page that would change is named with the first line that
-differs, and so is each path or heading that a page names and that doesn't exist; the exit status is 1 where there is one of either.
+A guide is the remark at the head of a crate's root file. With --check nothing is written: a page
+that would change is named with the first line that differs, and so is each path or heading that a
+page names and that doesn't exist; the exit status is 1 where there is one of either.
 """
 import ast
-import pathlib
 import re
-import sys
 import textwrap
 
-from definitions import CRATES, HEAD, TOP, WORD, closure, definitions, imports, public_functions, resolved
+import command_line
+from definitions import (CRATES, HEAD, TOP, WORD, closure, definitions, imports, public_functions,
+                         resolved)
 from plant import bugs_of
 from reading import starts
+from rtn.reading import Fault
 
 WIDTH = 100
+PROMISE = "Promise: "
 END = "<!-- pages.py: end -->"
 
 
 def wrapped(text, first="", rest=""):
     """A paragraph in lines of at most WIDTH columns, which end in no short piece of code."""
-    text = re.sub(r"`[^`]{1,64}`", lambda code: code.group(0).replace(" ", "\0"), " ".join(text.split()))
-    lines = textwrap.fill(text, WIDTH, initial_indent=first, subsequent_indent=rest, break_long_words=False, break_on_hyphens=False)
+    text = " ".join(text.split())
+    text = re.sub(r"`[^`]{1,64}`", lambda code: code.group(0).replace(" ", "\0"), text)
+    lines = textwrap.fill(text, WIDTH, initial_indent=first, subsequent_indent=rest,
+                          break_long_words=False, break_on_hyphens=False)
     return lines.replace("\0", " ")
 
 
 def listed():
-    """The crates of crates.txt in their order, each with the crates that it names, and the heads of the layers as None and a text.
+    """The crates of crates.txt in their order, each with the crates that it names, and the heads of
+    the layers as None and a text.
 
     A head stands right above a crate; a remark is followed by an empty line."""
     lines = (TOP / "crates.txt").read_text().splitlines()
@@ -62,8 +76,9 @@ def root_of(crate):
 
 def guide(crate):
     """The paragraphs of a crate's guide."""
-    lines = [re.sub(r"^//! ?", "", line) for line in root_of(crate).read_text().splitlines() if line.startswith("//!")]
-    return "\n".join(lines).split("\n\n")
+    lines = root_of(crate).read_text().splitlines()
+    told = [re.sub(r"^//! ?", "", line) for line in lines if line.startswith("//!")]
+    return "\n".join(told).split("\n\n")
 
 
 def first_sentence(text):
@@ -113,22 +128,41 @@ def reading_part():
     yield wrapped(f"These are {lines:,} lines of {len(found):,} definitions in {len(files)} files:")
     yield "\n| crate | files of `specs/` |\n|---|---|"
     order = crate_names()
-    for crate in sorted({crate for crate, _ in files}, key=lambda name: (name != "record_core", order.index(name))):
-        yield f"| `{crate}` | {', '.join(sorted(f'`{file}`' for name, file in files if name == crate))} |"
+
+    def rank(crate):
+        return crate != "record_core", order.index(crate)
+
+    for crate in sorted({crate for crate, _ in files}, key=rank):
+        named = sorted(f"`{file}`" for name, file in files if name == crate)
+        yield f"| `{crate}` | {', '.join(named)} |"
 
 
 def tools_part():
-    """The table of the tools."""
+    """The table of the tools, and of the modules of their packages but the tests'."""
+    tools = TOP / "tools"
     yield "| tool | what it does |\n|---|---|"
-    for path in sorted((TOP / "tools").glob("*.py")):
-        told = first_sentence(ast.get_docstring(ast.parse(path.read_text())).split("\n\n")[0])
-        yield f"| `{path.name}` | {told} |"
+    for path in sorted(path for path in tools.iterdir() if path.is_file()):
+        yield f"| `{path.name}` | {said_of_itself(path)} |"
+    for package in sorted(path.parent for path in tools.glob("*/__init__.py")):
+        yield f"| **`{package.name}/`** | {said_of_itself(package / '__init__.py')} |"
+        for path in sorted(package.rglob("*.py")):
+            if path.name != "__init__.py" and package.name != "tests":
+                yield f"| `{path.relative_to(tools)}` | {said_of_itself(path)} |"
+
+
+def said_of_itself(path):
+    """The first sentence of what a file of Python says of itself."""
+    told = ast.get_docstring(ast.parse(path.read_text()))
+    if not told:
+        raise Fault(f"{path.relative_to(TOP)} says nothing of itself")
+    return first_sentence(told.split("\n\n")[0])
 
 
 # ---- the promises
 
 def remark_before(text, start, mark):
-    """The lines of a remark that end right before a place of a text; attributes may stand between."""
+    """The lines of a remark that end right before a place of a text; attributes may stand
+    between."""
     found = []
     for line in reversed(text[:start].splitlines()):
         line = line.strip()
@@ -140,17 +174,20 @@ def remark_before(text, start, mark):
 
 
 def owner_of(block):
-    """The type or trait of a block's line, followed by two colons; nothing where there is no block."""
+    """The type or trait of a block's line, followed by two colons; nothing where there is no
+    block."""
     while re.search(r"<[^<>]*>", block):
         block = re.sub(r"<[^<>]*>", "", block)
-    words = WORD.findall(re.sub(r"\b(pub|impl|trait)\b", "", block.split(" for ")[-1].split(" where ")[0].split(":")[0]))
+    owner = block.split(" for ")[-1].split(" where ")[0].split(":")[0]
+    words = WORD.findall(re.sub(r"\b(pub|impl|trait)\b", "", owner))
     return f"{words[-1]}::" if words else ""
 
 
 def contract(head):
     """The clauses of a function's head as they stand there, with the remarks between them."""
     lines = head.rstrip().splitlines()
-    at = next((k for k, line in enumerate(lines) if re.match(r"\s+(requires|ensures)\b", line)), None)
+    is_clause = re.compile(r"\s+(requires|ensures)\b").match
+    at = next((k for k, line in enumerate(lines) if is_clause(line)), None)
     if at is None or not any(re.match(r"\s+ensures\b", line) for line in lines):
         return []
     while lines[at - 1].strip().startswith("//"):
@@ -161,13 +198,16 @@ def contract(head):
 def said_by(clauses, text):
     """A sentence that names the definitions of the clauses with their files."""
     bound, files = imports(text), {}
-    for word in WORD.findall("\n".join(line for line in clauses if not line.strip().startswith("//"))):
+    code = "\n".join(line for line in clauses if not line.strip().startswith("//"))
+    for word in WORD.findall(code):
         found = resolved(*bound[word]) if word in bound else None
         if found:
             crate, file, name = found
             names = files.setdefault(f"crates/{crate}/specs/{file}.antt", [])
             names += [] if name in names else [name]
-    return "Said by " + "; ".join(", ".join(f"`{name}`" for name in names) + f" in `{path}`" for path, names in files.items()) + "." if files else ""
+    told = (", ".join(f"`{name}`" for name in names) + f" in `{path}`"
+            for path, names in files.items())
+    return f"Said by {'; '.join(told)}." if files else ""
 
 
 def promises_of(crate):
@@ -178,7 +218,8 @@ def promises_of(crate):
             continue
         told = first_sentence(remark_before(text, start, "///").split("\n\n")[0])
         yield ""
-        yield wrapped(f"`{owner_of(block)}{name}` in `{file.relative_to(TOP)}`" + (f": {told}" if told else "."))
+        where = f"`{owner_of(block)}{name}` in `{file.relative_to(TOP)}`"
+        yield wrapped(f"{where}: {told}" if told else f"{where}.")
         yield ""
         yield "```text"
         yield from clauses
@@ -190,19 +231,22 @@ def promises_of(crate):
 
 
 def section(crate):
-    """What a crate promises by its guide, and its functions; nothing where it promises safety and an end alone."""
-    promise = next((text for text in guide(crate) if text.startswith("Promise: ")), None)
+    """What a crate promises by its guide, and its functions; nothing where it promises safety and
+    an end alone."""
+    promise = next((text for text in guide(crate) if text.startswith(PROMISE)), None)
     told = list(promises_of(crate))
     if promise or told:
         yield f"\n## `{crate}`\n"
-        yield wrapped(capital(promise[len("Promise: "):]) if promise else "It promises safety and an end.")
+        safety = "It promises safety and an end."
+        yield wrapped(capital(promise.removeprefix(PROMISE)) if promise else safety)
         yield from told
 
 
 def promises_part():
     """The names of the crates as links, and what they promise."""
     sections = {crate: list(section(crate)) for crate in crate_names()}
-    yield wrapped(", ".join(f"[{crate}](#{crate})" for crate, lines in sections.items() if lines) + ".")
+    links = (f"[{crate}](#{crate})" for crate, lines in sections.items() if lines)
+    yield wrapped(", ".join(links) + ".")
     for lines in sections.values():
         yield from lines
 
@@ -246,7 +290,8 @@ def definitions_of(crate):
         head = head_remark(lines)
         yield ""
         yield wrapped(f"`{path.stem}`: {head}")
-        names = [] if path.stem.startswith("Worked") else list(public_names(lines[len(head_lines(lines)):]))
+        is_worked = path.stem.startswith("Worked")
+        names = [] if is_worked else list(public_names(lines[len(head_lines(lines)):]))
         told = [(name, remark) for name, remark in names if remark]
         bare = [f"`{name}`" for name, remark in names if not remark]
         yield from [""] if names else []
@@ -300,7 +345,7 @@ def made(text, part, lines):
     """A page with these lines as its part."""
     begin = f"<!-- pages.py: {part} -->"
     if text.count(begin) != 1 or END not in text[text.index(begin):]:
-        sys.exit(f"a page has no place for {part}")
+        raise Fault(f"a page has no place for {part}")
     before, rest = text.split(begin)
     return before + begin + "\n" + "\n".join(lines).strip("\n") + "\n" + rest[rest.index(END):]
 
@@ -308,16 +353,21 @@ def made(text, part, lines):
 def first_difference(old, new):
     """The first line of a page that is another one, or isn't there, with what it has to be."""
     old, new = old.splitlines(), new.splitlines()
-    at = next((k for k, pair in enumerate(zip(old, new)) if pair[0] != pair[1]), min(len(old), len(new)))
-    return f"line {at + 1} is {old[at] if at < len(old) else 'not there'!r} in place of {new[at] if at < len(new) else 'nothing'!r}"
+    both = enumerate(zip(old, new))
+    at = next((k for k, pair in both if pair[0] != pair[1]), min(len(old), len(new)))
+    there = old[at] if at < len(old) else "not there"
+    due = new[at] if at < len(new) else "nothing"
+    return f"line {at + 1} is {there!r} in place of {due!r}"
 
 
 def named_paths(text):
-    """The paths below the top that a page names; NAME in one stands for any. `CRATE/specs/FILE` is below crates/, and so is `CRATE/proofs/FILE`."""
+    """The paths below the top that a page names; NAME in one stands for any. `CRATE/specs/FILE` is
+    below crates/, and so is `CRATE/proofs/FILE`."""
     text = re.sub(r"(?ms)^```.*?^```", "", text)
     named = re.findall(r"`((?:crates|docs|tools|examples)/[\w./-]+)`", text)
     named += re.findall(r"\b((?:docs|tools|examples)/[\w/-]+\.(?:md|py|rtn|src))\b", text)
-    named += [f"crates/{name}.antt" for name in re.findall(r"`([a-z_]+/(?:specs|proofs)/[\w/]+)`", text)]
+    proved = re.findall(r"`([a-z_]+/(?:specs|proofs)/[\w/]+)`", text)
+    named += [f"crates/{name}.antt" for name in proved]
     return [name for name in named if "NAME" not in name]
 
 
@@ -339,13 +389,14 @@ def absent(path):
 
 def pages():
     """All pages that somebody reads."""
-    return [TOP / "README.md", TOP / "CHANGELOG.md", *sorted((TOP / "docs").glob("*.md")), TOP / "examples" / "README.md"]
+    docs = sorted((TOP / "docs").glob("*.md"))
+    return [TOP / "README.md", TOP / "CHANGELOG.md", *docs, TOP / "examples" / "README.md"]
 
 
 def main():
-    if sys.argv[1:] not in ([], ["--check"]):
-        sys.exit(__doc__)
-    is_check, wrong = sys.argv[1:] == ["--check"], 0
+    words = command_line.Parser(__doc__)
+    words.add_argument("--check", action="store_true")
+    is_check, wrong = words.words().check, 0
     for name, parts in PARTS.items():
         old = new = (TOP / name).read_text()
         for part, lines in parts.items():
@@ -359,8 +410,8 @@ def main():
         for name in sorted(set(absent(path))):
             wrong += 1
             print(f"{path.relative_to(TOP)} names {name}, which isn't there")
-    sys.exit(1 if wrong else 0)
+    return 1 if wrong else 0
 
 
 if __name__ == "__main__":
-    main()
+    command_line.run(main)

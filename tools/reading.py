@@ -1,24 +1,29 @@
 #!/usr/bin/env python3
-"""Prints what has to be read to believe a clause of the top call: the definitions that it cites, and those that they cite, with their lines.
+"""Prints what has to be read to believe a clause of the top call: the definitions that it cites,
+and those that they cite, with their lines.
 
 Usage: reading.py [CLAUSE | FILE..]
 
-CLAUSE is a clause of `record_call` in crates/record_core/src/call.rt, `wrote` where nothing is given. Where files of specs/ are given, it starts from all
-of their definitions. For each file it prints how many of its lines are of these definitions, with the remarks above them, and how many lines it has. The
-definitions of the standard library are not among them.
+CLAUSE is a clause of `record_call` in crates/record_core/src/call.rt, `wrote` where nothing is
+given. Where files of specs/ are given, it starts from all of their definitions. For each file it
+prints how many of its lines are of these definitions, with the remarks above them, and how many
+lines it has. The definitions of the standard library are not among them.
 
-The types of the code that these files name, `use Rattle.CRATE.specs.declared.FILE.TYPE`, are declared in crates/CRATE/src/FILE.rt, or in the crate's
-root file; these files are named behind the sum, and their lines, most of which are code, are not counted.
+The types of the code that these files name, `use Rattle.CRATE.specs.declared.FILE.TYPE`, are
+declared in crates/CRATE/src/FILE.rt, or in the crate's root file; these files are named behind the
+sum, and their lines, most of which are code, are not counted.
 """
 import collections
 import pathlib
 import re
-import sys
 
+import command_line
 from definitions import CRATES, TOP, cited_in, closure, definitions, imports
+from rtn.reading import Fault
 
 CALL = CRATES / "record_core" / "src" / "call.rt"
-DECLARED = re.compile(r"(?m)^use Rattle\.(\w+)\.specs\.(?:declared|contracts)\.(\w+)[\w.]*\.\{([^}]*)\}")
+DECLARED = re.compile(r"(?m)^use Rattle\.(\w+)\.specs\.(?:declared|contracts)\.(\w+)[\w.]*"
+                      r"\.\{([^}]*)\}")
 
 
 def clause_of(text, name):
@@ -26,21 +31,31 @@ def clause_of(text, name):
     head = text[text.index("pub fn record_call"):]
     found = re.search(rf"(?s)ensures {name} \{{(.*?)\}}\n", head)
     if not found:
-        sys.exit(f"record_call has no clause {name}")
+        raise Fault(f"record_call has no clause {name}")
     return found.group(1)
 
 
 def starts(words):
     """The definitions of the files that are given, or those that the clause names."""
     if words and "/" in words[0]:
-        files = [pathlib.Path(word).resolve().relative_to(CRATES).with_suffix("").parts for word in words]
-        return [(crate, "/".join(path), name) for crate, _, *path in files for file, name in definitions(crate)[0] if file == "/".join(path)]
+        return [(crate, file, name) for crate, file in map(file_of, words)
+                for other, name in definitions(crate)[0] if other == file]
     text = CALL.read_text()
     return cited_in(clause_of(text, words[0] if words else "wrote"), imports(text))
 
 
+def file_of(word):
+    """The crate and the file below specs/ of a path."""
+    path = pathlib.Path(word).resolve()
+    if not path.is_relative_to(CRATES) or not path.is_file():
+        raise Fault(f"{word} is no file of specs/")
+    crate, _, *file = path.relative_to(CRATES).with_suffix("").parts
+    return crate, "/".join(file)
+
+
 def source_of(crate, module):
-    """The file that declares a type, whose path has its module, unless it stands in the root file."""
+    """The file that declares a type, whose path has its module, unless it stands in the root
+    file."""
     file = CRATES / crate / "src" / f"{module}.rt"
     return file if file.exists() else CRATES / crate / "src" / "lib.rt"
 
@@ -50,15 +65,19 @@ def types_of(found):
     sources = set()
     for crate, file, name in found:
         text = "\n".join(definitions(crate)[0][(file, name)])
-        for other, module, names in DECLARED.findall((CRATES / crate / "specs" / f"{file}.antt").read_text()):
+        told = (CRATES / crate / "specs" / f"{file}.antt").read_text()
+        for other, module, names in DECLARED.findall(told):
             own = [part.split(" as ")[-1].strip() for part in names.split(",")]
-            if (CRATES / other).is_dir() and any(re.search(rf"\b{re.escape(word)}\b", text) for word in own):
+            is_named = any(re.search(rf"\b{re.escape(word)}\b", text) for word in own)
+            if (CRATES / other).is_dir() and is_named:
                 sources.add(source_of(other, module))
     return sources
 
 
 def main():
-    found = closure(starts(sys.argv[1:]))
+    words = command_line.Parser(__doc__)
+    words.add_argument("start", nargs="*")
+    found = closure(starts(words.words().start))
     lines = collections.Counter()
     for crate, file, name in found:
         lines[(crate, file)] += len(definitions(crate)[0][(file, name)])
@@ -73,4 +92,4 @@ def main():
 
 
 if __name__ == "__main__":
-    main()
+    command_line.run(main)

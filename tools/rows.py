@@ -1,10 +1,13 @@
 #!/usr/bin/env python3
 """Writes the files `stdin` and `stdout` of crates/record_rows, which the gate reads, from rows/.
 
-    tools/rows.py                  writes them
-    tools/rows.py --check          names the first line in which they are stale; exit status 1
-    tools/rows.py --fill BINARY    runs BINARY, the program of record_rows, on each row that has no
-                                   answer, and puts what it prints below the row; look at it
+Usage: rows.py
+       rows.py --check
+       rows.py --fill BINARY
+
+With --check nothing is written: the first line in which the files are stale is named, and the exit
+status is 1. With --fill BINARY, the program of record_rows, is run on each row that has no answer,
+and what it prints is put below the row; look at it.
 
 The files rows/NN_TOPIC.rows go into the two in the order of their names. A row with its answer is a
 paragraph: empty lines part them, and a line that begins with `#` is a remark.
@@ -38,8 +41,9 @@ The lines of the answer stand behind those of the row, each behind four spaces. 
 """
 import itertools
 import pathlib
-import subprocess
-import sys
+
+import command_line
+from rtn.reading import Fault
 
 TOP = pathlib.Path(__file__).resolve().parent.parent
 CRATE = TOP / 'crates' / 'record_rows'
@@ -47,10 +51,6 @@ INDENT = '    '
 
 # The kinds of rows whose answers begin with the row's first line and end with an empty one.
 HEADED = ('row', 'program')
-
-
-class Fault(Exception):
-    """Why a row can't be written."""
 
 
 def cited(words):
@@ -74,7 +74,8 @@ def parted(line):
     """A line, or the two that it stands for: a file's name, and what stands behind it."""
     key, _, rest = line.partition(' ')
     name, _, behind = rest.partition(' ')
-    return [f'file {name}', behind] if key == 'file' and behind.split(' ')[0] in ('=', '|', '+') else [line]
+    is_both = key == 'file' and behind.split(' ')[0] in ('=', '|', '+')
+    return [f'file {name}', behind] if is_both else [line]
 
 
 class Row:
@@ -107,7 +108,8 @@ class Row:
                 lines[base[int(at) - 1]] = f'{lines[base[int(at) - 1]][0]} {text}'
             elif key == 'each':
                 first, last, text = rest.split(' ', 2)
-                lines += [text.replace('@-', str(k - 1)).replace('@', str(k)) for k in range(int(first), int(last) + 1)]
+                lines += [text.replace('@-', str(k - 1)).replace('@', str(k))
+                          for k in range(int(first), int(last) + 1)]
             else:
                 lines.append(f'{key} {rest}')
         return [*lines, 'run']
@@ -118,10 +120,10 @@ class Row:
 
     def fill(self, binary):
         """Takes for its answer what the program prints of it."""
-        ran = subprocess.run([binary], input=''.join(f'{line}\n' for line in asked_of(self)).encode(), capture_output=True)
-        if ran.returncode:
-            raise Fault(f'{self.place}: {ran.stderr.decode().strip()}')
-        lines = ran.stdout.decode().split('\n')[:-1]
+        answer = binary(given=''.join(f'{line}\n' for line in asked_of(self)))
+        if answer.status:
+            raise Fault(f'{self.place}: {answer.errors.strip()}')
+        lines = answer.text.split('\n')[:-1]
         self.answer = lines[1:-1] if self.is_headed else lines
 
 
@@ -140,7 +142,8 @@ def lines_of(path):
 
 def rows_of(path):
     """The rows of a file."""
-    lines = [(number, line) for number, line in enumerate(lines_of(path), 1) if not line.startswith('#')]
+    lines = [(number, line) for number, line in enumerate(lines_of(path), 1)
+             if not line.startswith('#')]
     for is_row, found in itertools.groupby(lines, lambda pair: pair[1] != ''):
         if is_row:
             yield Row(path, *zip(*found))
@@ -148,11 +151,14 @@ def rows_of(path):
 
 def stale(file, rows, texts):
     """The first line of a file that isn't what the rows say, with the row's place."""
-    wanted = [(row.place, line) for row, lines in zip(rows, texts) for line in lines] + [('the end of rows/', '')]
+    wanted = [(row.place, line) for row, lines in zip(rows, texts) for line in lines]
+    wanted.append(('the end of rows/', ''))
     for number, (there, want) in enumerate(itertools.zip_longest(lines_of(file), wanted), 1):
         place, line = want or wanted[-1]
         if not want or there != line:
-            return f'{file.relative_to(TOP)}:{number} is stale: there stands {"nothing" if there is None else repr(there)}, but by {place} {line!r}'
+            seen = 'nothing' if there is None else repr(there)
+            return (f'{file.relative_to(TOP)}:{number} is stale: there stands {seen}, '
+                    f'but by {place} {line!r}')
     return None
 
 
@@ -165,28 +171,39 @@ def fill(rows, binary):
         row.path.write_bytes('\n'.join(lines).encode())
 
 
-def run(words):
-    """Does what the words ask for, and gives what is to be said."""
-    rows = [row for path in sorted((TOP / 'rows').glob('*.rows')) for row in rows_of(path)]
-    if words[:1] == ['--fill']:
-        return fill(rows, pathlib.Path(words[1]).resolve())
-    texts = {CRATE / 'stdin': [asked_of(row) for row in rows], CRATE / 'stdout': [row.answered() for row in rows]}
-    if words:
-        return next(filter(None, (stale(file, rows, lines) for file, lines in texts.items())), None)
+def texts_of(rows):
+    """Both files, each with the lines of each row."""
+    return {CRATE / 'stdin': [asked_of(row) for row in rows],
+            CRATE / 'stdout': [row.answered() for row in rows]}
+
+
+def write(texts):
+    """Writes both files."""
     for file, lines in texts.items():
-        file.write_bytes(''.join(f'{line}\n' for line in itertools.chain.from_iterable(lines)).encode())
-    return None
+        text = ''.join(f'{line}\n' for line in itertools.chain.from_iterable(lines))
+        file.write_bytes(text.encode())
+
+
+def check(rows, texts):
+    """Names the first stale line; the exit status."""
+    found = next(filter(None, (stale(file, rows, lines) for file, lines in texts.items())), None)
+    if found:
+        print(found)
+    return 1 if found else 0
 
 
 def main():
-    words = sys.argv[1:]
-    if words not in ([], ['--check']) and not (len(words) == 2 and words[0] == '--fill'):
-        sys.exit(__doc__)
-    try:
-        sys.exit(run(words))
-    except (Fault, OSError, ValueError) as fault:
-        sys.exit(str(fault))
+    words = command_line.Parser(__doc__)
+    ways = words.add_mutually_exclusive_group()
+    ways.add_argument('--check', action='store_true')
+    ways.add_argument('--fill', metavar='BINARY', type=command_line.program)
+    given = words.words()
+    rows = [row for path in sorted((TOP / 'rows').glob('*.rows')) for row in rows_of(path)]
+    if given.fill:
+        return fill(rows, given.fill)
+    texts = texts_of(rows)
+    return check(rows, texts) if given.check else write(texts)
 
 
 if __name__ == '__main__':
-    main()
+    command_line.run(main)

@@ -1,17 +1,20 @@
 #!/usr/bin/env python3
-"""Lets each request for memory of `record` fail in turn: the first alone, then the second alone, and so on to the last.
+"""Lets each request for memory of `record` fail in turn: the first alone, then the second alone,
+and so on to the last.
 
 Usage: short_memory.py BINARY
 
-Needs a C compiler, for a library that is loaded before the C library and counts the requests. On all forms of words
-each run has to end with status 11 and `error memory`, or nothing, and with nothing before it, or with what the whole run answers. Those that
-say nothing are counted.
+Needs a C compiler, for a library that is loaded before the C library and counts the requests. On
+all forms of words each run has to end with status 11 and `error memory`, or nothing, and with
+nothing before it, or with what the whole run answers. Those that say nothing are counted.
 """
-import os
 import pathlib
 import subprocess
-import sys
 import tempfile
+
+import command_line
+from rtn.calls import Answer, Program
+from rtn.runs import EXAMPLES
 
 SHIM = r'''
 #define _GNU_SOURCE
@@ -32,7 +35,9 @@ static void tell(void) {
     if (file) unlink(file);
 }
 
-#define REAL(name, type, ...) static type (*real)(__VA_ARGS__); if (!real) real = dlsym(RTLD_NEXT, name)
+#define REAL(name, type, ...) \
+    static type (*real)(__VA_ARGS__); \
+    if (!real) real = dlsym(RTLD_NEXT, name)
 
 void *malloc(size_t size) {
     REAL("malloc", void *, size_t);
@@ -58,40 +63,60 @@ void *aligned_alloc(size_t align, size_t size) {
     return real(align, size);
 }
 '''
-CALLS = [
-    ['compile', 's8.rtn', 'two.src'], ['compile', 'a16.rtn', 'count.src'], ['compile', 'wide.rtn', 'levels.src'],
-    ['run', 'a16.rtn', 'sum.img', 'sum.mem', '4'], ['extract', 'a16.rtn'], ['extract', 'dsp.rtn'],
-    ['go', 'a16.rtn', 'count.src', 'sum.mem', '100'], ['make', '1'],
-    ['dual', 'both.rtn', 'add.src', 'add.part'], ['asm', 'pair.rtn', 'add.pair.hand.asm'], ['dis', 'a16.rtn', 'sum.img'],
-]
+CALLS = (
+    'compile s8.rtn two.src', 'compile a16.rtn count.src', 'compile wide.rtn levels.src',
+    'run a16.rtn sum.img sum.mem 4', 'extract a16.rtn', 'extract dsp.rtn',
+    'go a16.rtn count.src sum.mem 100', 'make 1', 'dual both.rtn add.src add.part',
+    'asm pair.rtn add.pair.hand.asm', 'dis a16.rtn sum.img',
+)
+NO_MEMORY = 11
+
+
+class Short:
+    """A program whose requests for memory fail one at a time."""
+
+    def __init__(self, record: Program, folder: pathlib.Path):
+        self.record, self.mark, self.library = record, folder / 'mark', folder / 'shim.so'
+        source = folder / 'shim.c'
+        source.write_text(SHIM)
+        subprocess.run(['cc', '-shared', '-fPIC', '-o', self.library, source, '-ldl'], check=True)
+
+    def call(self, words: list[str], number: int) -> Answer | None:
+        """How a call ends whose request with this number fails; None where it has no such one."""
+        self.mark.write_text('')
+        failing = {'LD_PRELOAD': str(self.library), 'FAILS_AT': str(number),
+                   'FAILED_FILE': str(self.mark)}
+        answer = self.record(*words, folder=EXAMPLES, environment=failing)
+        return None if self.mark.exists() else answer
+
+
+def is_right(answer: Answer, whole: Answer) -> bool:
+    """Whether a call whose memory was short says so, or nothing, or what the whole call does."""
+    if answer.status == NO_MEMORY and answer.text in ('', 'error memory\n'):
+        return True
+    return (answer.status, answer.text) == (whole.status, whole.text)
 
 
 def main():
-    binary = pathlib.Path(sys.argv[1]).resolve()
-    examples = pathlib.Path(__file__).resolve().parent.parent / 'examples'
+    words = command_line.Parser(__doc__)
+    words.add_program()
+    record = words.words().binary
     wrong = silent = 0
     with tempfile.TemporaryDirectory() as folder:
-        folder = pathlib.Path(folder)
-        (folder / 'shim.c').write_text(SHIM)
-        subprocess.run(['cc', '-shared', '-fPIC', '-o', folder / 'shim.so', folder / 'shim.c', '-ldl'], check=True)
-        mark = folder / 'mark'
+        short = Short(record, pathlib.Path(folder))
         for call in CALLS:
-            whole = subprocess.run([binary, *call], cwd=examples, capture_output=True)
-            number = 0
-            while True:
-                number += 1
-                mark.write_text('')
-                env = {**os.environ, 'LD_PRELOAD': str(folder / 'shim.so'), 'FAILS_AT': str(number), 'FAILED_FILE': str(mark)}
-                run = subprocess.run([binary, *call], cwd=examples, capture_output=True, env=env)
-                if mark.exists():
-                    break
-                silent += run.returncode == 11 and run.stdout == b''
-                if not (run.returncode == 11 and run.stdout in (b'', b'error memory\n')) and (run.returncode, run.stdout) != (whole.returncode, whole.stdout):
+            whole, number = record(*call.split(), folder=EXAMPLES), 1
+            while answer := short.call(call.split(), number):
+                silent += answer.status == NO_MEMORY and not answer.text
+                if not is_right(answer, whole):
                     wrong += 1
-                    print(f'{" ".join(call)}, request {number}: status {run.returncode}\n{run.stdout.decode(errors="replace")}{run.stderr.decode(errors="replace")}')
-            print(f'{" ".join(call)}: {number - 1} requests failed in turn')
+                    print(f'{call}, request {number}: status {answer.status}\n'
+                          f'{answer.text}{answer.errors}')
+                number += 1
+            print(f'{call}: {number - 1} requests failed in turn')
     print(f'{silent} said nothing, {wrong} wrong')
-    sys.exit(1 if wrong else 0)
+    return 1 if wrong else 0
 
 
-main()
+if __name__ == '__main__':
+    command_line.run(main)

@@ -1,0 +1,150 @@
+"""Runs code to its end: what it leaves in its variables, how many words it is, and how many cycles
+it takes.
+"""
+from __future__ import annotations
+
+import dataclasses
+import pathlib
+from collections.abc import Mapping
+
+from rtn.calls import Program
+from rtn.checkpoints import read_checkpoints, store_after
+from rtn.clock import Clash, Netlist
+from rtn.images import Image, read_cells, read_image, read_settings
+from rtn.patterns import read_patterns
+from rtn.reading import read_netlist
+from rtn.syntax import Array, Code
+
+EXAMPLES = pathlib.Path(__file__).resolve().parents[2] / 'examples'
+TWIN = EXAMPLES / 'twin.rtn'
+LONGEST = 1_000_000
+
+# What the variables hold, by their names; a plain variable has one cell.
+Variables = dict[str, list[int]]
+
+
+@dataclasses.dataclass(frozen=True)
+class End:
+    """What a run leaves in the variables, and the first cycle at its end mark: None where it
+    doesn't come there to stay."""
+
+    variables: Variables
+    cycles: int | None
+
+
+def variables(image: Image, cells: Mapping[int, int]) -> Variables:
+    """What the variables of an image hold in a memory with these cells."""
+    return {place.name: [cells.get(place.address + k, 0) for k in range(place.length)]
+            for place in image.places}
+
+
+def start_of(image: Image, memory: pathlib.Path) -> Variables:
+    """What the variables of an image begin with."""
+    return variables(image, read_cells(memory.read_text()))
+
+
+def counter_of(netlist: pathlib.Path) -> str:
+    """The name of the program counter."""
+    items = read_netlist(netlist.read_text())
+    return next(item.counter for item in items if isinstance(item, Code))
+
+
+def went(record: Program, netlist: pathlib.Path, source: pathlib.Path, memory: pathlib.Path,
+         image: Image) -> End:
+    """How `record go` ends with a program, whose image is this one."""
+    text = record.text('go', netlist, source, memory, LONGEST)
+    checkpoints, ending = read_checkpoints(text)
+    store = store_after(checkpoints, image.cells().values())
+    left = {place.name: [store[cell] for cell in place.cells().values()] for place in image.places}
+    return End(left, checkpoints[-1].cycle if ending == 'end' else None)
+
+
+def ran(record: Program, netlist: pathlib.Path, path: pathlib.Path, memory: pathlib.Path) -> End:
+    """How an image ends by `record run`, where it stays at its end mark."""
+    image, counter = read_image(path.read_text()), counter_of(netlist)
+
+    def state(cycles: int) -> str:
+        return record.text('run', netlist, path, memory, cycles)
+
+    def is_ended(cycles: int) -> bool:
+        return f'\n{counter} {image.end}\n' in state(cycles)
+
+    late = 1
+    while not is_ended(late):
+        if late == LONGEST:
+            return End({}, None)
+        late = min(2 * late, LONGEST)
+    early = late // 2
+    while early + 1 < late:
+        middle = (early + late) // 2
+        early, late = (early, middle) if is_ended(middle) else (middle, late)
+    if not is_ended(late + 1):
+        return End({}, None)
+    return End(variables(image, read_cells(state(late))), late)
+
+
+def clocked(netlist: pathlib.Path, image: Image, start: Variables) -> End:
+    """How an image ends that is clocked here, on a netlist with a bank, whose cells stand behind
+    the memory's."""
+    processor = Netlist(netlist.read_text())
+    state, counter = processor.zeros(), processor.code.counter
+    size = len(state['M'])
+    for place in image.places:
+        for at, value in enumerate(start[place.name], place.address):
+            state['M' if at < size else 'N'][at % size] = value
+    for cycle in range(LONGEST):
+        if state[counter] == image.end:
+            return End(variables(image, dict(enumerate(state['M'] + state['N']))), cycle)
+        state = processor.clock(state, image.word(state[counter]))
+    return End({}, None)
+
+
+def one_memory(netlist: pathlib.Path) -> str:
+    """The text of `twin.rtn` as that of a processor whose second move reads the first one's memory,
+    at the first one's place."""
+    lines = netlist.read_text().splitlines(True)
+    kept = [line for line in lines if not line.startswith(('version 4;', 'bank '))]
+    return ''.join(kept).replace('read(N, at_n)', 'read(M, at_m)')
+
+
+def on_two(record: Program, source: pathlib.Path, part: pathlib.Path,
+           start: Variables) -> tuple[Image, End]:
+    """The image of a program on `twin.rtn` with this part, and how it ends from there."""
+    image = read_image(record.done('dual', TWIN, source, part))
+    return image, clocked(TWIN, image, start)
+
+
+def unpacked(record: Program, netlist: pathlib.Path, image: Image) -> int:
+    """How many words an image were with one step in each: the costs of its trees, and its jump and
+    branch words. Jumps run in mode 0, where a processor has modes."""
+    counter = counter_of(netlist)
+    in_zero, *_ = read_patterns(record.text('extract', netlist))
+    jumps = {pattern.number for pattern in in_zero if pattern.target == counter}
+    return sum(image.costs) + sum(1 for word in image.words if jumps & set(word.patterns))
+
+
+def state_text(netlist: Netlist, state: Mapping, cycles: int) -> str:
+    """A state as `record run` writes it."""
+    lines = [f'cycles {cycles}', *(f'{name} {state[name]}' for name in netlist.registers)]
+    for array in (Array.FILE, Array.MEMORY, Array.BANK):
+        for name, memory in netlist.memories.items():
+            if memory.array == array:
+                lines += [f'{name} {at} {value}' for at, value in enumerate(state[name]) if value]
+    return '\n'.join([*lines, 'done', ''])
+
+
+def clocked_text(text: str, image: Image, memory: str, cycles: int) -> str:
+    """What `record run` writes of these texts, by the clock of the tools."""
+    netlist = Netlist(text)
+    state, counter = netlist.zeros(), netlist.code.counter
+    for name, at, value in read_settings(memory):
+        if at is None:
+            state[name] = value
+        else:
+            state[name][at] = value
+    for cycle in range(cycles):
+        try:
+            state = netlist.clock(state, image.word(state[counter]))
+        except Clash as clash:
+            return f'error clash {cycle} {clash}\n'
+    return state_text(netlist, state, cycles)
