@@ -1,6 +1,7 @@
 """The command lines of all tools: wrong words and unusable files are told in one line `TOOL: ..`
 with the status that the tool tells, never by a traceback."""
 import ast
+import os
 import pathlib
 import subprocess
 import sys
@@ -116,6 +117,12 @@ class CommandLines(unittest.TestCase):
         for tool in tools():
             told = ast.get_docstring(ast.parse((TOOLS / tool).read_text()))
             self.assertRegex(told, rf'(?m)^Usage: {tool}', tool)
+
+    def test_each_tool_can_be_run(self):
+        for tool in tools():
+            path = TOOLS / tool
+            self.assertTrue(path.read_text().startswith('#!/usr/bin/env python3\n'), tool)
+            self.assertTrue(os.access(path, os.X_OK), f'{tool} has no run bit')
 
     def test_nesting(self):
         """A text that nests deeply is refused as any other."""
