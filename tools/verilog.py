@@ -20,7 +20,8 @@ number behind it. The ports are
 
 With an image, the module `bench` follows. It holds the words, sets the registers and cells from the
 memory text, and clocks the processor N times, or until the program counter stands at the end mark
-and 1,000,000 times at most. It writes the state as `record run` does, or the line of a clash. With
+and 1,000,000 times at most. An image without an end mark ends at its first word that goes to itself
+from every state. It writes the state as `record run` does, or the line of a clash. With
 +vcd it writes the waves of all nets under `core`, those of the cells that the image's `place` lines
 name under `variables`, and beside them `cycle` and `at_mark`, which is 1 where the program counter
 stands at a mark. A cycle is 10 ns; its edge comes at 5 of them.

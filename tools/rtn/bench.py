@@ -3,6 +3,8 @@ from __future__ import annotations
 
 from collections.abc import Iterator
 
+from rtn.clock import Netlist
+from rtn.endings import end_of
 from rtn.images import Image, read_image, read_settings
 from rtn.reading import Fault
 from rtn.syntax import Array, Register
@@ -12,10 +14,10 @@ LONGEST = 1_000_000
 
 
 class Bench:
-    """The test bench of a processor with an image and a memory text."""
+    """The test bench of a processor with an image and a memory text, and where the code ends."""
 
-    def __init__(self, processor: Processor, image: Image, memory: str):
-        self.processor, self.image, self.memory = processor, image, memory
+    def __init__(self, processor: Processor, image: Image, memory: str, end: int | None):
+        self.processor, self.image, self.memory, self.end = processor, image, memory, end
         self.registers = {item.name: item.width for item in processor.of_kind(Register)}
 
     def lines(self) -> Iterator[str]:
@@ -51,7 +53,7 @@ class Bench:
 
     def clocks(self) -> Iterator[str]:
         """The start, the clocks, and the state at the end."""
-        width, end = self.processor.code.width, self.image.end
+        width, end = self.processor.code.width, self.end
         yield from ['  initial begin : clocks', "    clk = 1'd0;", "    reset = 1'd0;"]
         for at, word in enumerate(self.image.words):
             yield f"    words[{at}] = {width}'h{word.digits[-(-(-width // 4)):]};"
@@ -130,5 +132,6 @@ def verilog_text(netlist: str, title: str, image: str | None = None, memory: str
     lines = list(processor.lines())
     if image is not None:
         lines = ['`timescale 1ns / 1ns', *lines]
-        lines += Bench(processor, read_image(image), memory).lines()
+        code = read_image(image)
+        lines += Bench(processor, code, memory, end_of(Netlist(netlist), code)).lines()
     return '\n'.join(lines)

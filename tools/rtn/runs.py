@@ -10,6 +10,7 @@ from collections.abc import Mapping
 from rtn.calls import Program
 from rtn.checkpoints import read_checkpoints, store_after
 from rtn.clock import Clash, Netlist
+from rtn.endings import end_of
 from rtn.images import Image, read_cells, read_image, read_settings
 from rtn.patterns import read_patterns
 from rtn.reading import read_netlist
@@ -25,8 +26,8 @@ Variables = dict[str, list[int]]
 
 @dataclasses.dataclass(frozen=True)
 class End:
-    """What a run leaves in the variables, and the first cycle at its end mark: None where it
-    doesn't come there to stay."""
+    """What a run leaves in the variables, and the first cycle at its end (rtn/endings.py): None
+    where it doesn't come there to stay."""
 
     variables: Variables
     cycles: int | None
@@ -60,14 +61,15 @@ def went(record: Program, netlist: pathlib.Path, source: pathlib.Path, memory: p
 
 
 def ran(record: Program, netlist: pathlib.Path, path: pathlib.Path, memory: pathlib.Path) -> End:
-    """How an image ends by `record run`, where it stays at its end mark."""
-    image, counter = read_image(path.read_text()), counter_of(netlist)
+    """How an image ends by `record run`, where it stays at its end."""
+    image, processor = read_image(path.read_text()), Netlist(netlist.read_text())
+    counter, end = processor.code.counter, end_of(processor, image)
 
     def state(cycles: int) -> str:
         return record.text('run', netlist, path, memory, cycles)
 
     def is_ended(cycles: int) -> bool:
-        return f'\n{counter} {image.end}\n' in state(cycles)
+        return f'\n{counter} {end}\n' in state(cycles)
 
     late = 1
     while not is_ended(late):
@@ -88,12 +90,12 @@ def clocked(netlist: pathlib.Path, image: Image, start: Variables) -> End:
     the memory's."""
     processor = Netlist(netlist.read_text())
     state, counter = processor.zeros(), processor.code.counter
-    size = len(state['M'])
+    size, end = len(state['M']), end_of(processor, image)
     for place in image.places:
         for at, value in enumerate(start[place.name], place.address):
             state['M' if at < size else 'N'][at % size] = value
     for cycle in range(LONGEST):
-        if state[counter] == image.end:
+        if state[counter] == end:
             return End(variables(image, dict(enumerate(state['M'] + state['N']))), cycle)
         state = processor.clock(state, image.word(state[counter]))
     return End({}, None)

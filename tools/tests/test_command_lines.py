@@ -24,6 +24,8 @@ WRONG = {
     'fuzz.py': ([BINARY, 'x'], []),
     'listing.py': ([BINARY, 'a.rtn'], [BINARY, 'a.rtn', 'p.src', '--check'], []),
     'meanings.py': ([BINARY], [BINARY, '--files'], [BINARY, '--files', 'x'], []),
+    'memory.py': ([], ['a.img', '--signed', '--net', 'a.rtn'], ['a.img', 'x=1', '--state', 's'],
+                  ['a.img', '--state', 's', '--signed']),
     'picture.py': ([], ['a.rtn', '--pattern', '3'], ['a.rtn', '--pattern', 'x', '--binary', BINARY],
                    ['a.rtn', 'b.rtn']),
     'plant.py': ([], ['--stale', 'rec_bits'], ['no_such_crate'], ['rec_bits', 'no such bug']),
@@ -37,6 +39,9 @@ WRONG = {
 # Files that can't be used; these tools say that their status is then 1.
 UNUSABLE = {
     'listing.py': ([BINARY, 'no.rtn', 'no.src'],),
+    'memory.py': (['no.img', 'x=1'], [EXAMPLES / 'sum.mem'], [EXAMPLES / 'sum.img', 'x'],
+                  [EXAMPLES / 'sum.img', 'no=1'], [EXAMPLES / 'sum.img', '--state', 'no.state'],
+                  [EXAMPLES / 'sum.img', '--net', EXAMPLES / 'sum.mem', 'x=1']),
     'picture.py': (['no.rtn'], [EXAMPLES / 'sum.mem'], [EXAMPLES]),
     'verilog.py': (['no.rtn'], [EXAMPLES / 'sum.mem'], [EXAMPLES],
                    [EXAMPLES / 'a16.rtn', EXAMPLES / 'sum.mem'],
