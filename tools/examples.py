@@ -46,6 +46,7 @@ from collections.abc import Callable, Iterator, Sequence
 
 import command_line
 from listing import listed
+from reporting.tasks import Task
 from rtn.calls import Program
 from rtn.images import read_image, read_words
 from rtn.operators import mask, signed
@@ -316,7 +317,7 @@ def listings(record: Program) -> Iterator[Told]:
     for path in sorted(EXAMPLES.glob('*.lst')):
         program, processor, _ = path.name.split('.')
         files = Files(program, processor)
-        is_same = listed(record, files.netlist, files.source) == path.read_text()
+        is_same = listed(record, files.netlist, Task(files.source)) == path.read_text()
         yield Told(f'{files}: {path.name}', '' if is_same else ', but the listing is another one')
 
 

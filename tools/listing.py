@@ -30,6 +30,7 @@ import sys
 from collections.abc import Iterator
 
 import command_line
+from reporting.tasks import Task
 from rtn.calls import Program
 from rtn.images import Image, read_image
 from rtn.operators import bits, mask
@@ -42,10 +43,12 @@ TOKEN = re.compile(r'(?:\s|//[^\n]*)*(?:(?P<word>\w+|[=!<>]=|>>>|<<|>>|.)|$)', r
 
 @dataclasses.dataclass
 class Row:
-    """A word of the code: its address, its digits, and the texts of its wanted transfers."""
+    """A word of the code: its address, its digits, its wanted transfers as `extract` writes them,
+    and their texts with the numbers that the word's fields have."""
 
     address: int
     digits: str
+    transfers: list[str]
     texts: list[str]
 
 
@@ -128,8 +131,8 @@ class Netlist:
         self.mode = next((item.name for item in items
                           if isinstance(item, Register) and item.is_mode), None)
 
-    def shown(self, mode: int, number: int, word: int) -> str:
-        """A transfer of a mode with the numbers that the word's fields have."""
+    def shown(self, transfer: str, word: int) -> str:
+        """A transfer with the numbers that the word's fields have."""
         def field(found: re.Match) -> str:
             return str(bits(word, *map(int, found.groups())))
 
@@ -137,14 +140,14 @@ class Netlist:
             first, second, width = map(int, found.groups())
             return str(first + second & mask(width))
 
-        text = re.sub(rf'slice\({self.code},(\d+),(\d+)\)', field, self.transfers[mode][number])
+        text = re.sub(rf'slice\({self.code},(\d+),(\d+)\)', field, transfer)
         text = re.sub(r'zext\((\d+),\d+\)', r'\1', text)
         text = re.sub(r'add\((\d+),(\d+)#(\d+)\)', total, text)
         return re.sub(rf'\b{self.code}\b', str(word), text)
 
-    def is_turn(self, mode: int, number: int) -> bool:
+    def is_turn(self, transfer: str) -> bool:
         """Whether a transfer sets the program counter."""
-        return self.transfers[mode][number].startswith(f'{self.counter} := ')
+        return transfer.startswith(f'{self.counter} := ')
 
     def put_mode(self, text: str) -> int | None:
         """The mode that a transfer puts, or None."""
@@ -195,9 +198,9 @@ class Listing:
         """
         state = Spread()
         for at, word in enumerate(self.image.words):
-            texts = [self.netlist.shown(state.mode, number, word.number)
-                     for number in word.patterns]
-            is_turn = any(self.netlist.is_turn(state.mode, number) for number in word.patterns)
+            transfers = [self.netlist.transfers[state.mode][number] for number in word.patterns]
+            texts = [self.netlist.shown(transfer, word.number) for transfer in transfers]
+            is_turn = any(map(self.netlist.is_turn, transfers))
             self.turns += is_turn
             mode = self.mode_after(state.mode, texts)
             is_last = is_turn or mode < state.mode
@@ -205,7 +208,7 @@ class Listing:
             mark = self.image.marks.get(at)
             state.begin(mark, is_turn)
             rows = self.end if mark == 'end' else self.rows_of(state, is_last)
-            rows.append(Row(at, word.digits, texts))
+            rows.append(Row(at, word.digits, transfers, texts))
             least = self.image.temporaries
             if not state.in_test and any(self.netlist.writes(text, least) for text in texts):
                 state.now += 1
@@ -255,16 +258,18 @@ class Listing:
                 yield f'cell {place.address}: {place.name}'
 
 
-def listed(record: Program, netlist: pathlib.Path, source: pathlib.Path,
-           part: pathlib.Path | None = None, word: str = 'compile') -> str:
-    """The listing of a program on a netlist, which has a bank where there is a part, as a text; a
-    Fault where one is refused."""
+def listed(record: Program, netlist: pathlib.Path, task: Task, is_tuned: bool = False) -> str:
+    """The listing of a program on a netlist as a text; a Fault where one is refused."""
+    listing = listing_of(record, netlist, task, is_tuned)
+    return '\n'.join(listing.lines(f'{task.source.name} on {netlist.name}')) + '\n'
+
+
+def listing_of(record: Program, netlist: pathlib.Path, task: Task, is_tuned: bool) -> Listing:
+    """The listing of a program on a netlist; a Fault where one is refused."""
     patterns = record.done('extract', netlist)
-    image = record.done('dual', netlist, source, part) if part else (
-        record.done(word, netlist, source))
-    listing = Listing(read_image(image), Netlist(netlist.read_text(errors='replace'), patterns),
-                      Source(source.read_text(errors='replace')))
-    return '\n'.join(listing.lines(f'{source.name} on {netlist.name}')) + '\n'
+    image = read_image(task.code(record, netlist, is_tuned))
+    return Listing(image, Netlist(netlist.read_text(errors='replace'), patterns),
+                   Source(task.source.read_text(errors='replace')))
 
 
 def main():
@@ -276,8 +281,8 @@ def main():
     words.add_argument('source', metavar='PROGRAM.src', type=pathlib.Path)
     words.add_argument('part', metavar='PROGRAM.part', type=pathlib.Path, nargs='?')
     given = words.words()
-    word = 'tune' if given.tune else 'compile'
-    text = listed(given.binary, given.netlist, given.source, given.part, word)
+    task = Task(given.source, given.part)
+    text = listed(given.binary, given.netlist, task, given.tune)
     if given.check is None:
         sys.stdout.write(text)
         return 0

@@ -9,11 +9,11 @@ from collections.abc import Mapping
 
 from rtn.calls import Program
 from rtn.checkpoints import read_checkpoints, store_after
-from rtn.clock import Clash, Netlist
+from rtn.clock import Clash, Netlist, State
 from rtn.endings import end_of
 from rtn.images import Image, read_cells, read_image, read_settings
 from rtn.patterns import read_patterns
-from rtn.reading import read_netlist
+from rtn.reading import Fault, read_netlist
 from rtn.syntax import Array, Code
 
 EXAMPLES = pathlib.Path(__file__).resolve().parents[2] / 'examples'
@@ -135,15 +135,27 @@ def state_text(netlist: Netlist, state: Mapping, cycles: int) -> str:
     return '\n'.join([*lines, 'done', ''])
 
 
+def started(netlist: Netlist, memory: str) -> State:
+    """The state that a netlist starts in with a memory text; a Fault where the text doesn't fit."""
+    state = netlist.zeros()
+    for name, at, value in read_settings(memory):
+        try:
+            if isinstance(state[name], list) == (at is None):
+                raise KeyError(name)
+            if at is None:
+                state[name] = value
+            else:
+                state[name][at] = value
+        except (KeyError, IndexError):
+            line = f'{name} {value}' if at is None else f'{name} {at} {value}'
+            raise Fault(f'no line of a memory text for this netlist: {line}') from None
+    return state
+
+
 def clocked_text(text: str, image: Image, memory: str, cycles: int) -> str:
     """What `record run` writes of these texts, by the clock of the tools."""
     netlist = Netlist(text)
-    state, counter = netlist.zeros(), netlist.code.counter
-    for name, at, value in read_settings(memory):
-        if at is None:
-            state[name] = value
-        else:
-            state[name][at] = value
+    state, counter = started(netlist, memory), netlist.code.counter
     for cycle in range(cycles):
         try:
             state = netlist.clock(state, image.word(state[counter]))
