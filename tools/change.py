@@ -2,7 +2,7 @@
 """Shows what a change to a netlist changes: what its instruction words can be told to do, and what
 programs take.
 
-Usage: change.py BINARY OLD.rtn NEW.rtn [PROGRAM.src [MEMORY.mem]] ..
+Usage: change.py BINARY OLD.rtn NEW.rtn [PROGRAM.src [PROGRAM.part] [MEMORY.mem]] .. [--tune]
 
 The register transfers of both netlists, as `record extract` writes them, are compared as texts,
 without their numbers and their least words; names of registers count. First stand those that OLD
@@ -11,11 +11,14 @@ fields of the instruction word alone follow, in groups: a line `~ I[7:0] -> I[15
 in OLD and in NEW, and below it the transfers, with a `_` for each field. Last stands how many both
 have. A netlist that is refused has no transfers, and its fault stands in their place.
 
-For each program a line of the table follows. `words` is the length of its image on OLD and on NEW.
-`cycles` is, where a memory text stands behind the program, the cycle of the end mark when it is run
-from there, or `budget` where it doesn't come within 1,000,000. Where a program or netlist is
-refused, the fault stands in place of the numbers. The exit status is 0, or 2 where the words are
-none of these.
+For each program a line of the table follows. `words` is the length of its image by `compile`, with
+--tune by `tune`, or with a part by `dual`, on OLD and on NEW. `cycles` is, where a memory text
+stands behind the program, the cycle of the end mark when it is run from there, or `budget` where it
+doesn't come within 1,000,000: by `record go`, or for `tune` and `dual` clocked here. Where a program
+or netlist is refused, the fault stands in place of the numbers. Below the table stand the
+statements that have other numbers of words on NEW than on OLD.
+
+The exit status is 0, or 2 where the words are none of these.
 """
 from __future__ import annotations
 
@@ -26,13 +29,14 @@ import re
 from collections.abc import Iterator
 
 import command_line
+from listing import Listing
+from reporting.profiles import LONGEST, Machine, changed_statements
+from reporting.tables import table
+from reporting.tasks import Task, read_tasks
 from rtn.calls import Program
+from rtn.images import read_image
 from rtn.patterns import read_patterns
-from rtn.reading import Fault, read_netlist
-from rtn.syntax import Code
-
-LONGEST = 1_000_000
-
+from rtn.reading import Fault
 
 @dataclasses.dataclass(frozen=True)
 class Shape:
@@ -49,6 +53,16 @@ class Shape:
                      tuple(f'{code}[{high}:{low}]' for high, low in bounds))
 
 
+@dataclasses.dataclass(frozen=True)
+class Taken:
+    """The words and the cycles of a program on a netlist, or the fault and nothing, and its code
+    where the tools can read the netlist."""
+
+    words: str
+    cycles: str = ''
+    listing: Listing | None = None
+
+
 class Side:
     """A netlist with its transfers in the order of `extract`, or its fault."""
 
@@ -59,31 +73,41 @@ class Side:
         self.fault = '' if first.startswith('patterns ') else first
         modes = [] if self.fault else read_patterns(text)
         self.transfers = [pattern.transfer for mode in modes for pattern in mode]
+        self.machine = None if self.fault else self.read()
+
+    def read(self) -> Machine | None:
+        """The netlist, where the tools can read it."""
+        try:
+            return Machine(self.record, self.path)
+        except Fault:
+            return None
 
     def code(self) -> str | None:
         """The name of the instruction word, where the tools can read the netlist."""
-        try:
-            items = read_netlist(self.path.read_text(errors='replace'))
-        except Fault:
-            return None
-        return next(item.name for item in items if isinstance(item, Code))
+        return self.machine and self.machine.netlist.code.name
 
     def lacking(self, other: Side) -> list[str]:
         """The transfers that the other netlist hasn't."""
         there = set(other.transfers)
         return [transfer for transfer in self.transfers if transfer not in there]
 
-    def taken(self, source: pathlib.Path, memory: pathlib.Path | None) -> tuple[str, str]:
-        """The words and cycles of a program, or the fault and nothing."""
-        first = self.record('compile', self.path, source).line
-        if not first.startswith('image '):
-            return first, ''
-        words = first.split()[2]
-        if memory is None:
-            return words, ''
-        went = self.record.text('go', self.path, source, memory, LONGEST)
+    def taken(self, task: Task, is_tuned: bool) -> Taken:
+        """What a program takes."""
+        try:
+            image = read_image(task.code(self.record, self.path, is_tuned))
+        except Fault as fault:
+            return Taken(str(fault))
+        listing = self.machine and self.machine.listed(task, image)
+        cycles = '' if task.memory is None else self.cycles(task, listing, is_tuned)
+        return Taken(str(len(image.words)), cycles, listing)
+
+    def cycles(self, task: Task, listing: Listing | None, is_tuned: bool) -> str:
+        """The cycles of a program from its memory text."""
+        if listing and (is_tuned or task.part):
+            return self.machine.profile(task, listing).cycles
+        went = self.record.text('go', self.path, task.source, task.memory, LONGEST)
         *_, last, end = ['', *went.splitlines()]
-        return words, last.split()[1] if end == 'end' else end
+        return last.split()[1] if end == 'end' else end
 
 
 class Moves:
@@ -121,25 +145,20 @@ def changes(old: Side, new: Side) -> Iterator[str]:
     yield f'{len(set(old.transfers) & set(new.transfers))} in both'
 
 
-def programs_of(words: list[str]) -> list[list[pathlib.Path]] | None:
-    """The programs, each with its memory text if it has one; None where a memory text has no
-    program before it."""
-    programs = []
-    for word in words:
-        if not word.endswith('.mem'):
-            programs.append([pathlib.Path(word)])
-        elif programs and len(programs[-1]) == 1:
-            programs[-1].append(pathlib.Path(word))
-        else:
-            return None
-    return programs
-
-
-def table(rows: list[list[str]]) -> list[str]:
-    """Rows of texts with their columns one below the other."""
-    widths = [max(map(len, column)) for column in zip(*rows)]
-    return [' '.join(text.ljust(width) for text, width in zip(row, widths)).rstrip()
-            for row in rows]
+def programs(old: Side, new: Side, tasks: list[Task], is_tuned: bool) -> Iterator[str]:
+    """The table of the programs, and below it the statements that changed."""
+    rows, changed = [['program', 'words', 'cycles', '', 'words', 'cycles']], []
+    for task in tasks:
+        before, after = old.taken(task, is_tuned), new.taken(task, is_tuned)
+        name = task.source.name
+        rows.append([name, before.words, before.cycles, '->', after.words, after.cycles])
+        if before.listing and after.listing:
+            for number, one, other in changed_statements(before.listing, after.listing):
+                statement = before.listing.statements[number]
+                changed.append(f'{name} line {statement.line}: {statement.text}: '
+                               f'{one} -> {other} words')
+    yield from table(rows)
+    yield from changed
 
 
 def main():
@@ -148,18 +167,13 @@ def main():
     words.add_argument('old', metavar='OLD.rtn', type=pathlib.Path)
     words.add_argument('new', metavar='NEW.rtn', type=pathlib.Path)
     words.add_argument('programs', nargs='*')
+    words.add_argument('--tune', action='store_true')
     given = words.words()
-    programs = programs_of(given.programs)
-    if programs is None:
-        words.error('a memory text stands behind its program')
+    tasks = read_tasks(given.programs)
     old, new = Side(given.binary, given.old), Side(given.binary, given.new)
     print('\n'.join(changes(old, new)))
-    rows = [['program', 'words', 'cycles', '', 'words', 'cycles']]
-    for source, *memory in programs:
-        start = memory[0] if memory else None
-        rows.append([source.name, *old.taken(source, start), '->', *new.taken(source, start)])
-    if programs:
-        print('\n'.join(table(rows)))
+    if tasks:
+        print('\n'.join(programs(old, new, tasks, given.tune)))
 
 
 if __name__ == '__main__':

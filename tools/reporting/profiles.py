@@ -64,6 +64,10 @@ class Machine:
             image = read_image(task.code(self.record, self.path, is_tuned))
         except Fault as fault:
             return str(fault)
+        return self.listed(task, image)
+
+    def listed(self, task: Task, image: Image) -> Listing:
+        """An image of a program, statement by statement."""
         return Listing(image, self.transfers, Source(task.source.read_text(errors='replace')))
 
     def profile(self, task: Task, listing: Listing, settings: Iterable[Setting] = ()) -> Profile:
