@@ -5,10 +5,10 @@ import dataclasses
 import pathlib
 from collections.abc import Iterable, Iterator
 
-from drawing.dot import span
-from drawing.nets import Graph, Net
+from drawing.nets import Graph
 from listing import Listing, Row, Source, Statement
 from listing import Netlist as Transfers
+from reporting.fields import field_name, fields_of
 from reporting.tasks import Task
 from rtn.calls import Program
 from rtn.clock import Netlist
@@ -196,17 +196,6 @@ class Usage:
             values = {word >> bit & 1 for word in words}
             if len(values) == 1:
                 yield bit, values.pop()
-
-
-def fields_of(graph: Graph) -> list[Net]:
-    """The slices of the instruction word that a netlist takes, from the top bit on."""
-    fields = (net for net in graph.made.values() if net.is_field and net.uses)
-    return sorted(fields, key=lambda net: (-net.bounds[0], net.bounds[1]))
-
-
-def field_name(net: Net) -> str:
-    """A field by its name, where it has one, and its bits."""
-    return ' '.join([*net.names, net.parts[0].storage.name + span(*net.bounds)])
 
 
 def storage_of(transfer: str) -> str:

@@ -1,0 +1,119 @@
+"""How transfers stand in the instruction word: its bits that decide, and those that are operands.
+"""
+from __future__ import annotations
+
+import dataclasses
+import enum
+import itertools
+import re
+from collections.abc import Iterable
+
+from drawing.dot import span
+from drawing.nets import Graph, Net
+from drawing.paths import Path
+from reporting.fields import field_name
+from rtn.patterns import Pattern
+from rtn.reading import Fault
+from rtn.syntax import Constant, Item, Name
+
+
+class Role(enum.Enum):
+    """What stretches of bits are for a transfer."""
+
+    DECIDES = 'decides'
+    OPERAND = 'operand'
+    FREE = 'free'
+
+
+@dataclasses.dataclass(frozen=True)
+class Stretch:
+    """Neighbouring bits with one role, from `high` down to `low`: the digits of those that decide
+    as the least word has them, and what an operand is called."""
+
+    role: Role
+    high: int
+    low: int
+    text: str = ''
+
+    @property
+    def width(self) -> int:
+        return self.high - self.low + 1
+
+
+class Encoder:
+    """The words of a netlist in one mode."""
+
+    def __init__(self, items: Iterable[Item], mode: tuple[str, int] | None):
+        self.graph = Graph(list(items) if mode is None else in_mode(items, *mode))
+        self.code, = self.graph.words
+        self.names = {net.bounds: field_name(net) for net in self.graph.made.values()
+                      if net.is_field and net.names}
+
+    def path(self, pattern: Pattern) -> Path | None:
+        """The path of a pattern; None where the netlist's drawing doesn't tell its transfer."""
+        try:
+            path = Path(self.graph.storages[pattern.storage], int(pattern.word, 16))
+        except Fault:
+            return None
+        return path if path.text == pattern.transfer else None
+
+    def stretches(self, pattern: Pattern) -> list[Stretch]:
+        """The bits of the word from the top on. Those that keep other drivers off a bus, or other
+        storages from changing, aren't told."""
+        path = self.path(pattern)
+        deciding = path.fields() if path else {}
+        fixed = {bit for net in deciding for bit in bits_of(net)}
+        owners: dict[int, tuple[Role, tuple[int, int]]] = {}
+        for bounds in self.operands(pattern.transfer):
+            owners |= {bit: (Role.OPERAND, bounds) for bit in range(bounds[1], bounds[0] + 1)}
+        owners |= {bit: (Role.DECIDES, (0, 0)) for bit in fixed}
+        return self.grouped(owners, int(pattern.word, 16))
+
+    def operands(self, transfer: str) -> list[tuple[int, int]]:
+        """The slices of the word in a transfer, and the whole word where it stands alone."""
+        name = self.code.name
+        slices = re.findall(rf'\bslice\({name},(\d+),(\d+)\)', transfer)
+        rest = re.sub(rf'\bslice\({name},\d+,\d+\)', '', transfer)
+        whole = [(self.code.width - 1, 0)] if re.search(rf'\b{name}\b', rest) else []
+        return whole + [(int(high), int(low)) for high, low in slices]
+
+    def grouped(self, owners: dict[int, tuple[Role, tuple[int, int]]], word: int) -> list[Stretch]:
+        """The bits in stretches."""
+        free = Role.FREE, (0, 0)
+        found = []
+        bits = reversed(range(self.code.width))
+        for (role, bounds), some in itertools.groupby(bits, lambda bit: owners.get(bit, free)):
+            high, *rest = some
+            low = rest[-1] if rest else high
+            if role == Role.DECIDES:
+                text = f'{word >> low & (1 << high - low + 1) - 1:0{high - low + 1}b}'
+            else:
+                text = self.operand(*bounds) if role == Role.OPERAND else ''
+            found.append(Stretch(role, high, low, text))
+        return found
+
+    def operand(self, high: int, low: int) -> str:
+        return self.names.get((high, low), self.code.name + span(high, low))
+
+
+def bits_of(net: Net) -> range:
+    """The bits of a field."""
+    high, low = net.bounds
+    return range(low, high + 1)
+
+
+def in_mode(items: Iterable[Item], mode: str, value: int) -> list[Item]:
+    """The items with a number in place of the mode register's name."""
+    width = next(item.width for item in items if item.name == mode)
+
+    def put(tree):
+        if tree == Name(mode):
+            return Constant(value, width)
+        if isinstance(tree, tuple):
+            return tuple(map(put, tree))
+        if dataclasses.is_dataclass(tree):
+            own = {field.name: put(getattr(tree, field.name)) for field in dataclasses.fields(tree)}
+            return dataclasses.replace(tree, **own)
+        return tree
+
+    return list(map(put, items))
