@@ -3,6 +3,7 @@
 are computed here.
 
 Usage: examples.py BINARY [--table]
+       examples.py BINARY --reports DIR
 
 Each program is compiled for each processor and run by `record go` from its memory text. What the
 variables hold at the end has to be what the algorithm gives, as it is written below in Python;
@@ -29,6 +30,10 @@ image for may not be refused.
 The last are the listings examples/PROGRAM.PROCESSOR.lst, which have to be what tools/listing.py
 writes.
 
+With --reports nothing is held against anything: the pages DIR/a16.html, DIR/dsp.html and
+DIR/xy.html are written, as tools/report.py makes them of these processors with all programs that
+they run.
+
 `words` is the length of the image, `cycles` the clocks until the program counter stands at the end
 mark. `unpacked` is how many words it were with one step in each: the costs of the image's lines
 `tree`, and its jump and branch words, which are those whose list has a pattern of the program
@@ -46,6 +51,7 @@ from collections.abc import Callable, Iterator, Sequence
 
 import command_line
 from listing import listed
+from report import write_report
 from reporting.tasks import Task
 from rtn.calls import Program
 from rtn.images import read_image, read_words
@@ -54,6 +60,7 @@ from rtn.runs import (EXAMPLES, TWIN, End, Variables, on_two, one_memory, ran, s
                       went)
 
 PROCESSORS = ('a16', 'f16', 'xy', 'dsp', 'r16', 'c10w', 'c10i', 'adsp', 'rr4', 'rrf', 'm16')
+REPORTED = ('a16', 'dsp', 'xy')
 WIDTH = 16
 
 # ---- What the programs have to leave
@@ -321,6 +328,15 @@ def listings(record: Program) -> Iterator[Told]:
         yield Told(f'{files}: {path.name}', '' if is_same else ', but the listing is another one')
 
 
+def reports(record: Program, folder: pathlib.Path) -> Iterator[pathlib.Path]:
+    """Writes the pages of some processors, each with the programs that it runs."""
+    for processor in REPORTED:
+        pairs_of_it = [files for files in pairs() if files.processor == processor]
+        tasks = [Task(files.source, memory=files.memory) for files in pairs_of_it
+                 if not record('tune', files.netlist, files.source).status]
+        yield write_report(record, [EXAMPLES / f'{processor}.rtn'], tasks, folder)
+
+
 # ---- The tables
 
 TABLES = (
@@ -343,7 +359,12 @@ def main():
     words = command_line.Parser(__doc__)
     words.add_program()
     words.add_argument('--table', action='store_true')
+    words.add_argument('--reports', metavar='DIR', type=pathlib.Path)
     given = words.words()
+    if given.reports:
+        for path in reports(given.binary, given.reports):
+            print(path)
+        return 0
     faults, tables = 0, []
     for runs in (compiled_examples, banked_examples, tuned_examples, listings):
         rows = []

@@ -126,7 +126,7 @@ class Drawing:
         written = [cell(small('write'), 'in'), cell(small('at'), 'at'),
                    cell(small(self.enable(memory)), 'when')]
         top = written + [cell(small('read at'), f'at{k}') for k in range(len(reads))]
-        title = cell(f'<B>{memory.name}</B> {small(f"{memory.size} × {memory.width}")}',
+        title = cell(f'<B>{memory.name}</B> {small(f"{memory.size} × {memory.width}")}', 'title',
                      colspan=len(top), bgcolor=self.fill(memory))
         bottom = [cell('', colspan=len(written), border=0)]
         bottom += [cell(small('out'), f'out{k}') for k in range(len(reads))]
@@ -262,8 +262,8 @@ class Drawing:
         rows = [[cell('<B>decode</B>', colspan=2 * columns)], *([] for _ in range(height))]
         for k, (net, told) in enumerate(self.decoded.items()):
             colour = WARM if net in deciding else WHITE
-            rows[1 + k % height] += [cell(small(text), bgcolor=colour, align='left')
-                                     for text in told]
+            rows[1 + k % height] += [cell(small(text), f'{port}{k}', bgcolor=colour, align='left')
+                                     for port, text in zip(('name', 'formula'), told)]
         self.put(DECODE, shape='plain', label=table(rows, cellpadding=2, color=GREY))
         self.line(quoted(self.graph.words[0].name), quoted(DECODE), is_control=True)
 

@@ -6,15 +6,20 @@ import dataclasses
 import enum
 import itertools
 import re
-from collections.abc import Iterable
+from collections.abc import Iterable, Mapping
 
 from drawing.dot import span
-from drawing.nets import Graph, Net
+from drawing.nets import Graph
 from drawing.paths import Path
 from reporting.fields import field_name
+from rtn.operators import bits
 from rtn.patterns import Pattern
 from rtn.reading import Fault
 from rtn.syntax import Constant, Item, Name
+
+
+# A slice of the word, high and low.
+Bounds = tuple[int, int]
 
 
 class Role(enum.Enum):
@@ -23,6 +28,11 @@ class Role(enum.Enum):
     DECIDES = 'decides'
     OPERAND = 'operand'
     FREE = 'free'
+
+
+# What a bit is for, and the slice that it is in.
+Owner = tuple[Role, Bounds]
+FREE: Owner = Role.FREE, (0, 0)
 
 
 @dataclasses.dataclass(frozen=True)
@@ -49,27 +59,23 @@ class Encoder:
         self.names = {net.bounds: field_name(net) for net in self.graph.made.values()
                       if net.is_field and net.names}
 
-    def path(self, pattern: Pattern) -> Path | None:
-        """The path of a pattern; None where the netlist's drawing doesn't tell its transfer."""
-        try:
-            path = Path(self.graph.storages[pattern.storage], int(pattern.word, 16))
-        except Fault:
-            return None
-        return path if path.text == pattern.transfer else None
-
     def stretches(self, pattern: Pattern) -> list[Stretch]:
         """The bits of the word from the top on. Those that keep other drivers off a bus, or other
         storages from changing, aren't told."""
-        path = self.path(pattern)
-        deciding = path.fields() if path else {}
-        fixed = {bit for net in deciding for bit in bits_of(net)}
-        owners: dict[int, tuple[Role, tuple[int, int]]] = {}
+        owners: dict[int, Owner] = {}
         for bounds in self.operands(pattern.transfer):
-            owners |= {bit: (Role.OPERAND, bounds) for bit in range(bounds[1], bounds[0] + 1)}
-        owners |= {bit: (Role.DECIDES, (0, 0)) for bit in fixed}
+            owners |= {bit: (Role.OPERAND, bounds) for bit in bits_of(bounds)}
+        for bounds in self.deciding(pattern):
+            owners |= {bit: (Role.DECIDES, bounds) for bit in bits_of(bounds)}
         return self.grouped(owners, int(pattern.word, 16))
 
-    def operands(self, transfer: str) -> list[tuple[int, int]]:
+    def deciding(self, pattern: Pattern) -> dict[Bounds, int]:
+        """The slices of the word that decide a transfer, with their values in its least word; none
+        where its path isn't known."""
+        path = path_of(self.graph, pattern)
+        return {net.bounds: value for net, value in path.fields().items()} if path else {}
+
+    def operands(self, transfer: str) -> list[Bounds]:
         """The slices of the word in a transfer, and the whole word where it stands alone."""
         name = self.code.name
         slices = re.findall(rf'\bslice\({name},(\d+),(\d+)\)', transfer)
@@ -77,28 +83,36 @@ class Encoder:
         whole = [(self.code.width - 1, 0)] if re.search(rf'\b{name}\b', rest) else []
         return whole + [(int(high), int(low)) for high, low in slices]
 
-    def grouped(self, owners: dict[int, tuple[Role, tuple[int, int]]], word: int) -> list[Stretch]:
+    def grouped(self, owners: Mapping[int, Owner], word: int) -> list[Stretch]:
         """The bits in stretches."""
-        free = Role.FREE, (0, 0)
         found = []
-        bits = reversed(range(self.code.width))
-        for (role, bounds), some in itertools.groupby(bits, lambda bit: owners.get(bit, free)):
+        bits_down = reversed(range(self.code.width))
+        for (role, bounds), some in itertools.groupby(bits_down, lambda bit: owners.get(bit, FREE)):
             high, *rest = some
             low = rest[-1] if rest else high
+            text = self.named(bounds) if role == Role.OPERAND else ''
             if role == Role.DECIDES:
-                text = f'{word >> low & (1 << high - low + 1) - 1:0{high - low + 1}b}'
-            else:
-                text = self.operand(*bounds) if role == Role.OPERAND else ''
+                text = f'{bits(word, high, low):0{high - low + 1}b}'
             found.append(Stretch(role, high, low, text))
         return found
 
-    def operand(self, high: int, low: int) -> str:
-        return self.names.get((high, low), self.code.name + span(high, low))
+    def named(self, bounds: Bounds) -> str:
+        """A slice of the word, by its name where it has one."""
+        return self.names.get(bounds, self.code.name + span(*bounds))
 
 
-def bits_of(net: Net) -> range:
-    """The bits of a field."""
-    high, low = net.bounds
+def path_of(graph: Graph, pattern: Pattern) -> Path | None:
+    """The path of a pattern through these nets; None where they don't tell its transfer."""
+    try:
+        path = Path(graph.storages[pattern.storage], int(pattern.word, 16))
+    except Fault:
+        return None
+    return path if path.text == pattern.transfer else None
+
+
+def bits_of(bounds: Bounds) -> range:
+    """The bits of a slice."""
+    high, low = bounds
     return range(low, high + 1)
 
 

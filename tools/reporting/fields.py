@@ -11,4 +11,4 @@ def fields_of(graph: Graph) -> list[Net]:
 
 def field_name(net: Net) -> str:
     """A field by its name, where it has one, and its bits."""
-    return ' '.join([*net.names, net.parts[0].storage.name + span(*net.bounds)])
+    return f'{net.name} {net.parts[0].storage.name}{span(*net.bounds)}'.lstrip()

@@ -8,11 +8,10 @@ import math
 import pathlib
 from collections.abc import Iterator, Sequence
 
-from drawing.paths import Path
 from listing import Row
-from reporting.encoding import Encoder, Stretch
+from reporting.encoding import Encoder, Stretch, path_of
 from reporting.html import Markup, element, joined
-from reporting.profiles import Machine, Profile, Usage, storage_of
+from reporting.profiles import Machine, Profile, Usage
 from reporting.tasks import Task
 from reporting.ways import Ways
 from rtn.patterns import Pattern, read_patterns
@@ -23,7 +22,8 @@ HOTTEST = 0.55   # how much of the colour of heat the word has that ran most
 
 @dataclasses.dataclass(frozen=True)
 class Compared:
-    """A program by `compile` and by `tune`: the profile of its code, or a fault."""
+    """A program by `compile` and by `tune`, or with a part by `dual` in place of both: the profile
+    of its code, or a fault."""
 
     task: Task
     by_compile: Profile | str
@@ -35,13 +35,19 @@ class Compared:
             listing = machine.listing(task, is_tuned)
             return listing if isinstance(listing, str) else machine.profile(task, listing)
 
-        return Compared(task, profile(False), profile(True))
+        by_compile = profile(False)
+        return Compared(task, by_compile, by_compile if task.part else profile(True))
 
     @property
     def profile(self) -> Profile | None:
         """The profile by `compile`, or that by `tune` where there is none."""
         found = (one for one in (self.by_compile, self.by_tune) if isinstance(one, Profile))
         return next(found, None)
+
+    @property
+    def commands(self) -> str:
+        """What makes the words where both have the same."""
+        return 'by dual' if self.task.part else 'by compile and by tune'
 
     @property
     def is_one(self) -> bool:
@@ -63,17 +69,15 @@ class Page:
             transfer for row in self.usage.rows for transfer in self.usage.wanted(row))
         self.modes = read_patterns(machine.record.done('extract', machine.path))
         self.keys = {pattern.transfer: key for key, pattern, _ in reversed([*self.patterns()])}
-        self.ways = Ways(machine.graph)
+        self.ways, mode = Ways(machine.graph), machine.transfers.mode
+        self.encoders = [Encoder(machine.items, (mode, value) if mode else None)
+                         for value in range(len(self.modes))]
 
     def patterns(self) -> Iterator[tuple[str, Pattern, int]]:
         """All patterns with their mode, and a key of their own."""
         for mode, patterns in enumerate(self.modes):
             for pattern in patterns:
                 yield f'{mode}-{pattern.number}', pattern, mode
-
-    def encoder(self, mode: int) -> Encoder:
-        name = self.machine.transfers.mode
-        return Encoder(self.machine.items, (name, mode) if name else None)
 
     def text(self) -> str:
         """The page."""
@@ -105,7 +109,7 @@ class Page:
 
     def programs(self) -> Markup:
         """The words and cycles of each program."""
-        heads = ('program', 'compile: words', 'cycles', 'tune: words', 'cycles')
+        heads = ('program', 'by compile: words', 'cycles', 'by tune: words', 'cycles')
         rows = [element('tr', *(element('th', head) for head in heads))]
         for pair in self.compared:
             link = element('a', pair.task.source.name, href=f'#{anchor(pair.task.source.name)}')
@@ -118,8 +122,8 @@ class Page:
     def instruction_set(self) -> Markup:
         """The drawing, and below it the transfers by storage."""
         told = ('Click on a transfer: its way is lit in the drawing. Blue bits decide, as the least '
-                'word has them; green ones are operands; the others are free for other transfers '
-                'of the word. Grey transfers are wanted by no word of the programs.')
+                'word has them, and green ones are operands; what keeps other drivers off a bus '
+                "isn't told. Grey transfers are wanted by no word of the programs.")
         caption = element('div', element('button', 'fit or full size', type='button'),
                           element('span', 'no transfer is lit'), klass='way-told')
         charts = [chart for mode in range(len(self.modes)) for chart in self.charts(mode)]
@@ -128,7 +132,7 @@ class Page:
 
     def charts(self, mode: int) -> Iterator[Markup]:
         """A chart for each storage in a mode."""
-        encoder, by_storage = self.encoder(mode), collections.defaultdict(list)
+        by_storage = collections.defaultdict(list)
         if len(self.modes) > 1:
             yield element('h3', f'With {self.machine.transfers.mode} = {mode}')
         for key, pattern, own in self.patterns():
@@ -137,21 +141,23 @@ class Page:
         for storage in self.usage.storages:
             yield element('h3', str(storage))
             if by_storage[storage.name]:
-                rows = [self.chart_row(encoder, key, pattern)
+                rows = [self.chart_row(self.encoders[mode], key, pattern)
                         for key, pattern in by_storage[storage.name]]
                 yield element('table', self.bit_numbers(), *rows, klass='chart')
 
     def bit_numbers(self) -> Markup:
         numbers = (element('th', str(bit), klass='bit')
                    for bit in reversed(range(self.machine.netlist.code.width)))
-        return element('tr', element('th', 'transfer'), *numbers, element('th', 'words'))
+        return element('tr', element('th', 'transfer', klass='transfer'), *numbers,
+                       element('th', 'words', klass='words'))
 
     def chart_row(self, encoder: Encoder, key: str, pattern: Pattern) -> Markup:
         """A transfer with its bits, and the number of words that want it."""
         count = self.wanted[pattern.transfer]
         name = f'transfer-{key}'
         return element(
-            'tr', element('td', element('a', element('code', pattern.transfer), href=f'#{name}')),
+            'tr', element('td', element('a', element('code', pattern.transfer), href=f'#{name}'),
+                          klass='transfer'),
             *map(bits_cell, encoder.stretches(pattern)),
             element('td', str(count or ''), klass='number'),
             id=name, klass=None if count else 'unused')
@@ -159,23 +165,14 @@ class Page:
     def lit(self) -> dict[str, dict]:
         """What each transfer lights, and what is told of it. In a mode a drawing has the way of
         what doesn't depend on that."""
-        plain = Encoder(self.machine.items, None)
-        encoders = [self.encoder(mode) for mode in range(len(self.modes))]
         found = {}
         for key, pattern, mode in self.patterns():
-            path, own = self.way(pattern), encoders[mode].path(pattern)
-            fields = own.fields() if own else {}
-            decided = ', '.join(f'{plain.operand(*net.bounds)} = {value}'
-                                for net, value in fields.items())
-            told = f'{pattern.transfer}   word {pattern.word}   {decided}'.rstrip()
+            encoder, path = self.encoders[mode], path_of(self.machine.graph, pattern)
+            fields = (f'{encoder.named(bounds)} = {value}'
+                      for bounds, value in encoder.deciding(pattern).items())
+            told = ', '.join([f'{pattern.transfer}: word {pattern.word}', *fields])
             found[key] = {'parts': self.ways.lit(path) if path else [], 'told': told}
         return found
-
-    def way(self, pattern: Pattern) -> Path | None:
-        """The way of a pattern in the drawing, where it is told there."""
-        encoder = Encoder.__new__(Encoder)
-        encoder.graph = self.machine.graph
-        return encoder.path(pattern)
 
     # code
 
@@ -184,7 +181,7 @@ class Page:
         name = pair.task.source.name
         head = element('h3', name, id=anchor(name))
         profiles = [pair.by_compile] if pair.is_one else [pair.by_compile, pair.by_tune]
-        names = ['by compile and by tune'] if pair.is_one else ['by compile', 'by tune']
+        names = [pair.commands] if pair.is_one else ['by compile', 'by tune']
         if not pair.profile:
             return joined(head, element('p', str(pair.by_compile), klass='fault'))
         rows = [element('tr', element('th', 'statement', klass='statement'),

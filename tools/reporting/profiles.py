@@ -19,7 +19,7 @@ from rtn.operators import bits
 from rtn.reading import Fault, read_netlist
 from rtn.runs import started
 from rtn.settling import WordClock
-from rtn.syntax import Memory, Register
+from rtn.syntax import Array, Memory, Register
 
 LONGEST = 1_000_000
 
@@ -159,12 +159,13 @@ class Usage:
         self.fields = list(self.by_field()) if self.rows else []
 
     def by_storage(self) -> Iterator[StorageUse]:
-        """The registers and the memories in their order in the netlist."""
+        """The registers and the memories in their order in the netlist. A bank isn't among them: its
+        transfers are those of the memory in the view."""
         listed = dict.fromkeys(transfer for mode in self.machine.transfers.transfers
                                for transfer in mode)
         wanted = {transfer for row in self.rows for transfer in self.wanted(row)}
         for item in self.machine.items:
-            if isinstance(item, Register | Memory):
+            if isinstance(item, Register) or isinstance(item, Memory) and item.array != Array.BANK:
                 own = tuple(transfer for transfer in listed if storage_of(transfer) == item.name)
                 yield StorageUse(item.name, own, frozenset(wanted.intersection(own)))
 
