@@ -14,8 +14,8 @@ have. A netlist that is refused has no transfers, and its fault stands in their 
 For each program a line of the table follows. `words` is the length of its image by `compile`, with
 --tune by `tune`, or with a part by `dual`, on OLD and on NEW. `cycles` is, where a memory text
 stands behind the program, the cycle of the end mark when it is run from there, or `budget` where it
-doesn't come within 1,000,000: by `record go`, or for `tune` and `dual` clocked here. Where a program
-or netlist is refused, the fault stands in place of the numbers. Below the table stand the
+doesn't come within 1,000,000: by `record go`, or for `tune` and `dual` clocked here. Where a
+program or netlist is refused, the fault stands in place of the numbers. Below the table stand the
 statements that have other numbers of words on NEW than on OLD.
 
 The exit status is 0, or 2 where the words are none of these.

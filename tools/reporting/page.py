@@ -8,7 +8,7 @@ import math
 import pathlib
 from collections.abc import Iterator, Sequence
 
-from listing import Row
+from listing import Row, Statement
 from reporting.encoding import Encoder, Stretch, path_of
 from reporting.html import Markup, element, joined
 from reporting.profiles import Machine, Profile, Usage
@@ -44,17 +44,16 @@ class Compared:
         found = (one for one in (self.by_compile, self.by_tune) if isinstance(one, Profile))
         return next(found, None)
 
-    @property
-    def commands(self) -> str:
-        """What makes the words where both have the same."""
-        return 'by dual' if self.task.part else 'by compile and by tune'
-
-    @property
-    def is_one(self) -> bool:
-        """Whether both have the same words."""
-        both = (self.by_compile, self.by_tune)
-        return all(isinstance(one, Profile) for one in both) and (
-            both[0].listing.image.words == both[1].listing.image.words)
+    def columns(self) -> dict[str, Profile | str]:
+        """What there is to show by the names of the commands, once where both have the same
+        words."""
+        if self.task.part:
+            return {'by dual': self.by_compile}
+        both = [self.by_compile, self.by_tune]
+        images = [one.listing.image.words for one in both if isinstance(one, Profile)]
+        if len(images) == 2 and images[0] == images[1]:
+            return {'by compile and by tune': self.by_compile}
+        return dict(zip(('by compile', 'by tune'), both))
 
 
 class Page:
@@ -121,9 +120,9 @@ class Page:
 
     def instruction_set(self) -> Markup:
         """The drawing, and below it the transfers by storage."""
-        told = ('Click on a transfer: its way is lit in the drawing. Blue bits decide, as the least '
-                'word has them, and green ones are operands; what keeps other drivers off a bus '
-                "isn't told. Grey transfers are wanted by no word of the programs.")
+        told = ('Click on a transfer: its way is lit in the drawing. Blue bits decide, as the '
+                'least word has them, and green ones are operands; what keeps other drivers off a '
+                "bus isn't told. Grey transfers are wanted by no word of the programs.")
         caption = element('div', element('button', 'fit or full size', type='button'),
                           element('span', 'no transfer is lit'), klass='way-told')
         charts = [chart for mode in range(len(self.modes)) for chart in self.charts(mode)]
@@ -178,32 +177,28 @@ class Page:
 
     def code(self, pair: Compared) -> Markup:
         """A program beside its code."""
-        name = pair.task.source.name
+        name, columns = pair.task.source.name, pair.columns()
         head = element('h3', name, id=anchor(name))
-        profiles = [pair.by_compile] if pair.is_one else [pair.by_compile, pair.by_tune]
-        names = [pair.commands] if pair.is_one else ['by compile', 'by tune']
         if not pair.profile:
             return joined(head, element('p', str(pair.by_compile), klass='fault'))
-        rows = [element('tr', element('th', 'statement', klass='statement'),
-                        *(element('th', self.head(told, one)) for told, one in zip(names, profiles)))]
+        heads = (element('th', f'{told}: {summary(one)}') for told, one in columns.items())
+        rows = [element('tr', element('th', 'statement', klass='statement'), *heads)]
         statements = pair.profile.listing.statements
-        for number, statement in enumerate(statements):
-            columns = [self.words(one, number) for one in profiles]
-            counts = {len(one.listing.statements[number].rows)
-                      for one in profiles if isinstance(one, Profile)}
-            text = joined(element('span', f'{statement.line} ', klass='told'),
-                          element('code', statement.text))
-            rows.append(element('tr', element('td', text), *columns,
-                                klass='changed' if len(counts) > 1 else None))
-        ends = [self.words(one, None) for one in profiles]
+        rows += [self.statement(statement, number, list(columns.values()))
+                 for number, statement in enumerate(statements)]
+        ends = (self.words(one, None) for one in columns.values())
         rows.append(element('tr', element('td', 'end', klass='told'), *ends))
         return joined(head, element('table', *rows, klass='code'))
 
-    @staticmethod
-    def head(name: str, profile: Profile | str) -> str:
-        if isinstance(profile, str):
-            return f'{name}: {profile}'
-        return f'{name}: {profile.words} words, {profile.cycles} cycles'
+    def statement(self, statement: Statement, number: int,
+                  columns: Sequence[Profile | str]) -> Markup:
+        """A statement beside its words by each command."""
+        counts = {len(one.listing.statements[number].rows)
+                  for one in columns if isinstance(one, Profile)}
+        text = joined(element('span', f'{statement.line} ', klass='told'),
+                      element('code', statement.text))
+        return element('tr', element('td', text), *(self.words(one, number) for one in columns),
+                       klass='changed' if len(counts) > 1 else None)
 
     def words(self, profile: Profile | str, number: int | None) -> Markup:
         """The words of a statement, or with no number of the end."""
@@ -224,7 +219,8 @@ class Page:
         return element(
             'div', element('span', f'{count} ×', klass='count'),
             element('span', str(row.address), klass='place'), element('span', row.digits),
-            element('span', *links), klass='word', style=f'background: rgba(255, 146, 43, {heat:.2f})')
+            element('span', *links), klass='word',
+            style=f'background: rgba(255, 146, 43, {heat:.2f})')
 
     # use
 
@@ -252,6 +248,13 @@ class Page:
 def anchor(name: str) -> str:
     """The place of a head."""
     return name.lower().replace(' ', '-')
+
+
+def summary(profile: Profile | str) -> str:
+    """The words and cycles of a program, or its fault, in words."""
+    if isinstance(profile, str):
+        return profile
+    return f'{profile.words} words, {profile.cycles} cycles'
 
 
 def taken(profile: Profile | str) -> list[Markup]:

@@ -55,7 +55,8 @@ class Machine:
         self.record, self.path = record, path
         text = path.read_text(errors='replace')
         self.items = read_netlist(text)
-        self.netlist, self.graph, self.store = Netlist(text), Graph(self.items), Store.of(self.items)
+        self.netlist, self.graph = Netlist(text), Graph(self.items)
+        self.store = Store.of(self.items)
         self.transfers = Transfers(text, record.done('extract', path))
 
     def listing(self, task: Task, is_tuned: bool) -> Listing | str:
@@ -159,8 +160,8 @@ class Usage:
         self.fields = list(self.by_field()) if self.rows else []
 
     def by_storage(self) -> Iterator[StorageUse]:
-        """The registers and the memories in their order in the netlist. A bank isn't among them: its
-        transfers are those of the memory in the view."""
+        """The registers and the memories in their order in the netlist. A bank isn't among them:
+        its transfers are those of the memory in the view."""
         listed = dict.fromkeys(transfer for mode in self.machine.transfers.transfers
                                for transfer in mode)
         wanted = {transfer for row in self.rows for transfer in self.wanted(row)}

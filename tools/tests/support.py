@@ -24,6 +24,8 @@ needs_record = unittest.skipUnless(
     'no program `record`: the variable RECORD_BINARY names one that was built')
 needs_icarus = unittest.skipUnless(
     icarus.is_there(), 'no Icarus Verilog: apt-get install iverilog')
+needs_graphviz = unittest.skipUnless(
+    shutil.which('dot'), 'no graphviz: apt-get install graphviz')
 needs_yosys = unittest.skipUnless(
     shutil.which('yosys'), 'no Yosys: apt-get install yosys')
 

@@ -33,6 +33,7 @@ WRONG = {
     'programs.py': ([BINARY, '--files', '--modes'], [BINARY, '--tune', '--files'], [BINARY, 'x'],
                     []),
     'reading.py': (['no_such_clause'], ['/etc/passwd'], ['no/such/file']),
+    'report.py': ([BINARY, 'a.rtn'], [BINARY, 'a.rtn', '-o'], []),
     'rows.py': (['--fill'], ['--check', '--fill', BINARY], ['a']),
     'verilog.py': ([], ['a', 'b', 'c', 'd']),
 }
@@ -46,6 +47,8 @@ UNUSABLE = {
     'picture.py': (['no.rtn'], [EXAMPLES / 'sum.mem'], [EXAMPLES]),
     'profile.py': ([BINARY, 'no.rtn', 'p.src'], [BINARY, EXAMPLES / 'a16.rtn', 'm.mem'],
                    [BINARY, EXAMPLES / 'a16.rtn', 'p.src', '--mem', 'x']),
+    'report.py': ([BINARY, 'no.rtn', '-o', '/tmp'],
+                  [BINARY, EXAMPLES / 'a16.rtn', 'm.mem', '-o', '/tmp']),
     'verilog.py': (['no.rtn'], [EXAMPLES / 'sum.mem'], [EXAMPLES],
                    [EXAMPLES / 'a16.rtn', EXAMPLES / 'sum.mem'],
                    [EXAMPLES / 'a16.rtn', EXAMPLES / 'sum.img', EXAMPLES / 'sum.src']),

@@ -1,17 +1,24 @@
 """What programs take and use: profiles, changes and the page of a netlist."""
+import html.parser
+import json
 import pathlib
+import re
 import tempfile
 import unittest
 import unittest.mock
 
+from drawing.nets import Graph
+from reporting.encoding import Encoder, path_of
+from reporting.html import element
 from reporting.profiles import Machine, Usage, changed_statements, run_of
 from reporting.tasks import Task, read_tasks
 from rtn.clock import Netlist
 from rtn.images import image_text, read_image
 from rtn.names import read_setting
-from rtn.reading import Fault
+from rtn.patterns import Pattern
+from rtn.reading import Fault, read_netlist
 from rtn.runs import TWIN, went
-from tests.support import EXAMPLES, RECORD, needs_record, record, run_here
+from tests.support import EXAMPLES, RECORD, needs_graphviz, needs_record, record, run_here
 
 A16, XY, C10I = (EXAMPLES / f'{name}.rtn' for name in ('a16', 'xy', 'c10i'))
 COUNT, DOT, SORT = (EXAMPLES / f'{name}.src' for name in ('count', 'dot', 'sort'))
@@ -142,6 +149,118 @@ class Profiles(unittest.TestCase):
         self.assertRegex(run.stdout, r'(?m)^dot\.src error no cover 2 +-> error no cover 2$')
         run = run_here('change.py', RECORD, C10I, C10I, DOT, DOT_MEMORY, '--tune')
         self.assertRegex(run.stdout, r'(?m)^dot\.src (\d+) +(\d+) +-> \1 +\2$')
+
+
+class Encodings(unittest.TestCase):
+    """The bits of transfers, by hand."""
+
+    def stretches(self, transfer: str, word: str, mode: tuple[str, int] | None = None,
+                  text: str = SMALL) -> str:
+        encoder = Encoder(read_netlist(text), mode)
+        found = encoder.stretches(Pattern(0, transfer, word))
+        self.assertEqual(sum(stretch.width for stretch in found), encoder.code.width)
+        return ' '.join(stretch.text or '-' * stretch.width for stretch in found)
+
+    def test_bits(self):
+        for transfer, word, due in (
+                ('PC := add(PC,1#4)', '00', '0 -------'),
+                ('PC := slice(I,3,0)', '80', '1 --- I[3:0]'),
+                ('A := slice(I,3,0)', '00', '- 0 -- I[3:0]'), ('A := A', '00', '--------')):
+            self.assertEqual(self.stretches(transfer, word), due, transfer)
+
+    def test_names_and_neighbours(self):
+        text = SMALL.replace('I[7] {', 'top {').replace('I[3:0] when not(I[6])',
+                                                        'f when and(top, next)')
+        text += 'net top : 1 = I[7]; net next : 1 = I[6]; net f : 4 = I[3:0];'
+        self.assertEqual(self.stretches('A := slice(I,3,0)', 'c0', text=text), '1 1 -- f I[3:0]')
+
+    def test_a_mode(self):
+        text = 'version 3;' + SMALL.replace('case I[7]', 'case xor(W, I[7])') + (
+            'mode W : 1 in I[0] when I[5];')
+        transfer = 'PC := slice(I,3,0)'
+        self.assertEqual(self.stretches(transfer, '80', ('W', 0), text), '1 --- I[3:0]')
+        self.assertEqual(self.stretches(transfer, '00', ('W', 1), text), '0 --- I[3:0]')
+        self.assertIsNone(path_of(Graph(read_netlist(text)), Pattern(0, transfer, '00')))
+
+
+class Elements(unittest.TestCase):
+    """HTML as text."""
+
+    def test_escapes(self):
+        made = element('p', 'a < b ', element('b', '&'), klass='x "y"', id=None, data_n=3)
+        self.assertEqual(made, '<p class="x &quot;y&quot;" data-n="3">a &lt; b <b>&amp;</b></p>')
+
+
+class Balance(html.parser.HTMLParser):
+    """Follows a page's elements, and collects the names of parts and of what is led to."""
+
+    def __init__(self):
+        super().__init__()
+        self.open, self.names, self.led_to, self.elsewhere = [], [], [], []
+
+    def handle_starttag(self, tag, attrs):
+        given = dict(attrs)
+        self.names += [given['id']] if 'id' in given else []
+        self.led_to += [given['href'].lstrip('#')] if 'href' in given else []
+        self.elsewhere += [key for key in ('src', 'xlink:href') if key in given]
+        if tag != 'meta':
+            self.open.append(tag)
+
+    def handle_startendtag(self, tag, attrs):
+        self.handle_starttag(tag, attrs)
+        self.open.pop()
+
+    def handle_endtag(self, tag):
+        if self.open.pop() != tag:
+            raise ValueError(f'{tag} ends at {self.getpos()}')
+
+
+@needs_record
+@needs_graphviz
+class Pages(unittest.TestCase):
+    """The page of a netlist."""
+
+    def page(self, *words) -> str:
+        with tempfile.TemporaryDirectory() as folder:
+            run = run_here('report.py', RECORD, *words, '-o', folder)
+            self.assertEqual((run.returncode, run.stderr), (0, ''))
+            return pathlib.Path(run.stdout.strip()).read_text()
+
+    def check(self, page: str) -> dict[str, dict]:
+        """That a page is whole and needs no other; gives what its transfers light."""
+        found = Balance()
+        found.feed(page)
+        self.assertEqual((found.open, found.elsewhere), ([], []))
+        self.assertEqual(len(found.names), len(set(found.names)))
+        self.assertLessEqual(set(found.led_to), set(found.names))
+        ways = json.loads(re.search(r'const ways = (.*);\n', page)[1].replace('<\\/', '</'))
+        for way in ways.values():
+            self.assertLessEqual(set(way['parts']), set(found.names))
+        return ways
+
+    def test_example(self):
+        page = self.page(XY, DOT, DOT_MEMORY, SORT)
+        ways = self.check(page)
+        self.assertTrue(all(way['parts'] for way in ways.values()))
+        self.assertEqual(len({tuple(way['parts']) for way in ways.values()}), len(ways))
+        for text in ('by compile and by tune: 18 words, 104 cycles',
+                     '<h3>A: 5 of 20 transfers</h3>', 'seq I[31:29]: 4 of 8 values'):
+            self.assertTrue(text in page, text)
+
+    def test_two_netlists(self):
+        page = self.page(A16, EXAMPLES / 'pair.rtn', EXAMPLES / 'add.src')
+        self.check(page)
+        self.assertTrue('a16.rtn -&gt; pair.rtn' in page)
+
+    def test_modes_and_banks(self):
+        for words in ([EXAMPLES / 'm16.rtn', DOT], [TWIN, DOT, DOT_PART]):
+            with self.subTest(words=words):
+                self.check(self.page(*words))
+
+    def test_a_refused_program(self):
+        page = self.page(A16, DOT)
+        self.check(page)
+        self.assertTrue('<p class="fault">error no cover 3</p>' in page)
 
 
 if __name__ == '__main__':
