@@ -51,7 +51,7 @@ def statements(profile: Profile, by_compile: Listing | None) -> Iterator[str]:
         yield (f'{len(statement.rows):6} {spent:8} {share}  '
                f'line {statement.line}: {statement.text}{told}')
         for row in statement.rows:
-            head = f'{profile.count(row):15} times{row.address:6}  {row.digits}'
+            head = f'{profile.count(row):15}x{row.address:6}  {row.digits}'
             yield f'{head}  {" & ".join(row.texts)}'.rstrip()
 
 
