@@ -6,11 +6,12 @@ import unittest
 from rtn.bench import verilog_text
 from rtn.clock import Netlist
 from rtn.endings import end_of, goes_to_itself
+from rtn.icarus import Icarus
 from rtn.images import image_text, read_image
 from rtn.names import Setting, Store, read_setting
 from rtn.reading import Fault, read_netlist
 from rtn.runs import ran
-from tests.support import EXAMPLES, needs_record, record, run_here
+from tests.support import EXAMPLES, needs_icarus, needs_record, record, run_here
 
 # Bits 11:8 say what the counter does: 1 a jump, 2 a branch where A is 0, 3 a jump to a place behind
 # it, 4 to one that A tells, 5 by a bus; else it steps.
@@ -62,6 +63,13 @@ class Endings(unittest.TestCase):
     def test_a_bench_stops_there(self):
         image = image_text(12, ['0605', '0101'])
         self.assertIn('counter != 1 :', verilog_text(TURNS, 'n', image))
+
+    @needs_icarus
+    def test_waves_stop_there(self):
+        image = image_text(12, ['0605', '0101'])
+        with tempfile.TemporaryDirectory() as folder:
+            answer = Icarus().run(pathlib.Path(folder), verilog_text(TURNS, 'n', image))
+        self.assertEqual(answer.text, 'cycles 1\nPC 1\nA 5\ndone\n')
 
     @needs_record
     def test_a_run_stops_there(self):
