@@ -13,8 +13,8 @@ The page is DIR/NET.html, one file that needs no other and asks for none. It sho
   from the memory text behind the program, as profile.py counts;
 - what the programs use of the hardware.
 
-graphviz draws (apt-get install graphviz). With a bank or a mode register a transfer has no lit way
-where it tells the view of the memories or depends on the mode.
+graphviz draws (apt-get install graphviz). With a mode register a transfer that depends on the mode
+has no lit way.
 
 The exit status is 0, 1 where the netlist is refused or a file can't be used, or 2 where the words
 are none of these.

@@ -12,6 +12,8 @@ from drawing.dot import span
 from drawing.nets import Graph
 from drawing.paths import Path
 from reporting.fields import field_name
+from reporting.views import Transfer, transfer_of
+from rtn.names import Store
 from rtn.operators import bits
 from rtn.patterns import Pattern
 from rtn.reading import Fault
@@ -103,11 +105,14 @@ class Encoder:
 
 def path_of(graph: Graph, pattern: Pattern) -> Path | None:
     """The path of a pattern through these nets; None where they don't tell its transfer."""
+    transfer = transfer_of(pattern, Store.of(graph.items.values()))
     try:
-        path = Path(graph.storages[pattern.storage], int(pattern.word, 16))
+        path = Path(graph.storages[transfer.storage], int(pattern.word, 16))
     except Fault:
         return None
-    return path if path.text == pattern.transfer else None
+    found = Pattern(pattern.number, path.text, pattern.word)
+    is_told = transfer == Transfer(found.storage, found.address, found.value)
+    return path if is_told else None
 
 
 def bits_of(bounds: Bounds) -> range:

@@ -82,8 +82,7 @@ class InstructionSet:
 
     def lit(self) -> dict[str, dict]:
         """What each transfer lights in the drawing, by its key, and what is told of it. One that
-        the drawing doesn't tell, as it stands with a mode or in the view of two memories, lights
-        nothing."""
+        depends on the mode, which the drawing doesn't tell, lights nothing."""
         found = {}
         for key, pattern, mode in self.patterns():
             encoder, path = self.encoders[mode], path_of(self.machine.graph, pattern)

@@ -12,9 +12,10 @@ from reporting.encoding import Encoder, path_of
 from reporting.html import element
 from reporting.profiles import Machine, Usage, changed_statements, run_of
 from reporting.tasks import Task, read_tasks
+from reporting.views import Transfer, transfer_of
 from rtn.clock import Netlist
 from rtn.images import image_text, read_image
-from rtn.names import read_setting
+from rtn.names import Store, read_setting
 from rtn.patterns import Pattern
 from rtn.reading import Fault, read_netlist
 from rtn.runs import TWIN, went
@@ -183,6 +184,27 @@ class Encodings(unittest.TestCase):
         self.assertIsNone(path_of(Graph(read_netlist(text)), Pattern(0, transfer, '00')))
 
 
+class Views(unittest.TestCase):
+    """Transfers in the view of two memories."""
+
+    STORE = Store('M', 8, 'N', 16)
+
+    def test_places(self):
+        for transfer, due in (
+                ('A := read(M,zext(slice(I,3,0),5))', 'A := read(M,slice(I,3,0))'),
+                ('M[add(zext(X,5),16#5)] := A', 'N[X] := A'), ('M[zext(X,5)] := A', 'M[X] := A'),
+                ('A := add(X,read(M,add(zext(read(M,zext(X,5)),5),16#5)))',
+                 'A := add(X,read(N,read(M,X)))'), ('A := zext(X,5)', 'A := zext(X,5)')):
+            found = transfer_of(Pattern(0, transfer, '00'), self.STORE)
+            own = Pattern(0, due, '00')
+            self.assertEqual(found, Transfer(own.storage, own.address, own.value), transfer)
+
+    def test_without_a_bank(self):
+        pattern = Pattern(0, 'M[zext(X,5)] := read(M,zext(X,5))', '00')
+        self.assertEqual(transfer_of(pattern, Store('M', 8)),
+                         Transfer('M', pattern.address, pattern.value))
+
+
 class Elements(unittest.TestCase):
     """HTML as text."""
 
@@ -253,9 +275,10 @@ class Pages(unittest.TestCase):
         self.assertTrue('a16.rtn -&gt; pair.rtn' in page)
 
     def test_modes_and_banks(self):
-        for words in ([EXAMPLES / 'm16.rtn', DOT], [TWIN, DOT, DOT_PART]):
-            with self.subTest(words=words):
-                self.check(self.page(*words))
+        ways = self.check(self.page(EXAMPLES / 'm16.rtn', DOT))
+        self.assertEqual(sum(key.startswith('0-') for key in ways), 25)
+        ways = self.check(self.page(TWIN, DOT, DOT_PART))
+        self.assertTrue(all(way['parts'] for way in ways.values()))
 
     def test_a_refused_program(self):
         page = self.page(A16, DOT)
