@@ -6,10 +6,10 @@ Usage: banks.py BINARY [COUNT] [SEED]
 
 Each of COUNT runs (200 where none are given) makes a netlist with a bank, a program with elements
 at computed places, and a part of its variables, and compiles them by `record dual`. No command
-clocks such a netlist, so it is clocked by tools/rtn/clock.py as its text has it, with both its
-memories, from random cells and registers. At the marks the variables, in the memory or in the bank
-as the image's places say, have to be those that the interpreter has before each test and at the
-end, each test always under one label, each within one image length of clocks of the last; no bus
+clocks such a netlist, so it is clocked here (tools/rtn/following.py) as its text has it, with both
+its memories, from random cells and registers. At the marks the variables, in the memory or in the
+bank as the image's places say, have to be those that the program's text has before each test and at
+the end, each test under its label, each within one image length of clocks of the last; no bus
 clashes, and behind the end nothing changes. A run that is refused, for want of a cover for example,
 is counted and not compared. Of every fourth netlist the least word of each pattern that `record
 extract` tells is clocked from a random state, and the pattern's storage has to hold what its
@@ -24,30 +24,19 @@ import tempfile
 
 import command_line
 from rtn.calls import Program
-from rtn.checkpoints import Checkpoint, Watch
-from rtn.clock import Clash, Netlist, State
+from rtn.clock import Netlist, State
+from rtn.following import Follower, Viewed
 from rtn.images import Image, read_image
 from rtn.patterns import Meaning, Pattern, read_patterns
 from rtn.random_processors import Kind, random_processor
-from rtn.random_programs import COUNTERS, LAST, PLAIN, Indexing, assigned, program_text
+from rtn.random_programs import COUNTERS, PLAIN, Indexing, assigned, program_text
+from rtn.random_states import random_state
 from rtn.reading import read_netlist
+from rtn.sources import read_source
 
-BEHIND_END = 5
 CYCLES = 1500
 SECONDS = 60
 WRONG = 'wrong'
-
-
-def random_state(pick: random.Random, netlist: Netlist) -> State:
-    """A state whose program counter is 0."""
-    state = netlist.zeros()
-    for name, register in netlist.registers.items():
-        if name != netlist.code.counter and pick.random() < 0.7:
-            state[name] = pick.randrange(1 << register.width)
-    for name, cells in state.items():
-        if isinstance(cells, list):
-            state[name] = [pick.choice([0, 1, 2, 3, pick.randrange(LAST + 1)]) for _ in cells]
-    return state
 
 
 class View:
@@ -133,47 +122,8 @@ class Run:
         size, held = 1 << self.processor.address_bits, image.cells()
         if {cell.split('[')[0] for at, cell in held.items() if at >= size} != set(self.part):
             return 'other variables stand in the bank'
-        state = random_state(self.pick, self.netlist)
-        watch = Watch(self.program, self.store(state, held), len(image.words))
-        try:
-            checkpoints, ending, found = self.watched(image, state, held)
-        except Clash:
-            return 'a bus clashes'
-        return found or watch.differs(checkpoints, ending, CYCLES)
-
-    def store(self, state: State, held: dict[int, str]) -> dict[str, int]:
-        """What the variables' cells hold: those of the bank stand behind the memory's."""
-        size = 1 << self.processor.address_bits
-        return {cell: state['M'][at] if at < size else state['N'][at - size]
-                for at, cell in held.items()}
-
-    def watched(self, image: Image, state: State,
-                held: dict[int, str]) -> tuple[list[Checkpoint], str, str | None]:
-        """The checkpoints that `go` would write and their last line, and what is wrong with the
-        clocks behind the end, or None."""
-        counter, shown, found = self.netlist.code.counter, {cell: 0 for cell in held.values()}, []
-        for cycle in range(CYCLES + 1):
-            label = image.marks.get(state[counter])
-            if label:
-                store = self.store(state, held)
-                changes = tuple((cell, store[cell]) for _, cell in sorted(held.items())
-                                if store[cell] != shown[cell])
-                told = ''.join(f' {cell}={value}' for cell, value in changes)
-                found.append(Checkpoint(f'at {cycle} {label}{told}', cycle, label, changes))
-                shown = store
-            if label == 'end':
-                return found, 'end', self.leaves(image, state, held)
-            state = self.netlist.clock(state, image.word(state[counter]))
-        return found, 'budget', None
-
-    def leaves(self, image: Image, state: State, held: dict[int, str]) -> str | None:
-        """Whether a state at the end mark is left, or its store changes."""
-        counter, store = self.netlist.code.counter, self.store(state, held)
-        for _ in range(BEHIND_END):
-            state = self.netlist.clock(state, image.word(state[counter]))
-            if image.marks.get(state[counter]) != 'end' or self.store(state, held) != store:
-                return 'the end is left'
-        return None
+        follower = Follower(self.netlist, Viewed(image), read_source(self.files[1].read_text()))
+        return follower.differs(random_state(self.pick, self.netlist), CYCLES)
 
 
 def main():

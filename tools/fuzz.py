@@ -4,11 +4,11 @@ tokens.
 
 Usage: fuzz.py BINARY [COUNT] [SEED]
 
-Of COUNT texts (2,000 where none is given) each is given to `extract`, `compile`, `dual`, `run`,
-`asm` and `dis`, as a netlist, a program, a part, an image, a memory text or an assembler text. Each
-run has to end within a second with a status of docs/FORMATS.md, and to write something unless the
-status is 4 or `dis` shows an image without words. Runs that don't are printed, with the text, and
-the exit status is then 1.
+Of COUNT texts (2,000 where none is given) each is given to `extract`, `compile`, `dual`, `check`,
+`run`, `asm` and `dis`, as a netlist, a program, a part, an image, a memory text or an assembler
+text. Each run has to end within a second with a status of docs/FORMATS.md, and to write something
+unless the status is 4 or `dis` shows an image without words. Runs that don't are printed, with the
+text, and the exit status is then 1.
 """
 import collections
 import dataclasses
@@ -23,13 +23,14 @@ from rtn.operators import OPERATORS, WIRING
 from rtn.runs import EXAMPLES
 
 SECONDS = 1
-STATUSES = frozenset({0, 2, 3, 5, 6, 7, 8, 9, 10, 11, 12, 13, 16, 17, 19})
+STATUSES = frozenset({0, 2, 3, 5, 6, 7, 8, 9, 10, 11, 12, 13, 16, 17, 19, 20, 21})
 TOKENS = re.compile(r'//[^\n]*\n|\s+|\w+|.', re.S)
 KINDS = ('rtn', 'src', 'part', 'img', 'mem', 'asm')
 CHANGED = ('rtn', 'rtn', 'rtn', 'src', 'part', 'img', 'mem', 'asm')
-CALLS = ('extract rtn', 'compile rtn src', 'dual rtn src part', 'run rtn img mem 50',
-         'asm rtn asm', 'dis rtn img')
+CALLS = ('extract rtn', 'compile rtn src', 'dual rtn src part', 'check rtn src img',
+         'run rtn img mem 50', 'asm rtn asm', 'dis rtn img')
 LINES = 'image temps place tree mark word done end cycles - 0 1 2 03 3f 82 PC M R 255 65536'
+REMARKS = 'view hide hold know a i s x y ACC R1 read add sub slice # , ( ) 0#16 1#16 8#16'
 
 # The words that are put in, by the kind of text.
 WORDS = {
@@ -41,7 +42,7 @@ WORDS = {
               << >> >>> == != < <= > >= 0 1 31 32 255 65535 65536 18446744073709551616 a b i
               s'''.split(),
     'part': ['a', 'b', 'i', 's', 'x', 'y', '\n', '\n', ' ', '[', '0'],
-    'img': LINES.split(),
+    'img': [*LINES.split(), *REMARKS.split()],
     'mem': LINES.split(),
     'asm': ''':= & with keep raw PC ACC A X M read slice add eq select ( ) [ ] , # : = 7 0 1 8 16 03
               0f'''.split(),
@@ -95,6 +96,7 @@ class Good:
                       for kind in KINDS}
         self.parts = sorted(EXAMPLES.glob('*.part'))
         self.images = sorted(EXAMPLES.glob('*.hand.img'))
+        self.checked = sorted((EXAMPLES / 'checked').glob('*.img'))
 
     def some(self, pick: random.Random) -> dict[str, str]:
         """A text of each kind; often such that go together."""
@@ -103,6 +105,13 @@ class Good:
             # a netlist with two memories, and a part of the program
             part = pick.choice(self.parts)
             files = {'rtn': EXAMPLES / 'twin.rtn', 'src': part.with_suffix('.src'), 'part': part}
+        elif pick.random() < 0.3:
+            # an image with remarks, for the netlist and the program
+            image = pick.choice(self.checked)
+            program, processor, _ = image.name.split('.')
+            source = next(path for path in (image.with_name(f'{program}.src'),
+                                            EXAMPLES / f'{program}.src') if path.exists())
+            files = {'rtn': EXAMPLES / f'{processor}.rtn', 'src': source, 'img': image}
         elif pick.random() < 0.5:
             # an image and an assembler text of the netlist
             image = pick.choice(self.images)

@@ -99,6 +99,16 @@ def image_of_bytes(count: int) -> str:
     return f'image 8 {count}\ntemps 0\n{words}done\n'
 
 
+def image_of_marks(count: int) -> str:
+    """Words on `WIDE` that are all marks of one test, with a view each, but for the first and the
+    last."""
+    words = ''.join(f'word {k} 010003 -\n' for k in range(count - 1))
+    marks = ''.join(f'mark {k} 0\n' for k in range(1, count - 1))
+    views = ''.join(f'view {k} a ACC\n' for k in range(1, count - 1))
+    return (f'image 24 {count}\ntemps 3\nplace a 3 1\n{marks}mark {count - 1} end\n{words}'
+            f'word {count - 1} 06{count - 1:04x} -\ndone\n{views}done\n')
+
+
 def example(name: str) -> str:
     return (EXAMPLES / f'{name}.rtn').read_text()
 
@@ -162,6 +172,17 @@ def runs() -> Iterator[Case]:
     yield Case('the greatest made-up program', 'make 1000', {})
 
 
+def checks() -> Iterator[Case]:
+    """Images that are refused when all of their lines were read and held against the rules."""
+    down = (EXAMPLES / 'checked' / 'down.src').read_text()
+    yield Case('21,600 marks with a view each', 'check n s i',
+               {'n': WIDE, 's': down, 'i': image_of_marks(21_600)})
+    image, views, hints = (EXAMPLES / 'checked' / 'down.a16.img').read_text().partition('view ')
+    yield Case('a megabyte of views of one variable', 'check n s i',
+               {'n': example('a16'), 's': down,
+                'i': repeated(image, lambda k: 'view 3 a ACC\n', views + hints)})
+
+
 def megabytes() -> Iterator[Case]:
     yield Case('a megabyte of such sums, on dsp.rtn', 'compile n s',
                {'n': example('dsp'), 's': repeated('var a,x;', lambda k: TREE)})
@@ -172,7 +193,7 @@ def megabytes() -> Iterator[Case]:
 
 
 def cases() -> Iterator[Case]:
-    for some in (netlists, programs, more_programs, runs, megabytes):
+    for some in (netlists, programs, more_programs, runs, checks, megabytes):
         yield from some()
 
 

@@ -3,6 +3,7 @@
 they are of.
 
 Usage: listing.py BINARY [--tune] NET.rtn PROGRAM.src [PROGRAM.part] [--check LISTING]
+       listing.py BINARY NET.rtn --kernel IMAGE
 
 BINARY is run as `extract` and `compile`, with --tune as `tune`, and for a netlist with a bank as
 `dual` with the part. Above stand the cells of the variables. Each statement has its line in the
@@ -17,8 +18,13 @@ mode 0 back, a test with its branches. Where a step was packed ahead into a word
 before, it stands there. The last line has the sums.
 
 With --check nothing is written where LISTING is this listing; else what differs is, and the exit
-status is 1. It is also 1 where the program or the netlist is refused, and 2 where the words are
-none of these.
+status is 1.
+
+With --kernel an image, with the remarks on it where it has some, is written as a text that can be
+changed by hand: `kernel.py` makes the same image of it.
+
+The exit status is also 1 where the program, the image or the netlist is refused, and 2 where the
+words are none of these.
 """
 from __future__ import annotations
 
@@ -33,6 +39,7 @@ import command_line
 from reporting.tasks import Task
 from rtn.calls import Program
 from rtn.images import Image, read_image
+from rtn.kernel_texts import kernel_of
 from rtn.operators import bits, mask
 from rtn.patterns import read_patterns
 from rtn.reading import read_netlist
@@ -278,9 +285,18 @@ def main():
     words.add_argument('--tune', action='store_true')
     words.add_argument('--check', metavar='LISTING')
     words.add_argument('netlist', metavar='NET.rtn', type=pathlib.Path)
-    words.add_argument('source', metavar='PROGRAM.src', type=pathlib.Path)
+    words.add_argument('source', metavar='PROGRAM.src', type=pathlib.Path, nargs='?')
     words.add_argument('part', metavar='PROGRAM.part', type=pathlib.Path, nargs='?')
+    words.add_argument('--kernel', metavar='IMAGE', type=pathlib.Path)
     given = words.words()
+    if (given.source is None) == (given.kernel is None):
+        words.error('a program is listed, or an image is written as a kernel')
+    if given.kernel and (given.tune or given.check):
+        words.error('--kernel goes without --tune and --check')
+    if given.kernel:
+        image = given.kernel.read_text()
+        sys.stdout.write(kernel_of(given.binary, given.netlist, image))
+        return 0
     task = Task(given.source, given.part)
     text = listed(given.binary, given.netlist, task, given.tune)
     if given.check is None:

@@ -13,9 +13,9 @@ at that mark. A run that is refused, for want of a cover for example, is counted
 With --files each netlist has a register file, with --modes a mode register, which has to be 0 at
 each mark, and with --wide an accumulator that is wider than the memory.
 
-With --tune each program is compiled by `record tune`. Its image is clocked here, by
-tools/rtn/clock.py, and has to show the same stores at its marks; what `record compile` compiles may
-not be refused.
+With --tune each program is compiled by `record tune`. Its image is clocked here, beside a run of
+the program's text (tools/rtn/following.py), and has to show the same stores at its marks; what
+`record compile` compiles may not be refused.
 """
 import collections
 import dataclasses
@@ -26,10 +26,13 @@ import tempfile
 import command_line
 from rtn.calls import Program
 from rtn.checkpoints import Checkpoint, Watch, read_checkpoints, store_after
-from rtn.clock import Netlist, State
+from rtn.clock import Netlist
+from rtn.following import Follower, Viewed
 from rtn.images import Image, read_cells, read_image, read_settings
 from rtn.random_processors import Kind, random_processor
-from rtn.random_programs import LAST, Block, Interpreter, Maker, program_text
+from rtn.random_programs import LAST, Block, Maker, program_text
+from rtn.runs import started
+from rtn.sources import read_source
 
 CYCLES = 1500
 SECONDS = 60
@@ -64,7 +67,7 @@ class Run:
         self.image.write_text(answer.text)
         image = read_image(answer.text)
         store = self.random_store(image)
-        found = self.strays(image, store) if is_tuned else self.differs(image, store)
+        found = self.strays(image) if is_tuned else self.differs(image, store)
         return found, WRONG if found else RIGHT
 
     def random_store(self, image: Image) -> dict[str, int]:
@@ -116,38 +119,11 @@ class Run:
                 return f'{line}: run has {memory.get(address, 0)} for {cell}'
         return None
 
-    def first_state(self, netlist: Netlist) -> State:
-        """The state that the memory text says."""
-        state = netlist.zeros()
-        for name, at, value in read_settings(self.memory.read_text()):
-            if at is None:
-                state[name] = value
-            else:
-                state[name][at] = value
-        return state
-
-    def strays(self, image: Image, store: dict[str, int]) -> str | None:
-        """What is wrong with the stores at the marks of an image that is clocked here, or None."""
-        netlist = Netlist(self.processor.text)
-        state, labels, last = self.first_state(netlist), {}, 0
-        source = Interpreter(store)
-        expected, held = source.run(self.program), image.cells()
-        for cycle in range(CYCLES):
-            label = image.marks.get(state['PC'])
-            if label:
-                test, last = next(expected, None), cycle
-                stored = {cell: state['M'][address] for address, cell in held.items()}
-                if any(stored.get(cell, 0) != value for cell, value in source.cells.items()):
-                    return f'cycle {cycle}, {label}: the store is {source.cells}, not {stored}'
-                is_end = label == 'end'
-                if (test is None) != is_end or labels.setdefault(test, label) != label:
-                    return f'cycle {cycle}, {label}: the test is {test}'
-                if is_end:
-                    return None
-            if cycle - last > len(image.words):
-                return f'cycle {cycle}: the last mark was at {last}'
-            state = netlist.clock(state, image.word(state['PC']))
-        return None
+    def strays(self, image: Image) -> str | None:
+        """What is wrong where an image is clocked here beside the program, or None."""
+        netlist, source = Netlist(self.processor.text), read_source(self.source.read_text())
+        start = started(netlist, self.memory.read_text())
+        return Follower(netlist, Viewed(image), source).differs(start, CYCLES)
 
 
 def read_words():

@@ -68,6 +68,7 @@ CALLS = (
     'run a16.rtn sum.img sum.mem 4', 'extract a16.rtn', 'extract dsp.rtn',
     'go a16.rtn count.src sum.mem 100', 'make 1', 'dual both.rtn add.src add.part',
     'asm pair.rtn add.pair.hand.asm', 'dis a16.rtn sum.img',
+    'check a16.rtn checked/down.src checked/down.a16.img',
 )
 NO_MEMORY = 11
 

@@ -5,6 +5,7 @@ import dataclasses
 import os
 import pathlib
 import subprocess
+import tempfile
 from collections.abc import Mapping
 
 from rtn.reading import Fault
@@ -27,6 +28,13 @@ class Answer:
     def fault(self) -> str:
         """What a call says that didn't do what it was asked."""
         return self.text.strip() or self.errors.strip() or f'status {self.status}'
+
+    @property
+    def done(self) -> str:
+        """What a call wrote that has status 0; a Fault with what it says where it hasn't."""
+        if self.status:
+            raise Fault(self.fault)
+        return self.text
 
 
 @dataclasses.dataclass(frozen=True)
@@ -57,10 +65,14 @@ class Program:
 
     def done(self, *words) -> str:
         """What a call writes that has status 0; a Fault with what it says where it hasn't."""
-        answer = self(*words)
-        if answer.status:
-            raise Fault(answer.fault)
-        return answer.text
+        return self(*words).done
+
+    def on_text(self, text: str, *words) -> Answer:
+        """Runs the program on these words and a file with this text."""
+        with tempfile.TemporaryDirectory() as folder:
+            path = pathlib.Path(folder) / 'text'
+            path.write_text(text)
+            return self(*words, path)
 
 
 class Slow(Fault):

@@ -6,6 +6,7 @@ from __future__ import annotations
 import dataclasses
 from collections.abc import Iterable
 
+from rtn.images import END
 from rtn.random_programs import Block, Interpreter
 from rtn.reading import Fault
 
@@ -21,7 +22,7 @@ class Checkpoint:
 
     @property
     def is_end(self) -> bool:
-        return self.label == 'end'
+        return self.label == END
 
 
 def read_checkpoint(line: str) -> Checkpoint:

@@ -291,6 +291,11 @@ class Netlist:
         return after
 
 
+def copied(state: State) -> State:
+    """A state with memories of its own."""
+    return {name: held[:] if isinstance(held, list) else held for name, held in state.items()}
+
+
 def driven(of: Sequence[int], state: State, word: int) -> int:
     """The value of a bus, whose drivers' values and enables stand in turn."""
     return next((value for value, enable in zip(of[::2], of[1::2]) if enable), 0)

@@ -1,5 +1,5 @@
 """Reads the texts that `record` writes of code and of states (docs/FORMATS.md): images, the words
-of self-tests, memory texts and states.
+of self-tests, memory texts and states. Images are written, too.
 """
 from __future__ import annotations
 
@@ -8,6 +8,13 @@ import re
 from collections.abc import Iterable, Iterator
 
 from rtn.reading import Fault
+
+END = 'end'   # the label of the end mark
+
+
+def cells_of(name: str, length: int) -> list[str]:
+    """The names of a variable's cells; an array of one cell is told as a plain variable is."""
+    return [name] if length == 1 else [f'{name}[{k}]' for k in range(length)]
 
 
 @dataclasses.dataclass(frozen=True)
@@ -18,11 +25,13 @@ class Place:
     address: int
     length: int
 
+    @property
+    def line(self) -> str:
+        return f'place {self.name} {self.address} {self.length}'
+
     def cells(self) -> dict[int, str]:
         """The addresses of its cells, each with what the cell is called."""
-        if self.length == 1:
-            return {self.address: self.name}
-        return {self.address + k: f'{self.name}[{k}]' for k in range(self.length)}
+        return dict(enumerate(cells_of(self.name, self.length), self.address))
 
 
 @dataclasses.dataclass(frozen=True)
@@ -35,6 +44,9 @@ class Word:
     @property
     def number(self) -> int:
         return int(self.digits, 16)
+
+    def line(self, address: int) -> str:
+        return f'word {address} {self.digits} {",".join(map(str, self.patterns)) or "-"}'
 
 
 @dataclasses.dataclass(frozen=True)
@@ -51,7 +63,11 @@ class Image:
     @property
     def end(self) -> int | None:
         """The address of the end mark, or None."""
-        return next((at for at, label in self.marks.items() if label == 'end'), None)
+        return next((at for at, label in self.marks.items() if label == END), None)
+
+    @property
+    def head(self) -> str:
+        return f'image {self.width} {len(self.words)}'
 
     def word(self, address: int) -> int:
         """The word at an address, which is 0 past the last one."""
@@ -60,6 +76,24 @@ class Image:
     def cells(self) -> dict[int, str]:
         """The addresses of all variables' cells, each with what the cell is called."""
         return {at: name for place in self.places for at, name in place.cells().items()}
+
+    @property
+    def text(self) -> str:
+        """The image as it is written."""
+        return ''.join(f'{line}\n' for line in self.lines())
+
+    def lines(self) -> Iterator[str]:
+        yield self.head
+        yield f'temps {self.temporaries}'
+        yield from (place.line for place in self.places)
+        yield from (f'tree {number} {cost}' for number, cost in enumerate(self.costs))
+        yield from (mark_line(at, self.marks[at]) for at in sorted(self.marks))
+        yield from (word.line(at) for at, word in enumerate(self.words))
+        yield 'done'
+
+
+def mark_line(address: int, label: str) -> str:
+    return f'mark {address} {label}'
 
 
 def read_image(text: str) -> Image:
@@ -101,5 +135,5 @@ def read_settings(text: str) -> Iterator[tuple[str, int | None, int]]:
 
 def image_text(width: int, words: Iterable[str], *lines: str) -> str:
     """An image of words in hexadecimal digits, with other lines before them."""
-    listed = [f'word {at} {digits} -' for at, digits in enumerate(words)]
+    listed = [Word(digits).line(at) for at, digits in enumerate(words)]
     return '\n'.join([f'image {width} {len(listed)}', 'temps 0', *lines, *listed, 'done', ''])

@@ -5,6 +5,7 @@ import dataclasses
 from collections.abc import Callable, Iterable, Mapping, Sequence
 
 from rtn.clock import Clash, Edge, Net, Netlist, State
+from rtn.images import Image
 
 # The value of each net, by its number, and None for those that aren't decided.
 Settled = list[int | None]
@@ -79,6 +80,10 @@ class WordClock:
             elif values[edge.address] < len(state[name]):
                 after[name][values[edge.address]] = values[edge.value]
         return after
+
+    def after(self, state: State, image: Image) -> State:
+        """The state after a clock under the word of an image that the program counter names."""
+        return self.clock(state, image.word(state[self.netlist.code.counter]))
 
     def plan(self, word: int) -> Plan:
         settled = settled_values(self.netlist, word, {})

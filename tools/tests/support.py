@@ -5,10 +5,13 @@ import contextlib
 import io
 import os
 import pathlib
+import re
 import runpy
 import shutil
 import subprocess
 import sys
+import tempfile
+import textwrap
 import unittest
 from unittest import mock
 
@@ -68,3 +71,23 @@ def run_here(tool: str, *words) -> subprocess.CompletedProcess[str]:
 def example(name: str) -> str:
     """The text of a file of examples/."""
     return (EXAMPLES / name).read_text()
+
+
+def blocks_of(page: str) -> list[str]:
+    """The indented texts of a page of docs/."""
+    blocks = re.findall(r'(?:^    .*\n)+', (DOCS / page).read_text(), re.M)
+    return list(map(textwrap.dedent, blocks))
+
+
+class InFolder(unittest.TestCase):
+    """A test with files in a folder of its own."""
+
+    def setUp(self):
+        made = tempfile.TemporaryDirectory()
+        self.addCleanup(made.cleanup)
+        self.folder = pathlib.Path(made.name)
+
+    def file(self, name: str, text: str) -> pathlib.Path:
+        """A file with this text."""
+        (self.folder / name).write_text(text)
+        return self.folder / name

@@ -18,11 +18,18 @@ WRONG = {
     'banks.py': ([BINARY, 'many'], [BINARY, '1', '-1'], [BINARY, '1', '2', '3'], []),
     'change.py': ([BINARY, 'a.rtn'], [BINARY, 'a.rtn', 'b.rtn', 'm.mem'],
                   [BINARY, 'a.rtn', 'b.rtn', 'p.src', 'm.mem', 'm.mem'], []),
+    'checking.py': ([BINARY], [], [BINARY, '--files', 'a'], [BINARY, '--compiled', 'x'],
+                    [BINARY, '--changed', 'a', '1', '2', '3'], [BINARY, 'no/such/folder'],
+                    [BINARY, '--table', '--changed', 'a']),
     'clauses.py': ([], ['..', 'name'], ['..', 'a=b=c'], ['/nowhere']),
     'cosim.py': ([BINARY, 'x'], [BINARY, '1', '2', '3'], []),
     'faults.py': ([BINARY, '1', 'x'], [BINARY, '1', '2', '3'], []),
     'fuzz.py': ([BINARY, 'x'], []),
-    'listing.py': ([BINARY, 'a.rtn'], [BINARY, 'a.rtn', 'p.src', '--check'], []),
+    'kernel.py': ([BINARY, 'a.rtn'], [BINARY, 'a.rtn', 'k', '--check'],
+                  [BINARY, 'a.rtn', 'k', '-o'], [BINARY, 'a.rtn', 'k', 'p.src'], []),
+    'listing.py': ([BINARY, 'a.rtn'], [BINARY, 'a.rtn', 'p.src', '--check'],
+                   [BINARY, 'a.rtn', 'p.src', '--kernel', 'a.img'],
+                   [BINARY, '--tune', 'a.rtn', '--kernel', 'a.img'], []),
     'meanings.py': ([BINARY], [BINARY, '--files'], [BINARY, '--files', 'x'], []),
     'memory.py': ([], ['a.img', '--signed', '--net', 'a.rtn'], ['a.img', 'x=1', '--state', 's'],
                   ['a.img', '--state', 's', '--signed']),
@@ -36,11 +43,14 @@ WRONG = {
     'report.py': ([BINARY, 'a.rtn'], [BINARY, 'a.rtn', '-o'], []),
     'rows.py': (['--fill'], ['--check', '--fill', BINARY], ['a']),
     'verilog.py': ([], ['a', 'b', 'c', 'd']),
+    'views.py': ([BINARY, 'a.rtn', 'p.src'], [BINARY, 'a.rtn', 'p.src', 'k', '--runs', '0'],
+                 [BINARY, 'a.rtn', 'p.src', 'k', '--ask', 'x'], []),
 }
 
 # Files that can't be used; these tools say that their status is then 1.
 UNUSABLE = {
-    'listing.py': ([BINARY, 'no.rtn', 'no.src'],),
+    'kernel.py': ([BINARY, 'no.rtn', 'no'], [BINARY, EXAMPLES / 'a16.rtn', 'no']),
+    'listing.py': ([BINARY, 'no.rtn', 'no.src'], [BINARY, EXAMPLES / 'a16.rtn', '--kernel', 'no']),
     'memory.py': (['no.img', 'x=1'], [EXAMPLES / 'sum.mem'], [EXAMPLES / 'sum.img', 'x'],
                   [EXAMPLES / 'sum.img', 'no=1'], [EXAMPLES / 'sum.img', '--state', 'no.state'],
                   [EXAMPLES / 'sum.img', '--net', EXAMPLES / 'sum.mem', 'x=1']),
@@ -52,6 +62,7 @@ UNUSABLE = {
     'verilog.py': (['no.rtn'], [EXAMPLES / 'sum.mem'], [EXAMPLES],
                    [EXAMPLES / 'a16.rtn', EXAMPLES / 'sum.mem'],
                    [EXAMPLES / 'a16.rtn', EXAMPLES / 'sum.img', EXAMPLES / 'sum.src']),
+    'views.py': ([BINARY, 'no.rtn', 'p.src', 'k'],),
 }
 
 

@@ -48,6 +48,11 @@ class Images(unittest.TestCase):
         self.assertEqual([word.patterns for word in image.words], [(), (0, 3), (7,)])
         self.assertEqual([image.word(at) for at in (1, 2, 3)], [0x2ff, 0x602, 0])
 
+    def test_writing(self):
+        self.assertEqual(read_image(IMAGE).text, IMAGE)
+        text = image_text(8, ['00', '1f'], 'place a 2 1', 'mark 1 end')
+        self.assertEqual(read_image(text).text, text)
+
     def test_no_end(self):
         self.assertIsNone(read_image(image_text(8, ['00', '1f'])).end)
 

@@ -26,6 +26,13 @@ class Tries(unittest.TestCase):
             with self.subTest(words=words):
                 self.check('programs.py', *words, last=r'(?m)^ +\d+ as it should be$')
 
+    def test_checking(self):
+        checked = EXAMPLES / 'checked'
+        self.check('checking.py', checked, last=r'^\d+ accepted$')
+        self.check('checking.py', '--changed', checked, 40, last=r'^\d+ refused(, \d+ accepted)?$')
+        self.check('checking.py', '--table', checked,
+                   last=r'(?m)^\| `down\.a16` \| 8 \| 9 \| 32 \| 74 \|$')
+
     def test_banks(self):
         self.check('banks.py', 4, last='as it should be|with an empty part|error no')
 

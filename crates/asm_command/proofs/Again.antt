@@ -80,7 +80,7 @@ module _ (machine : Machine) (net : List ℕ) (is : IsMachine net machine) where
 
 pub reads_again : ReadsAgain
 reads_again net image text d =
-    let fit = all_fit d.machine net d.is d.said.words d.lines d.read.fits.words d.shown in
+    let fit = all_fit d.machine net d.is d.said.words d.lines d.read.is.fits.words d.shown in
     record {
       says =
           subst (λ (all : List (List ℕ)). SayLines (texts_of d.machine) (limits_of d.machine.netlist).bits all d.lines)
@@ -88,7 +88,7 @@ reads_again net image text d =
       few =
           (let long = AllZip-long (ShowsWord d.machine) (words_of d.said) d.lines d.shown in
           let same = length-map d.said.words (λ (word : Word). word.word) in
-          let few = d.read.fits.few in omega arith);
+          let few = d.read.is.fits.few in omega arith);
     }
 
 -- ---- words

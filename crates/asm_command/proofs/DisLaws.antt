@@ -6,10 +6,10 @@ use Rattle.net_model.specs.declared.hardware.Netlist.{Netlist}
 use Rattle.net_model.specs.Patterns.{Pattern}
 use Rattle.code_model.specs.declared.image.Image.{Image}
 use Rattle.code_model.specs.ImageFits.{limits_of}
-use Rattle.code_model.specs.ImageLines.{IsImageText}
+use Rattle.viewed_text.specs.Texts.{IsImageRead}
 use Rattle.code_model.specs.Places.{words_of}
 use Rattle.run_command.specs.Runs.{IsImageFile}
-use Rattle.run_command.proofs.ImageLaws.{one_image}
+use Rattle.viewed_text.proofs.Once.{one_read}
 use Rattle.transfer_set.proofs.OnePatterns.{same_lists}
 use Rattle.asm_text.specs.declared.line.Item.{Item}
 use Rattle.asm_text.specs.declared.line.Line.{Line}
@@ -47,8 +47,8 @@ module _ (net image : List ℕ) where
   pub one_disassembled : (a b : List ℕ) → IsDisassembled net image a → IsDisassembled net image b → a ≡ b
   one_disassembled a b p q =
       let e : q.machine ≡ p.machine = one_machine net q.machine p.machine q.is p.is in
-      let read : IsImageText (limits_of p.machine.netlist) image q.said = subst (λ (m : Machine). IsImageText (limits_of m.netlist) image q.said) e q.read in
-      let said : q.said ≡ p.said = one_image (limits_of p.machine.netlist) image (narrow net p.machine p.is) q.said p.said read p.read in
+      let read : IsImageRead p.machine.netlist image q.said = subst (λ (m : Machine). IsImageRead m.netlist image q.said) e q.read in
+      let said : q.said ≡ p.said = one_read p.machine.netlist (narrow net p.machine p.is) image q.said p.said read p.read in
       let shown : AllZip (ShowsWord p.machine) (words_of p.said) q.lines = subst (λ (i : Image). AllZip (ShowsWord p.machine) (words_of i) q.lines) said (subst (λ (m : Machine). AllZip (ShowsWord m) (words_of q.said) q.lines) e q.shown) in
       let lines : p.lines ≡ q.lines = zip_one (ShowsWord p.machine) (line_one p.machine.netlist p.machine.patterns) (words_of p.said) p.lines q.lines p.shown shown in
       let back : p.machine ≡ q.machine = sym e in
@@ -60,5 +60,5 @@ module _ (net image : List ℕ) where
     entries = p.is.entries;
     said = p.said;
     net_file = record { file = p.is.file.file; taken = (let taken = p.is.taken in omega (arith, taken)) };
-    image_text = subst (λ (n : Netlist). IsImageText (limits_of n) image p.said) p.is.netlist p.read;
+    image_text = subst (λ (n : Netlist). IsImageRead n image p.said) p.is.netlist p.read;
   }

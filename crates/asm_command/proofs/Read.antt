@@ -11,7 +11,7 @@ use Rattle.net_model.specs.Nets.{word_width}
 use Rattle.net_model.specs.Patterns.{ArePatterns}
 use Rattle.code_model.specs.declared.image.Word.{Word}
 use Rattle.code_model.specs.ImageFits.{CodeFits, limits_of}
-use Rattle.code_model.specs.ImageLines.{IsLineFault}
+use Rattle.viewed_text.specs.Texts.{IsRemarkedFault}
 use Rattle.transfer_set.specs.Rows.{row_patterns}
 use Rattle.isa_extract.specs.Extraction.{IsExtractedFrom}
 use Rattle.isa_extract.specs.Taken.{IsTakenNet}
@@ -183,7 +183,7 @@ module _ (net image : List ℕ) (machine : Machine) (is : IsMachine net machine)
     record {
       entries = is.entries;
       net_file = record { file = is.file.file; taken = (let taken = is.taken in omega (arith, taken)) };
-      none = subst (λ (n : Netlist). IsLineFault (limits_of n) image at) is.netlist h;
+      none = subst (λ (n : Netlist). IsRemarkedFault n image at) is.netlist h;
     },
   )
   fault_of_image dis.Memory h = tt

@@ -5,7 +5,7 @@ use Rattle.net_parser.specs.Texts.{IsNoNetText}
 use Rattle.isa_extract.specs.Taken.{BreaksAnyTaken}
 use Rattle.code_model.specs.declared.image.Image.{Image}
 use Rattle.code_model.specs.ImageFits.{limits_of}
-use Rattle.code_model.specs.ImageLines.{IsImageText}
+use Rattle.viewed_text.specs.Texts.{IsImageRead}
 use Rattle.code_model.specs.Places.{words_of}
 use Rattle.run_command.specs.Runs.{IsNoImageFile}
 use Rattle.asm_text.specs.declared.line.Line.{Line}
@@ -24,7 +24,7 @@ pub record IsDisassembled (net image text : List ℕ) : Type 0 where
   pub machine : Machine
   pub is : IsMachine net machine
   pub said : Image
-  pub read : IsImageText (limits_of machine.netlist) image said
+  pub read : IsImageRead machine.netlist image said
   pub lines : List Line
   pub shown : AllZip (ShowsWord machine) (words_of said) lines
   pub written : text ≡ lines_text (texts_of machine) (limits_of machine.netlist).bits lines

@@ -4,7 +4,7 @@ ghost use Rattle.std.specs.Prelude.{◌≡◌, ◌<◌, ◌^◌, All, IfOk, IfEr
 ghost use Rattle.std.specs.List.{AllZip};
 ghost use Rattle.code_model.specs.declared.image.Word.{Word};
 ghost use Rattle.code_model.specs.ImageFits.{IsFitting, limits_of};
-ghost use Rattle.code_model.specs.ImageLines.{IsImageText};
+ghost use Rattle.viewed_text.specs.Texts.{IsImageRead};
 ghost use Rattle.isa_extract.specs.Extraction.{IsExtractedFrom};
 ghost use Rattle.net_model.specs.Nets.{word_width};
 ghost use Rattle.asm_text.specs.Texts.{lines_text};
@@ -48,13 +48,13 @@ fn lines_of(
     Ok(lines)
 }
 
-// The image that bytes are.
+// The image that bytes are, whatever is remarked on it.
 fn image_of(alloc: Global, checked: &Checked, image: &[u8]) -> Result<Image, DisFault>
     requires { length image.now < 2 ^ 32 }
-    ensures found { IfOk result (IsImageText (limits_of checked.now.netlist) image.now) }
+    ensures found { IfOk result (IsImageRead checked.now.netlist image.now) }
     ensures refused { IfErr result (IsImageFault checked.now.netlist image.now) }
 {
-    let image = image_text::read(alloc, image, checked)?;
+    let image = viewed_text::read_image(alloc, image, checked)?;
     Ok(image)
 }
 

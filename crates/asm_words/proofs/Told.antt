@@ -1,12 +1,13 @@
 -- The set of a line's words is that of the words that do the line.
-use Rattle.std.proofs.Common.{◌≡◌, ◌↔◌, inl, inr, ℕ, zero, suc, ◌^◌, ◌<◌, ◌≤◌, ◌&&◌, Bool, true, false, List, [], ◌∷◌, map, length, slice_get, if◌then◌else◌, Option, None, Some, refl, sym, ap, subst, ◌∙◌, arith}
+use Rattle.std.proofs.Common.{◌≡◌, ◌↔◌, inl, inr, ℕ, zero, suc, ◌^◌, ◌<◌, ◌&&◌, Bool, true, false, List, [], ◌∷◌, map, length, slice_get, if◌then◌else◌, Option, None, Some, refl, sym, ap, subst, ◌∙◌, arith}
 use Rattle.std.proofs.lemmas.Bool.{and_from, and_parts, cases_lt}
-use Rattle.std.proofs.lemmas.Option.{get_or_from_slice_get, slice_get_past, slice_get_within}
+use Rattle.std.proofs.lemmas.Option.{get_or_from_slice_get, slice_get_within}
 use Rattle.std.specs.List.{All}
+use Rattle.word_fit.proofs.FilePlaces.{past_keeps}
 use Rattle.bit_bdd.specs.Diagrams.{Diagrams, has_word}
 use Rattle.net_model.specs.declared.hardware.Netlist.{Netlist}
 use Rattle.net_model.specs.Exprs.{keep}
-use Rattle.net_model.specs.Transfers.{transfer_at, transfer_of}
+use Rattle.net_model.specs.Transfers.{transfer_at}
 use Rattle.sym_expr.specs.declared.pool.Node.{Node}
 use Rattle.transfer_set.specs.Ready.{IsReady}
 use Rattle.transfer_set.specs.Rows.{row_patterns}
@@ -56,9 +57,6 @@ module _ (book : Diagrams) (table : PatternTable) (has : HasSets book table) (so
       below-append book (map (number_set table) numbers) (kept_sets table numbers count) (numbers_below numbers) (kept_below numbers count)
 
 -- ---- what they hold
-
-past_keeps : (netlist : Netlist) (word storage : ℕ) → length netlist.storages ≤ storage → transfer_at netlist word storage ≡ keep
-past_keeps netlist word storage h = ap (transfer_of netlist word storage) (slice_get_past netlist.storages storage h)
 
 module _ (netlist : Netlist) (book : Diagrams) (pool : List Node) (table : PatternTable) (ready : IsReady netlist book pool table) (empty : (word : ℕ) → has_word book 0 word ≡ false) (numbers : List ℕ) (items : List Item) (count : ℕ) (some : 0 < count) (long : length table.keeps ≡ count) (fits : All (ItemFits book.bits) items) (word : ℕ) (lt : word < 2 ^ book.bits) where
   does : all_hold book (line_sets table numbers count) word ≡ true → has_fields (item_fields items) word ≡ true → DoesLine netlist (row_patterns pool table.rows) numbers items word

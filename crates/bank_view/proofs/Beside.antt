@@ -11,8 +11,8 @@ use Rattle.net_model.specs.declared.states.State.{State}
 use Rattle.net_model.specs.Editions.{is_banked}
 use Rattle.net_model.specs.Nets.{HasCells, addr_width_in, array_addr_width, array_in, array_size, array_width, memory_size, memory_width, place_in, size_in, width_in}
 use Rattle.net_model.specs.Widths.{IsState, IsTyped}
-use Rattle.net_model.specs.CheckedRules.{HasBankBeside, HasBankIf, IsAddressed, count_in, memory_addr_width, memory_count, register_count}
-use Rattle.net_model.proofs.KeptRules.{typed_of}
+use Rattle.net_model.specs.CheckedRules.{HasBankBeside, HasBankIf, IsAddressed, count_in, memory_addr_width, memory_count}
+use Rattle.net_model.proofs.KeptRules.{typed_of, length-storages}
 use Rattle.bank_view.specs.Banks.{addr_bits, bank_place, bank_port, memory_port, others, port_of}
 use Rattle.bank_view.specs.Keeping.{HasBanks, KeepsBanks}
 use Rattle.bank_view.specs.Inner.Banked.{IsBeside}
@@ -75,17 +75,10 @@ beside_of d h =
 pub few_nets : (d : Netlist) → HasBanks d → length d.nets ≤ 1000
 few_nets d h = subst (λ (b : Bool). length d.nets ≤ (if b then 1000 else 4096)) h.banked h.formed.limits.nets
 
--- 13 registers, the memory and the bank
-storages_long : (storages : List Storage) → length storages ≡ register_count storages + memory_count storages + count_in InFile storages
-storages_long [] = omega arith
-storages_long (Register name width input when ∷ storages) = omega (arith, storages_long storages)
-storages_long (Memory cells ∷ storages) = omega (arith, storages_long storages)
-storages_long (File cells ∷ storages) = omega (arith, storages_long storages)
-
 pub storages_few : (d : Netlist) → HasBanks d → length d.storages ≤ 15
 storages_few d h =
     let b = beside_of d h in
-    omega (arith, storages_long d.storages, h.formed.limits.registers, b.memories, b.lone)
+    omega (arith, length-storages d.storages, h.formed.limits.registers, b.memories, b.lone)
 
 pub banks_of : (d : Netlist) (order : List ℕ) → KeepsBanks d order → HasBanks d
 banks_of d order k = record { banked = k.banked; formed = k.rules.formed; roles = k.rules.roles }

@@ -17,6 +17,7 @@ use Rattle.net_model.specs.declared.states.State.{State}
 use Rattle.net_model.specs.Clock.{counter_in}
 use Rattle.net_model.specs.Nets.{IsRegister, array_in, counter_of, counter_width, is_in, memory_size, memory_width, storage_bits}
 use Rattle.net_model.specs.CheckedRules.{HasFewCells, HasRoles, IsAddressed, IsCounter, IsReached, IsWithinLimits, code_size, count_in, memory_addr_width, memory_count, register_count}
+use Rattle.net_model.proofs.KeptRules.{counter_register}
 use Rattle.bank_view.specs.declared.slot.Slot.{Slot}
 use Rattle.bank_view.specs.declared.slot.Slot.TheVariants.{Kept, MemoryWrite, BankWrite}
 use Rattle.bank_view.specs.Banks.{addr_bits, bank_place, bank_port, memory_port, others}
@@ -82,18 +83,11 @@ joined_counter d (Some (Register name width input (Some when))) h = absurd h
 joined_counter d (Some (Memory cells)) h = absurd h
 joined_counter d (Some (File cells)) h = absurd h
 
-counter_register : (o : Option Storage) → IsCounter o → IsRegister o
-counter_register None h = h
-counter_register (Some (Register name width input None)) h = tt
-counter_register (Some (Register name width input (Some when))) h = absurd h
-counter_register (Some (Memory cells)) h = h
-counter_register (Some (File cells)) h = h
-
 counter_named : (d : Netlist) (codes : List Code) → length codes ≡ 1 → counter_of (map (renamed_code d) codes) ≡ storage_number d (counter_of codes)
 counter_named d [] e = absurd (omega arith)
 counter_named d (code ∷ codes) e = refl
 
-same_size : (d : Netlist) (codes : List Code) → code_size (map (renamed_code d) codes) ≡ code_size codes
+pub same_size : (d : Netlist) (codes : List Code) → code_size (map (renamed_code d) codes) ≡ code_size codes
 same_size d [] = refl
 same_size d (code ∷ codes) = refl
 

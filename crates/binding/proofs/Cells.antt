@@ -6,7 +6,7 @@ use Rattle.src_model.specs.Meaning.{cells_in, cell_count}
 use Rattle.code_model.specs.Places.{places_from, Apart}
 use Rattle.code_model.specs.Layout.{variables_of}
 
-few : (o : Option ℕ) → unwrap_or o 0 ≤ 65536 → unwrap_or o 1 ≤ 65536
+pub few : (o : Option ℕ) → unwrap_or o 0 ≤ 65536 → unwrap_or o 1 ≤ 65536
 few None h = omega arith
 few (Some n) h = h
 

@@ -71,7 +71,7 @@ before_marks at (Test f ∷ parts) a lt = other_mark at a (Some (At f.tree)) _ (
 before_marks at (Jump to ∷ parts) a lt = before_marks (at + 1) parts a (omega arith)
 before_marks at (End ∷ parts) a lt = other_mark at a (Some TheEnd) _ (λ e. omega arith) ∙ before_marks (at + 1) parts a (omega arith)
 
-some_words : (next long : Bool) → 1 ≤ branch_words next long
+pub some_words : (next long : Bool) → 1 ≤ branch_words next long
 some_words true true = omega arith
 some_words false true = omega arith
 some_words true false = omega arith

@@ -1,5 +1,5 @@
 -- The marks of a flow's parts: one for each test and the end, in order.
-use Rattle.std.proofs.Common.{ℕ, ◌≡◌, ◌≤◌, ◌+◌, Bool, true, false, List, [], ◌∷◌, map, Option, Some, None, refl, ap, arith}
+use Rattle.std.proofs.Common.{ℕ, ◌≡◌, ◌≤◌, ◌+◌, List, [], ◌∷◌, ◌++◌, map, Option, Some, None, refl, ap, arith}
 use Rattle.code_model.specs.declared.image.Mark.{Mark}
 use Rattle.form_model.specs.declared.flow.Flow.{Flow}
 use Rattle.form_model.specs.declared.flow.Flow.TheVariants.{Assign, Test as Tested, Jump as Jumped, End as Ended}
@@ -8,6 +8,7 @@ use Rattle.branch_fix.specs.declared.part.LayoutPart.{LayoutPart}
 use Rattle.branch_fix.specs.declared.part.LayoutPart.TheVariants.{Block, Inner, Test, Jump, End}
 use Rattle.branch_fix.specs.Parts.{branch_words, room, marks_from, total, FitsPart, PartsFit}
 use Rattle.branch_fix.specs.Marked.{labels, Ascend, AreMarked}
+use Rattle.branch_fix.proofs.Addresses.{some_words}
 
 abbrev label_of : Mark → Option ℕ
 label_of mark = mark.label
@@ -46,12 +47,6 @@ less : (from at end : ℕ) (marks : List Mark) → from ≤ at → Ascend at mar
 less from at end [] le h = omega (arith, h)
 less from at end (m ∷ marks) le h = (omega (arith, h.0), h.1)
 
-some_words : (next long : Bool) → 1 ≤ branch_words next long
-some_words true true = omega arith
-some_words false true = omega arith
-some_words true false = omega arith
-some_words false false = omega arith
-
 ascending : (a end : ℕ) (parts : List LayoutPart) → a + total parts ≤ end → Ascend a (marks_from a parts) end
 ascending a end [] le = omega arith
 ascending a end (Block block words ∷ parts) le = less a (a + words) end (marks_from (a + words) parts) (omega arith) (ascending (a + words) end parts (omega arith))
@@ -65,3 +60,16 @@ ascending a end (End ∷ parts) le = (omega arith, ascending (a + 1) end parts (
 pub are_marked : (forms : List FormModel) (flow : List Flow) (parts : List LayoutPart) → PartsFit forms flow 0 flow parts
     → AreMarked flow (total parts) (marks_from 0 parts)
 are_marked forms flow parts h = record { each = each_label forms flow 0 flow parts 0 h; apart = ascending 0 (total parts) parts (omega arith) }
+
+-- a flow with an end has a label
+pub some_label : (flow : List Flow) → labels (flow ++ Ended ∷ []) ≡ [] → ⊥
+some_label [] e = cc
+some_label (Assign tree ∷ flow) e = some_label flow e
+some_label (Tested tree when_one when_zero ∷ flow) e = cc
+some_label (Jumped to ∷ flow) e = some_label flow e
+some_label (Ended ∷ flow) e = cc
+
+-- marks stand before the last word's end
+pub ascend_within : (from end : ℕ) (marks : List Mark) → Ascend from marks end → from ≤ end
+ascend_within from end [] h = h
+ascend_within from end (mark ∷ marks) h = omega (arith, h.0, ascend_within (mark.address + 1) end marks h.1)

@@ -6,8 +6,6 @@ use Rattle.src_model.specs.declared.program.Var.{Var as Declared}
 use Rattle.src_model.specs.Meaning.{cells_in, cell_count}
 use Rattle.checkpoint_watch.specs.Texts.{change, changes, changes_from, store_from}
 
--- ---- lists
-
 -- ---- a variable's cells
 
 next_change : (var : Declared) (i : ℕ) (olds news : List ℕ) → i < length olds → i < length news

@@ -1,7 +1,6 @@
 -- That right code is ready to be watched, and what its text will be.
-use Rattle.std.proofs.Common.{◌≡◌, ℕ, zero, suc, ◌+◌, ◌^◌, ◌<◌, ◌≤◌, List, [], ◌∷◌, length, map, take, drop, refl, sym, ap, ◌∙◌, subst, arith}
+use Rattle.std.proofs.Common.{◌≡◌, ℕ, ◌+◌, ◌≤◌, List, [], ◌∷◌, length, map, take, drop, refl, sym, ap, ◌∙◌, subst, arith}
 use Rattle.std.specs.List.{AllByRecursion}
-use Rattle.std.specs.Prelude.{slice_get}
 use Rattle.net_model.specs.declared.hardware.Space.TheVariants.{Memory as InMemory}
 use Rattle.net_model.specs.declared.hardware.Code.{Code}
 use Rattle.net_model.specs.declared.hardware.Netlist.{Netlist}
@@ -10,7 +9,7 @@ use Rattle.net_model.specs.declared.hardware.Storage.{Storage}
 use Rattle.net_model.specs.CheckedRules.{Ordered}
 use Rattle.net_model.specs.ModeRules.{AreModesOfNetlist, KeepsInOrder, base_at}
 use Rattle.net_model.specs.Modes.{IsBase}
-use Rattle.net_model.specs.Nets.{code_bits, memory_size, memory_width}
+use Rattle.net_model.specs.Nets.{memory_size, memory_width}
 use Rattle.net_model.specs.Widths.{IsState, WordFits}
 use Rattle.net_model.proofs.Bases.{base_of, state_in}
 use Rattle.net_model.proofs.Memories.{few_cells, memory_width_of}
@@ -20,12 +19,13 @@ use Rattle.src_model.specs.Meaning.{cells_in, cell_count}
 use Rattle.src_model.specs.Ways.{Passed}
 use Rattle.code_model.specs.declared.image.Image.{Image}
 use Rattle.code_model.specs.declared.image.Word.{Word}
-use Rattle.code_model.specs.ImageFits.{CodeFits, IsFitting, limits_in, limits_of}
+use Rattle.code_model.specs.ImageFits.{CodeFits, IsFitting, limits_of}
 use Rattle.code_model.specs.Layout.{variables_of}
 use Rattle.code_model.specs.Machine.{TraceEntry, Shows, Traced, mtrace, store_in}
 use Rattle.code_model.specs.Places.{Apart, cells_at, cells_of, places_from, words_of}
 use Rattle.code_model.specs.Right.{IsLaidOut}
 use Rattle.code_model.proofs.Stores.{cells_in_row}
+use Rattle.code_model.proofs.WordLimits.{word_fits}
 use Rattle.cycle_sim.specs.Shown.{Shown}
 use Rattle.checkpoint_watch.specs.Texts.{checkpoint_text, store_from}
 use Rattle.src_model.specs.Meaning.{zeros}
@@ -37,16 +37,6 @@ use Rattle.checkpoint_watch.specs.Watched.{IsTraceText}
 use Rattle.checkpoint_watch.proofs.Fronts.{ShowsFirst}
 
 -- ---- words
-
--- a word that fits the limits fits the netlist
-word_fits : (netlist : Netlist) (codes : List Code) → netlist.codes ≡ codes → length codes ≡ 1 → (word : ℕ) → word < 2 ^ (limits_in codes).bits → WordFits netlist word
-word_fits netlist [] is one word lt = absurd (omega arith)
-word_fits netlist (code ∷ d ∷ codes) is one word lt = absurd (omega arith)
-word_fits netlist (code ∷ []) is one word lt = record { fits = rw is by_code }
-  where
-    by_code : (k : ℕ) → 0 < code_bits (slice_get (code ∷ []) k) → word < 2 ^ code_bits (slice_get (code ∷ []) k)
-    by_code zero some = lt
-    by_code (suc k) some = absurd (omega arith)
 
 module _ (netlist : Netlist) (bases : List Ordered) (modes : AreModesOfNetlist netlist bases) where
   -- what the netlist is in mode 0 has its storages and codes

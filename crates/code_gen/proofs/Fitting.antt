@@ -173,7 +173,7 @@ codes_fit bits (w ∷ words) fits ascend =
 
 -- ---- images
 
-codes_small : (codes : List Code) → AllByRecursion (λ (code : Code). code.words ≤ 65536) codes → code_size codes ≤ 65536
+pub codes_small : (codes : List Code) → AllByRecursion (λ (code : Code). code.words ≤ 65536) codes → code_size codes ≤ 65536
 codes_small [] h = omega arith
 codes_small (code ∷ codes) h = h.0
 

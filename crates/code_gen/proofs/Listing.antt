@@ -14,14 +14,14 @@ use Rattle.mode_set.specs.Costs.{IsPlanned, PlanModel, mode_cost}
 use Rattle.mode_set.specs.Plans.{model_of_plan}
 use Rattle.branch_fix.specs.declared.laid.Item.{Item}
 use Rattle.src_trees.specs.Lowered.{JobModel}
-use Rattle.right_code.specs.Covered.{AllPlanned, HasCover, IsFirstBare, numbered, plan_costs}
+use Rattle.right_code.specs.Covered.{AllPlanned, IsFirstBare, numbered, plan_costs}
+use Rattle.right_code.proofs.Covering.{planned_length, covered_at}
 use Rattle.compaction.specs.declared.packer.PackedBlock.{PackedBlock}
 use Rattle.code_gen.specs.Inner.Coded.{AreItemWords, IsWordOf}
 use Rattle.code_gen.specs.Inner.Planning.{told_costs}
 use Rattle.code_gen.specs.Inner.Uncovered.{IsOneBare, IsUncovered}
 use Rattle.code_gen.specs.declared.fault.CodeFault.{CodeFault}
 use Rattle.code_gen.specs.declared.fault.CodeFault.TheVariants.{NoStep, NoJump, NoCover, NoReach, ImageFull, Memory}
-use Rattle.code_gen.proofs.Stepping.{plans_even}
 
 -- ---- lists
 
@@ -58,7 +58,7 @@ module _ (stock : ℕ → StockModel) (Usable : ℕ → Type 0) where
 
   -- the first jobs have as many plans
   pub planned_count : (jobs : List JobModel) (plans : List PlanModel) (number : ℕ) → number ≤ length jobs → AllPlanned stock Usable (take number jobs) plans → length plans ≡ number
-  planned_count jobs plans number le h = plans_even stock Usable (take number jobs) plans h ∙ length-take-le number jobs le
+  planned_count jobs plans number le h = planned_length stock Usable (take number jobs) plans h ∙ length-take-le number jobs le
 
   -- one job more
   module _ (jobs : List JobModel) (old new : List Plan) (number : ℕ) (job : JobModel) (plan : Plan) (at : slice_get jobs number ≡ Some job) (more : new ≡ old ++ plan ∷ [])
@@ -83,13 +83,6 @@ module _ (stock : ℕ → StockModel) (Usable : ℕ → Type 0) where
         ∙ sym (costs_more (take number jobs) (map model_of_plan old) job (model_of_plan plan) all)
         ∙ (λ i. plan_costs (sym jobs_taken i) (sym plans_made i))
 
-  has_covers : (jobs : List JobModel) (plans : List PlanModel) → AllPlanned stock Usable jobs plans → (k : ℕ) (other : JobModel) → slice_get jobs k ≡ Some other → HasCover stock Usable other
-  has_covers [] plans h k other e = absurd (cc e)
-  has_covers (x ∷ jobs) [] h k other e = absurd h
-  has_covers (x ∷ jobs) (d ∷ plans) h zero other e =
-      (let q : x ≡ other = cc in subst (HasCover stock Usable) q (record { mode = d.mode; choice = d.choice; covers = record { can = h.0.can; may = h.0.may; covers = h.0.chosen.covers } }))
-  has_covers (x ∷ jobs) (d ∷ plans) h (suc k) other e = has_covers jobs plans h.1 k other e
-
   -- the first job that has no cover
   pub uncovered : (jobs : List JobModel) (plans : List PlanModel) (number : ℕ) (job : JobModel) (fault : CodeFault) → AllPlanned stock Usable (take number jobs) plans → slice_get jobs number ≡ Some job
       → IsOneBare stock Usable job number fault → IsUncovered stock Usable jobs fault
@@ -99,7 +92,7 @@ module _ (stock : ℕ → StockModel) (Usable : ℕ → Type 0) where
         job = job;
         at = at;
         none = bare.1;
-        earlier = λ k other lt e. has_covers (take number jobs) plans h k other (get_taken jobs number k lt ∙ e);
+        earlier = λ k other lt e. covered_at stock Usable (take number jobs) plans h k other (get_taken jobs number k lt ∙ e);
       })
   uncovered jobs plans number job NoStep h at bare = absurd bare
   uncovered jobs plans number job NoJump h at bare = absurd bare

@@ -1,6 +1,7 @@
 -- An image that is put together of the words of its layout is made for its task.
 use Rattle.std.proofs.Common.{◌≡◌, ℕ, zero, suc, ◌+◌, ◌<◌, Bool, true, false, if◌then◌else◌, List, [], ◌∷◌, ◌++◌, map, Option, Some, length, slice_get, slice_index, refl, sym, ap, subst, ◌∙◌, arith, length-append, append_assoc}
 use Rattle.std.proofs.lemmas.Option.{slice_get_within}
+use Rattle.std.proofs.lemmas.Bool.{true≢false}
 use Rattle.rec_bits.proofs.Lists.{index_seam}
 use Rattle.net_model.specs.declared.hardware.Netlist.{Netlist}
 use Rattle.net_model.specs.Patterns.{Pattern}
@@ -113,9 +114,6 @@ is_fork (Test f) = true
 is_fork (Jump to) = false
 is_fork End = false
 
-true_false : true ≡ false → ⊥
-true_false e = cc
-
 pub record IsBlockThere (flow : List Flow) (sizes : List ℕ) (at block size : ℕ) : Type 0 where
   pub number : block ≡ blocks_before flow at
   pub words : size ≡ slice_index sizes (blocks_before flow at)
@@ -145,18 +143,18 @@ module _ (forms : List FormModel) (flow : List Flow) (sizes : List ℕ) (forks :
 
       no_fork : (b : Bool) (tree form setting one zero : ℕ) →
           Block block size ≡ shortened (if b then fork_to tree (blocks_before flow at) (slice_index sizes (blocks_before flow at)) form setting at one zero else fork_to tree (blocks_before flow at) (slice_index sizes (blocks_before flow at)) form setting at zero one) → ⊥
-      no_fork true tree form setting one none e = true_false (ap is_run e)
-      no_fork false tree form setting one none e = true_false (ap is_run e)
+      no_fork true tree form setting one none e = true≢false (ap is_run e)
+      no_fork false tree form setting one none e = true≢false (ap is_run e)
 
       by : (c : Bool) → Block block size ≡ shortened (if c then Inner else Block (blocks_before flow at) (slice_index sizes (blocks_before flow at))) → at < length flow → IsBlockThere flow sizes at block size
-      by true e lt = absurd (true_false (ap is_run e))
+      by true e lt = absurd (true≢false (ap is_run e))
       by false e lt = record { number = ap (λ p. (block_part p).0) e; words = ap (λ p. (block_part p).1) e; within = lt }
 
       go : (f : Flow) → slice_get flow at ≡ Some f → Block block size ≡ shortened (part_for forms flow sizes forks f at (blocks_before flow at) (tests_before flow at)) → IsBlockThere flow sizes at block size
       go (Assign tree) place e = by (continues flow at) e (slice_get_within flow at (Assign tree) place)
       go (Tested tree one none) place e = absurd (no_fork (form_at_one (slice_get forms (branch_or_zero (slice_get forks (tests_before flow at))).form)) tree (branch_or_zero (slice_get forks (tests_before flow at))).form (branch_or_zero (slice_get forks (tests_before flow at))).setting one none e)
-      go (Jumped to) place e = absurd (true_false (ap is_run e))
-      go Ended place e = absurd (true_false (ap is_run e))
+      go (Jumped to) place e = absurd (true≢false (ap is_run e))
+      go Ended place e = absurd (true≢false (ap is_run e))
 
   pub test_there : (at : ℕ) (f : BranchedTest) → slice_get parts at ≡ Some (Test f) → IsTestThere flow sizes forks at f
   test_there at f e =
@@ -167,8 +165,8 @@ module _ (forms : List FormModel) (flow : List Flow) (sizes : List ℕ) (forks :
       short = record f { long = false }
 
       no_run : (c : Bool) → Test (record f { long = false }) ≡ shortened (if c then Inner else Block (blocks_before flow at) (slice_index sizes (blocks_before flow at))) → ⊥
-      no_run true e = true_false (ap is_fork e)
-      no_run false e = true_false (ap is_fork e)
+      no_run true e = true≢false (ap is_fork e)
+      no_run false e = true≢false (ap is_fork e)
 
       by : (b : Bool) (tree one zero : ℕ) → slice_get flow at ≡ Some (Tested tree one zero)
           → Test (record f { long = false }) ≡ shortened (if b
@@ -199,8 +197,8 @@ module _ (forms : List FormModel) (flow : List Flow) (sizes : List ℕ) (forks :
       go : (g : Flow) → slice_get flow at ≡ Some g → Test (record f { long = false }) ≡ shortened (part_for forms flow sizes forks g at (blocks_before flow at) (tests_before flow at)) → IsTestThere flow sizes forks at f
       go (Assign tree) place e = absurd (no_run (continues flow at) e)
       go (Tested tree one none) place e = by (form_at_one (slice_get forms (branch_or_zero (slice_get forks (tests_before flow at))).form)) tree one none place e
-      go (Jumped to) place e = absurd (true_false (ap is_fork e))
-      go Ended place e = absurd (true_false (ap is_fork e))
+      go (Jumped to) place e = absurd (true≢false (ap is_fork e))
+      go Ended place e = absurd (true≢false (ap is_fork e))
 
 -- ---- the words of blocks and tests, as the image has them
 

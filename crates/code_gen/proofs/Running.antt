@@ -41,6 +41,7 @@ use Rattle.right_code.specs.Jobs.{job_steps, jobs_steps, tree_or_none, tree_used
 use Rattle.right_code.specs.Tasks.{Task, task_jobs}
 use Rattle.right_code.proofs.Chosen.{AllMode, own_net}
 use Rattle.right_code.proofs.Right.{run_words_of, test_words_of}
+use Rattle.right_code.proofs.Covering.{planned_length}
 use Rattle.compaction.specs.declared.packer.PackedBlock.{PackedBlock}
 use Rattle.compaction.specs.declared.machine.KnownMachine.{KnownMachine}
 use Rattle.code_gen.specs.declared.views.Modes.{Modes}
@@ -57,7 +58,7 @@ use Rattle.code_gen.proofs.Cutting.{IsAway, StartsAway, alone_first, alone_words
 use Rattle.code_gen.proofs.Frames.{held_is, machine_there, machine_within, mode_usable, net_is, root_form, root_of, stock_is, test_mode, usable_within, wanted_is}
 use Rattle.code_gen.proofs.ModeRegs.{mode_live, mode_with}
 use Rattle.code_gen.proofs.Packing.{told_words}
-use Rattle.code_gen.proofs.Stepping.{even_places, plans_even}
+use Rattle.code_gen.proofs.Stepping.{even_places}
 
 -- ---- the same for the same netlist
 
@@ -76,7 +77,7 @@ block_moved n m p q xs ys a b block e f g h packed =
 
 module _ (modes : Modes) (program : PlannedProgram) (task : Task) (isas : Isas task.netlist) (p : IsPlanning modes program task isas) where
   pub even : length (plans_in program) ≡ length (jobs_in program)
-  even = plans_even (mode_stock task isas) (IsUsable task.netlist isas) (task_jobs task) (plans_in program) p.plans ∙ ap (λ (jobs : List JobModel). length jobs) (sym p.jobs)
+  even = planned_length (mode_stock task isas) (IsUsable task.netlist isas) (task_jobs task) (plans_in program) p.plans ∙ ap (λ (jobs : List JobModel). length jobs) (sym p.jobs)
 
   -- the mode alone is live behind a cut
   pub live_is : regs_of (mode_bits modes.special) ≡ with_mode task.netlist.special no_regs

@@ -1,5 +1,6 @@
 -- The blocks of a program have no more words than its trees cost.
 use Rattle.std.proofs.Common.{◌≡◌, ℕ, zero, suc, ◌+◌, ◌-◌, ◌<◌, ◌≤◌, Bool, true, false, ◌&&◌, nat_lt, not, List, [], ◌∷◌, drop, Option, Some, None, length, slice_get, slice_index, refl, sym, ap, subst, ◌∙◌, add-one, arith}
+use Rattle.right_code.proofs.Fitting.{assign_there}
 use Rattle.rec_bits.proofs.Booleans.{and-false}
 use Rattle.form_model.specs.declared.flow.Flow.{Flow}
 use Rattle.form_model.specs.declared.flow.Flow.TheVariants.{Assign, Test, Jump, End}
@@ -49,15 +50,6 @@ not_continued flow at e = by (is_assign (slice_get flow (at + 1 - 1))) (ap (λ k
     by : (b : Bool) → b ≡ false → (nat_lt 0 (at + 1) && (b && (is_assign (slice_get flow (at + 1)) && not (is_entered flow (at + 1))))) ≡ false
     by true e = absurd cc
     by false e = and-false (nat_lt 0 (at + 1))
-
-continued_assign : (flow : List Flow) (at : ℕ) → continues flow at ≡ true → is_assign (slice_get flow at) ≡ true
-continued_assign flow at e = by (nat_lt 0 at) (is_assign (slice_get flow (at - 1))) (is_assign (slice_get flow at)) (not (is_entered flow at)) e
-  where
-    by : (a b c d : Bool) → (a && (b && (c && d))) ≡ true → c ≡ true
-    by true true true d e = refl
-    by true true false d e = e
-    by true false c d e = absurd cc
-    by false b c d e = absurd cc
 
 module _ (flow : List Flow) (costs sizes : List ℕ) (long : length sizes ≡ blocks_before flow (length flow))
     (runs : (at n : ℕ) → at < length flow → IsAssignBlock flow at n → slice_index sizes (blocks_before flow at) ≤ run_cost flow costs at n)
@@ -162,23 +154,23 @@ module _ (flow : List Flow) (costs sizes : List ℕ) (long : length sizes ≡ bl
       continued_none (Some End) e b t = absurd cc
 
       none : place_blocks (slice_get flow (at + 1)) (continues flow (at + 1)) ≡ 0
-      none = continued_none (slice_get flow (at + 1)) (continued_assign flow (at + 1) c) (continues flow (at + 1)) c
+      none = continued_none (slice_get flow (at + 1)) (assign_there flow (at + 1) c) (continues flow (at + 1)) c
 
   -- a block goes on with an assignment alone
   goes_on : (tree : ℕ) (rest : List Flow) (at : ℕ) → IsFrom (Assign tree ∷ rest) at → IsKept rest (at + 1) → (b : Bool) → continues flow (at + 1) ≡ b → IsRest (Assign tree ∷ rest) at
   goes_on tree rest at h later false c = alone tree rest at h c later
   goes_on tree [] at h later true c =
-      let a = continued_assign flow (at + 1) c in
+      let a = assign_there flow (at + 1) c in
       let f : is_assign (slice_get flow (at + 1)) ≡ false = ap is_assign (sym (h.stand 1)) in absurd cc
   goes_on tree (Assign next ∷ rest) at h later true c = joined_rest tree (Assign next ∷ rest) at h c (later.run next rest refl)
   goes_on tree (Test x y z ∷ rest) at h later true c =
-      let a = continued_assign flow (at + 1) c in
+      let a = assign_there flow (at + 1) c in
       let f : is_assign (slice_get flow (at + 1)) ≡ false = ap is_assign (sym (h.stand 1)) in absurd cc
   goes_on tree (Jump to ∷ rest) at h later true c =
-      let a = continued_assign flow (at + 1) c in
+      let a = assign_there flow (at + 1) c in
       let f : is_assign (slice_get flow (at + 1)) ≡ false = ap is_assign (sym (h.stand 1)) in absurd cc
   goes_on tree (End ∷ rest) at h later true c =
-      let a = continued_assign flow (at + 1) c in
+      let a = assign_there flow (at + 1) c in
       let f : is_assign (slice_get flow (at + 1)) ≡ false = ap is_assign (sym (h.stand 1)) in absurd cc
 
   assign_kept : (tree : ℕ) (rest : List Flow) (at : ℕ) → IsFrom (Assign tree ∷ rest) at → IsKept rest (at + 1) → IsKept (Assign tree ∷ rest) at

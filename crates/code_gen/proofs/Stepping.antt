@@ -1,5 +1,5 @@
 -- The steps of a block's jobs, each by the forms of its own mode, and how long a block is.
-use Rattle.std.proofs.Common.{◌≡◌, ℕ, zero, suc, ◌+◌, ◌-◌, ◌<◌, ◌≤◌, nat_lt, Bool, true, false, ◌&&◌, not, List, [], ◌∷◌, ◌++◌, Option, Some, None, length, slice_get, refl, sym, ap, subst, ◌∙◌, add-one, append-nil, append_assoc, arith, length-append}
+use Rattle.std.proofs.Common.{◌≡◌, ℕ, zero, suc, ◌+◌, ◌-◌, ◌<◌, ◌≤◌, true, false, List, [], ◌∷◌, ◌++◌, Option, Some, None, length, slice_get, refl, sym, ap, subst, ◌∙◌, add-one, append-nil, append_assoc, arith, length-append}
 use Rattle.std.proofs.lemmas.Option.{slice_get_past}
 use Rattle.net_model.specs.Exprs.{ExprModel}
 use Rattle.form_model.specs.Covers.{StockModel}
@@ -7,12 +7,13 @@ use Rattle.form_model.specs.Steps.{cover_steps}
 use Rattle.form_model.specs.declared.flow.Flow.{Flow}
 use Rattle.form_model.specs.declared.flow.Flow.TheVariants.{Assign, Test, Jump, End}
 use Rattle.form_model.specs.declared.forms.Step.{Step}
-use Rattle.src_trees.specs.Blocks.{IsAssignBlock, continues, is_assign, is_entered, job_at, job_list, jobs_at}
+use Rattle.src_trees.specs.Blocks.{IsAssignBlock, continues, is_assign, job_at, job_list, jobs_at}
 use Rattle.src_trees.specs.Lowered.{JobModel}
 use Rattle.mode_set.specs.Costs.{IsPlanned, PlanModel}
 use Rattle.right_code.specs.Covered.{AllPlanned}
 use Rattle.right_code.specs.Cuts.{plan_at, plans_at, plans_of}
 use Rattle.right_code.specs.Jobs.{job_steps, tree_or_none}
+use Rattle.right_code.proofs.Fitting.{assign_there}
 use Rattle.code_gen.specs.Inner.Planning.{steps_in}
 
 -- ---- plans that go with jobs
@@ -28,13 +29,6 @@ module _ (stock : ℕ → StockModel) (Usable : ℕ → Type 0) where
       let also : x ≡ planned = cc in
       subst (λ (j : JobModel). IsPlanned stock Usable j.destination j.trees planned) same (subst (λ y. IsPlanned stock Usable w.destination w.trees y) also all.0)
   planned_at (w ∷ jobs) (x ∷ plans) (suc k) job planned all e f = planned_at jobs plans k job planned all.1 e f
-
-  -- each job has one, and there are no others
-  pub plans_even : (jobs : List JobModel) (plans : List PlanModel) → AllPlanned stock Usable jobs plans → length plans ≡ length jobs
-  plans_even [] [] all = refl
-  plans_even [] (x ∷ plans) all = absurd all
-  plans_even (w ∷ jobs) [] all = absurd all
-  plans_even (w ∷ jobs) (x ∷ plans) all = ap suc (plans_even jobs plans all.1)
 
   pub plan_there : (jobs : List JobModel) (plans : List PlanModel) (k : ℕ) (job : JobModel) → AllPlanned stock Usable jobs plans → slice_get jobs k ≡ Some job → (planned : PlanModel) × (slice_get plans k ≡ Some planned)
   plan_there [] plans k job all e = absurd (cc)
@@ -140,23 +134,6 @@ module _ (jobs : List JobModel) (plans : List PlanModel) (even : length plans �
 
 -- ---- blocks
 
-assigned : (a b c d : Bool) → (a && (b && (c && d))) ≡ true → c ≡ true
-assigned true true true d e = refl
-assigned true true false d e = absurd cc
-assigned true false c d e = absurd cc
-assigned false b c d e = absurd cc
-
-no_third : (a b c d : Bool) → c ≡ false → (a && (b && (c && d))) ≡ false
-no_third true true true d e = absurd cc
-no_third true true false d e = refl
-no_third true false c d e = refl
-no_third false b c d e = refl
-
--- behind the last place no block goes on
-pub none_behind : (flow : List Flow) (at : ℕ) → length flow ≤ at → continues flow at ≡ false
-none_behind flow at le =
-    no_third (nat_lt 0 at) (is_assign (slice_get flow (at - 1))) (is_assign (slice_get flow at)) (not (is_entered flow at)) (ap is_assign (slice_get_past flow at le))
-
 pub block_here : (flow : List Flow) (at behind : ℕ) → at < behind → continues flow at ≡ false → is_assign (slice_get flow at) ≡ true → ((k : ℕ) → at < k → k < behind → continues flow k ≡ true)
     → continues flow behind ≡ false → IsAssignBlock flow at (behind - at)
 block_here flow at behind lt begins assigns inner last =
@@ -170,6 +147,4 @@ block_here flow at behind lt begins assigns inner last =
   where
     each : (k : ℕ) → k < behind - at → is_assign (slice_get flow (at + k)) ≡ true
     each zero less = subst (λ (k : ℕ). is_assign (slice_get flow k) ≡ true) (let z : at ≡ at + 0 = omega arith in z) assigns
-    each (suc k) less =
-        assigned (nat_lt 0 (at + suc k)) (is_assign (slice_get flow (at + suc k - 1))) (is_assign (slice_get flow (at + suc k))) (not (is_entered flow (at + suc k)))
-        (inner (at + suc k) (omega arith) (omega arith))
+    each (suc k) less = assign_there flow (at + suc k) (inner (at + suc k) (omega arith) (omega arith))

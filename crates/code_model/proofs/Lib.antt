@@ -8,3 +8,4 @@ pub mod Traces
 pub mod Bases
 pub mod Masking
 pub mod Unviewed
+pub mod WordLimits

@@ -12,20 +12,17 @@ use Rattle.net_model.specs.Exprs.{ExprModel, word, reg, const, read, un, bin, sl
 use Rattle.net_model.specs.Symbolic.{no_state}
 use Rattle.net_model.specs.Meaning.{mean}
 use Rattle.form_model.specs.Shapes.{is_shape}
-use Rattle.form_model.specs.Effects.{register, cell_at, some_cell, may_see, location_at, transfer_location, same_space, expr_reads, apply_transfer}
+use Rattle.form_model.specs.Effects.{register, cell_at, some_cell, may_see, location_at, transfer_location, expr_reads, apply_transfer}
+use Rattle.form_model.proofs.Spaces.{space_self}
 use Rattle.word_fit.proofs.Follows.{put_regs}
 use Rattle.form_set.proofs.ShapeBits.{shape_blank}
 
-same_self : (space : Space) → same_space space space ≡ true
-same_self InMemory = refl
-same_self InFile = refl
-
 -- both are settled, and they differ
 parts : (space : Space) (b c : Bool) (v w : ℕ) → may_see (if b then cell_at space v else some_cell space) (if c then cell_at space w else some_cell space) ≡ false → (b ≡ true) × (c ≡ true) × (v ≡ w → ⊥)
-parts space true true v w e = (refl, refl, eqb-false v w (subst (λ k. (k && (v == w)) ≡ false) (same_self space) e))
-parts space true false v w e = absurd (true≢false (sym (same_self space) ∙ e))
-parts space false true v w e = absurd (true≢false (sym (same_self space) ∙ e))
-parts space false false v w e = absurd (true≢false (sym (same_self space) ∙ e))
+parts space true true v w e = (refl, refl, eqb-false v w (subst (λ k. (k && (v == w)) ≡ false) (space_self space) e))
+parts space true false v w e = absurd (true≢false (sym (space_self space) ∙ e))
+parts space false true v w e = absurd (true≢false (sym (space_self space) ∙ e))
+parts space false false v w e = absurd (true≢false (sym (space_self space) ∙ e))
 
 -- a read and a write of one space that can't meet have different addresses, in every state
 pub addresses_differ : (space : Space) (i : ℕ) (a : ExprModel) (s : State) (j : ℕ) (b : ExprModel) (o : State) → may_see (location_at space i a) (location_at space j b) ≡ false → mean a s i ≡ mean b o j → ⊥

@@ -1,6 +1,6 @@
 -- Destinations that differ.
 use Rattle.std.proofs.Common.{◌≡◌, ℕ, ◌&&◌, ◌==◌, Bool, true, false, not, if◌then◌else◌, List, [], ◌∷◌, ◌++◌, refl, sym}
-use Rattle.std.proofs.lemmas.Bool.{true≢false, eqb-false, ne_eqb, or_from, or_parts, and_from, and_parts}
+use Rattle.std.proofs.lemmas.Bool.{true≢false, eqb-false, ne_eqb, or_from, or_parts, and_from, and_parts, not_from_false}
 use Rattle.rec_bits.proofs.Booleans.{not_true}
 use Rattle.net_model.specs.declared.hardware.Space.{Space}
 use Rattle.net_model.specs.declared.hardware.Space.TheVariants.{Memory as InMemory, File as InFile}
@@ -55,10 +55,6 @@ transfer_sym a b s t (write v) (write w) i j e = ne_eqb b a (λ k. eqb-false a b
 same_destination_sym : (p q : Operation) → same_destination p q ≡ false → same_destination q p ≡ false
 same_destination_sym p q e = transfer_sym p.storage q.storage p.space q.space p.move q.move p.setting q.setting e
 
-from_false : (b : Bool) → b ≡ false → not b ≡ true
-from_false true e = absurd (true≢false e)
-from_false false e = refl
-
 module _ {A : Type 0} (m : A → Operation) where
   unshared_at : (p : Operation) (a b : List A) (x : A) → shares_destination m p (a ++ x ∷ b) ≡ false → same_destination p (m x) ≡ false
   unshared_at p [] b x e = (or_parts (same_destination p (m x)) (shares_destination m p b) e).0
@@ -92,11 +88,11 @@ module _ {A : Type 0} (m : A → Operation) where
   differ_less [] b x e = (differ_parts x b e).1
   differ_less (y ∷ a) b x e =
       let w : (shares_destination m (m y) (a ++ x ∷ b) ≡ false) × (all_differ m (a ++ x ∷ b) ≡ true) = differ_parts y (a ++ x ∷ b) e in
-      and_from _ _ (from_false _ (unshared_less (m y) a b x w.0)) (differ_less a b x w.1)
+      and_from _ _ (not_from_false _ (unshared_less (m y) a b x w.0)) (differ_less a b x w.1)
 
   pub differ_more : (g : List A) (x : A) → all_differ m g ≡ true → shares_destination m (m x) g ≡ false → all_differ m (g ++ x ∷ []) ≡ true
   differ_more [] x e f = refl
   differ_more (y ∷ g) x e f =
       let w : (shares_destination m (m y) g ≡ false) × (all_differ m g ≡ true) = differ_parts y g e in
       let v : (same_destination (m x) (m y) ≡ false) × (shares_destination m (m x) g ≡ false) = or_parts _ _ f in
-      and_from _ _ (from_false _ (unshared_more (m y) g x w.0 (same_destination_sym (m x) (m y) v.0))) (differ_more g x w.1 v.1)
+      and_from _ _ (not_from_false _ (unshared_more (m y) g x w.0 (same_destination_sym (m x) (m y) v.0))) (differ_more g x w.1 v.1)

@@ -1,18 +1,13 @@
 -- Groups that do what steps do mean them.
-use Rattle.std.proofs.Common.{◌≡◌, ℕ, List, [], ◌∷◌, length, refl, sym, ◌∙◌, subst}
+use Rattle.std.proofs.Common.{ℕ, List, [], length, sym, ◌∙◌, subst}
 use Rattle.net_model.specs.declared.hardware.Netlist.{Netlist}
-use Rattle.net_model.specs.declared.states.State.{State}
 use Rattle.net_model.specs.CheckedRules.{KeepsRules}
-use Rattle.form_model.specs.Effects.{Operation, apply_operation, groups_effect, steps_effect}
+use Rattle.form_model.specs.Effects.{Operation}
 use Rattle.form_model.specs.Live.{Regs, singles}
 use Rattle.word_fit.specs.Runs.{RunsTo}
-use Rattle.word_fit.proofs.Runs.{runs_to}
+use Rattle.word_fit.proofs.Runs.{runs_to, effect-singles}
 use Rattle.compaction.specs.Meant.{MeansSteps}
 use Rattle.compaction.specs.Inner.Turns.{IsSame}
-
-effect-singles : {A : Type 0} (m : A → Operation) (xs : List A) (s : State) → groups_effect m (singles xs) s ≡ steps_effect m xs s
-effect-singles m [] s = refl
-effect-singles m (x ∷ xs) s = effect-singles m xs (apply_operation (m x) s s)
 
 pub means_steps : (netlist : Netlist) (order : List ℕ) → KeepsRules netlist order → {A : Type 0} (m : A → Operation) (after : Regs) (xs : List A) (gs : List (List A)) → IsSame m (singles xs) gs → MeansSteps netlist m after xs gs
 means_steps netlist order keeps m after xs gs e = λ code words s f h p b.

@@ -1,25 +1,25 @@
 -- Steps of patterns that have words for every setting have words that fit.
-use Rattle.std.proofs.Common.{◌≡◌, ◌≢◌, ℕ, ◌&&◌, ◌<◌, bit_and, length, true, false, List, [], ◌∷◌, refl, sym, ◌∙◌, inl, inr, Option, ap, arith, subst, slice_get}
+use Rattle.std.proofs.Common.{◌≡◌, ◌≢◌, ℕ, ◌&&◌, bit_and, true, false, List, [], ◌∷◌, refl, sym, ◌∙◌, inl, inr, Option, ap, arith, subst, slice_get}
 use Rattle.std.specs.Int.{bit_at}
-use Rattle.std.proofs.lemmas.Bool.{true≢false, cases_Bool, cases_lt, eqb-false}
+use Rattle.std.proofs.lemmas.Bool.{true≢false, cases_Bool, eqb-false}
 use Rattle.std.proofs.lemmas.Nat.Bits.{bit_at-lt}
 use Rattle.rec_bits.proofs.Booleans.{left_false}
 use Rattle.net_model.specs.declared.hardware.Netlist.{Netlist}
 use Rattle.net_model.specs.declared.hardware.Space.{Space}
-use Rattle.net_model.specs.declared.hardware.Space.TheVariants.{Memory as InMemory, File as InFile}
 use Rattle.net_model.specs.Nets.{IsRegister, file_place, place_in}
 use Rattle.net_model.specs.Transfers.{memory_transfer, space_transfer}
 use Rattle.net_model.proofs.Spaces.{by_space}
 use Rattle.net_model.specs.Fields.{transfer_fields}
 use Rattle.net_model.specs.Patterns.{IsPattern, IsWordOf, Pattern}
 use Rattle.net_model.specs.Exprs.{TransferModel, keep, write, write_at}
-use Rattle.net_model.proofs.Storages.{array_no_register, writes_register}
+use Rattle.net_model.proofs.Storages.{array_no_register, writes_register, storage_within}
 use Rattle.form_model.specs.declared.forms.Step.{Step}
 use Rattle.form_model.specs.Effects.{same_space, space_in, Operation, is_store, operation_of, operation_or_none, writes}
 use Rattle.form_model.specs.Live.{AllSpare, Regs, live_before, regs_of, singles}
+use Rattle.form_model.proofs.Spaces.{space_self}
 use Rattle.form_set.specs.Promises.{KeepsBut}
 use Rattle.word_fit.specs.Fits.{Does, FitsGroup, FitsJump, fits_over, stores_in}
-use Rattle.word_fit.proofs.FilePlaces.{own_space, past_keeps}
+use Rattle.word_fit.proofs.FilePlaces.{own_space}
 use Rattle.word_fit.specs.Groups.{AllHaveWords}
 use Rattle.compaction.specs.Laws.{operation_in}
 use Rattle.compaction.specs.Formed.{AreWorded, IsJumpWorded, IsOfPattern, IsWorded}
@@ -43,25 +43,13 @@ not_array netlist p space is e = by p.move refl e
         array_no_register space netlist.storages
         (subst (λ n. IsRegister (slice_get netlist.storages n)) k (writes_register netlist is.word p.storage v (slice_get netlist.storages p.storage) (is.given.gives ∙ em)))
 
--- a pattern's storage is one of the netlist's
-within : (netlist : Netlist) (p : Pattern) → IsPattern netlist p → p.storage < length netlist.storages
-within netlist p is =
-    elim (cases_lt p.storage (length netlist.storages)) as (λ _. p.storage < length netlist.storages) [
-      | inl lt ↦ lt
-      | inr ge ↦ absurd (is.changes (sym is.given.gives ∙ past_keeps netlist is.word p.storage ge))
-    ]
-
-same_self : (space : Space) → same_space space space ≡ true
-same_self InMemory = refl
-same_self InFile = refl
-
 -- a storage whose cells a pattern doesn't write isn't its own
 away : (netlist : Netlist) (p : Pattern) (space : Space) → IsPattern netlist p → (setting : ℕ) → stores_in space (operation_at netlist p setting) ≡ false → p.storage ≢ place_in space netlist.storages
 away netlist p space is setting e =
     elim (cases_Bool (is_store p.move)) as (λ _. p.storage ≢ place_in space netlist.storages) [
       | inl s ↦ (λ same.
-          let own : space_in (file_place netlist.storages) p.storage ≡ space = own_space netlist.storages p.storage space (within netlist p is) same in
-          true≢false (sym (same_self space) ∙ ap (λ z. same_space z space) (sym own) ∙ subst (λ b. (b && same_space (space_in (file_place netlist.storages) p.storage) space) ≡ false) s e))
+          let own : space_in (file_place netlist.storages) p.storage ≡ space = own_space netlist.storages p.storage space (storage_within netlist p is) same in
+          true≢false (sym (space_self space) ∙ ap (λ z. same_space z space) (sym own) ∙ subst (λ b. (b && same_space (space_in (file_place netlist.storages) p.storage) space) ≡ false) s e))
       | inr s ↦ not_array netlist p space is s
     ]
 

@@ -17,6 +17,7 @@ use Rattle.form_model.specs.Trees.{model_of_tree}
 use Rattle.form_model.specs.declared.trees.Tree.{Tree}
 use Rattle.form_model.specs.declared.trees.Tree.TheVariants.{Lit, Read', Un', Bin', Slice', Zext', Sext'}
 use Rattle.tree_sharing.specs.Sharing.{IsFirst, exprs_at}
+use Rattle.tree_sharing.proofs.SharingLemmas.{one_first}
 use Rattle.cover_lacks.specs.Lacks.{AreInOrder}
 use Rattle.cover_lacks.specs.Inner.Flags.{IsFlagged}
 use Rattle.cover_lacks.specs.Inner.Listed.{same_trees, ListedBelow}
@@ -78,9 +79,6 @@ pub same_none : (t : Tree) (u : ExprModel) → same_trees (model_of_tree t) u �
 same_none t u h e = true≢false (sym (same_self t) ∙ ap (same_trees (model_of_tree t)) e ∙ h)
 
 -- ---- first places
-
-pub first_once : (nodes : List ExprModel) (t : ExprModel) (m n : ℕ) → IsFirst nodes t m → IsFirst nodes t n → m ≡ n
-first_once nodes t m n a b = let x = a.least n b.at in let y = b.least m a.at in omega (arith, x, y)
 
 -- a first place behind a tree, or that tree's
 place_behind : (x : Bor Tree) (xs : List (Bor Tree)) (t : ExprModel) → (m : ℕ) × IsFirst (exprs_at xs) t m → (m : ℕ) × IsFirst (exprs_at (x ∷ xs)) t m
@@ -172,8 +170,8 @@ module _ (nodes : List ExprModel) (flags : List Bool) where
       ]
       | inr w ↦ elim (pushed_at list tree i t hi) [
         | inl v ↦ (let p = l.placed i t v.1 in
-            let em = first_once nodes t m p.0 fi p.2 in
-            let ek = first_once nodes u k n fj (subst (λ x. IsFirst nodes x n) w.1 first) in
+            let em = one_first nodes t m p.0 fi p.2 in
+            let ek = one_first nodes u k n fj (subst (λ x. IsFirst nodes x n) w.1 first) in
             let less = p.1 in
             omega (arith, em, ek, less))
         | inr v ↦ absurd (omega (arith, v.0, w.0, lt))

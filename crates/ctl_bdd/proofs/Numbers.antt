@@ -5,7 +5,7 @@ use Rattle.std.proofs.Math.Nat.{pow-suc}
 use Rattle.std.proofs.lemmas.Bool.{cases_eq, eq-eqb, ne_eqb}
 use Rattle.std.proofs.lemmas.Bool.Decides.{nat_tests}
 use Rattle.std.proofs.lemmas.Nat.{mod-pow-add, shr-shr, and_block, or_block, xor_block}
-use Rattle.std.proofs.lemmas.Nat.Bits.{bit_at-suc, bit_at_lowest, bit_at-lt}
+use Rattle.std.proofs.lemmas.Nat.Bits.{bit_at-suc, bit_at_lowest, bit_at-lt, bit_at-zero}
 use Rattle.rec_bits.specs.Operators.{bit_of, cat_of, is_negative_of}
 use Rattle.bit_bdd.specs.Diagrams.{Diagrams, has_word}
 use Rattle.ctl_bdd.specs.Bits.{bools, bits_value, number_at}
@@ -143,10 +143,7 @@ number_ones (suc n) = omega (arith, number_ones n, pow-suc 2 n)
 -- ---- single bits
 
 pub number_bit : (bs : List Bool) (k : ℕ) → bit_at (bits_value bs) k ≡ bit_of (get_or bs k false)
-number_bit [] k = omega (arith, zero_bit k)
-  where
-    zero_bit : (k : ℕ) → bit_at 0 k ≡ 0
-    zero_bit k = omega arith
+number_bit [] k = omega (arith, bit_at-zero k)
 number_bit (b ∷ bs) zero = bit_at_lowest (bits_value bs * 2 + bit_of b) ∙ omega (arith, bit_small b)
 number_bit (b ∷ bs) (suc k) =
     let h : (bits_value bs * 2 + bit_of b) / 2 ≡ bits_value bs = omega (arith, bit_small b) in

@@ -16,11 +16,11 @@ use Rattle.net_model.specs.declared.hardware.Cells.{Cells}
 use Rattle.net_model.specs.declared.hardware.Space.{Space}
 use Rattle.net_model.specs.declared.hardware.Space.TheVariants.{Memory as InMemory}
 use Rattle.net_model.specs.declared.states.State.{State}
-use Rattle.net_model.specs.Value.{gate_value, net_value, value_within, value_of}
+use Rattle.net_model.specs.Value.{gate_value, net_value, value_of}
 use Rattle.net_model.specs.Clock.{clash_in, enabled_count, gate_clashes, is_enabled, next_cells, next_regs, word_at, written}
 use Rattle.net_model.specs.Widths.{IsState, IsTyped, StateFits, WordFits}
 use Rattle.net_model.specs.Order.{IsOrder}
-use Rattle.net_model.proofs.Orders.{value_is}
+use Rattle.net_model.proofs.Orders.{value_is, past_zero}
 use Rattle.cycle_sim.specs.declared.edge.BusDrivers.{BusDrivers}
 use Rattle.cycle_sim.specs.declared.edge.Port.{Port}
 use Rattle.cycle_sim.specs.declared.program.Program.{Program}
@@ -81,11 +81,6 @@ latches_long f [] = refl
 latches_long f (storage ∷ storages) = ap suc (latches_long f storages)
 
 -- ---- all nets
-
--- no value past the nets
-past_zero : (netlist : Netlist) (s : State) (word k n : ℕ) → slice_get netlist.nets n ≡ None → value_within k netlist s word n ≡ 0
-past_zero netlist s word zero n e = refl
-past_zero netlist s word (suc k) n e = ap (net_value (value_within k netlist s word) netlist s word) e
 
 module _ (netlist : Netlist) (order : List ℕ) (o : IsOrder netlist order) (typed : IsTyped netlist) (program : Program) (r : Runs netlist program.instructions) (s : State) (word : ℕ) (room : List ℕ) (fit : StateFits netlist s) (w : WordFits netlist word) (h : IsFilled netlist s word room) where
   -- each net's value stands at its place

@@ -1,7 +1,7 @@
 -- What the simulators of a netlist in its modes keep, when one of them is set and when two trade.
 use Rattle.std.proofs.Common.{◌≡◌, ◌≢◌, ℕ, zero, suc, ◌<◌, ◌^◌, List, [], ◌∷◌, length, map, get_or, set, Option, Some, None, option_map, refl, sym, ◌∙◌, ap, subst, slice_get, arith}
 use Rattle.std.proofs.Math.Seq.{map-set_same}
-use Rattle.std.proofs.lemmas.List.{get_or-set_other, get_or-set_same, get_or_default, length-map, length-set}
+use Rattle.std.proofs.lemmas.List.{get_or-set_other, get_or-set_same, get_or_default, length-map, length-set, set-set}
 use Rattle.std.proofs.lemmas.Option.{same_Some, slice_get-get_or, slice_get-map, slice_get_read}
 use Rattle.std.specs.List.{AllByRecursion}
 use Rattle.rec_bits.proofs.Lists.{all_weaker}
@@ -39,17 +39,12 @@ module _ {X : Type 0} (P : X → Type 0) where
   all_get (x ∷ xs) (suc i) d lt h = all_get xs i d (omega (arith, lt)) h.1
 
 module _ {X : Type 0} where
-  set_twice : (xs : List X) (i : ℕ) (x y : X) → set (set xs i x) i y ≡ set xs i y
-  set_twice [] i x y = refl
-  set_twice (z ∷ xs) zero x y = refl
-  set_twice (z ∷ xs) (suc i) x y = ap (λ (zs : List X). z ∷ zs) (set_twice xs i x y)
-
   -- what is set at a place before and behind another one is what is set behind it
   pub set_around : (xs : List X) (i k : ℕ) (was x y : X) → k ≢ i → set (set (set xs i was) k y) i x ≡ set (set xs i x) k y
   set_around [] i k was x y apart = refl
   set_around (z ∷ xs) zero zero was x y apart = absurd (apart refl)
   set_around (z ∷ xs) zero (suc k) was x y apart = refl
-  set_around (z ∷ xs) (suc i) zero was x y apart = ap (λ (zs : List X). y ∷ zs) (set_twice xs i was x)
+  set_around (z ∷ xs) (suc i) zero was x y apart = ap (λ (zs : List X). y ∷ zs) (set-set xs i was x)
   set_around (z ∷ xs) (suc i) (suc k) was x y apart = ap (λ (zs : List X). z ∷ zs) (set_around xs i k was x y (λ e. apart (ap suc e)))
 
 -- ---- modes

@@ -1,5 +1,5 @@
 -- An image that is made for a task and fits its netlist has words, and these fit.
-use Rattle.std.proofs.Common.{◌≡◌, ℕ, zero, suc, ◌+◌, ◌^◌, ◌<◌, ◌≤◌, List, [], ◌∷◌, ◌++◌, length, map, slice_get, slice_index, refl, sym, ◌∙◌, arith}
+use Rattle.std.proofs.Common.{◌≡◌, ℕ, zero, suc, ◌+◌, ◌^◌, ◌<◌, ◌≤◌, List, [], ◌∷◌, length, map, slice_get, slice_index, refl, sym, ◌∙◌, arith}
 use Rattle.std.proofs.lemmas.Nat.{pow_pos}
 use Rattle.std.specs.List.{AllByRecursion}
 use Rattle.net_model.specs.declared.hardware.Code.{Code}
@@ -12,33 +12,21 @@ use Rattle.code_model.specs.declared.image.Mark.{Mark}
 use Rattle.code_model.specs.declared.image.Word.{Word as CodeWord}
 use Rattle.code_model.specs.ImageFits.{CodeFits, IsFitting, limits_in, limits_of}
 use Rattle.code_model.specs.Places.{words_of}
-use Rattle.form_model.specs.declared.flow.Flow.{Flow}
-use Rattle.form_model.specs.declared.flow.Flow.TheVariants.{Assign, Test, Jump, End}
 use Rattle.src_trees.specs.Flows.{flow_in, program_flow}
 use Rattle.src_model.specs.Written.{ProgramModel, stmts_of}
-use Rattle.branch_fix.specs.Marked.{AreMarked, Ascend, labels}
+use Rattle.branch_fix.specs.Marked.{AreMarked, Ascend}
+use Rattle.branch_fix.proofs.Marking.{some_label, ascend_within}
 use Rattle.bank_view.specs.Views.{renamed_code, view_of}
+use Rattle.bank_view.proofs.Kept.{same_size}
 
 -- ---- there are words
-
--- a flow that ends has a mark
-ends_marked : (xs : List Flow) → labels (xs ++ End ∷ []) ≡ [] → ⊥
-ends_marked [] e = absurd (cc)
-ends_marked (Assign tree ∷ xs) e = ends_marked xs e
-ends_marked (Test tree one none ∷ xs) e = absurd (cc)
-ends_marked (Jump to ∷ xs) e = ends_marked xs e
-ends_marked (End ∷ xs) e = absurd (cc)
-
-ascend_within : (from end : ℕ) (marks : List Mark) → Ascend from marks end → from ≤ end
-ascend_within from end [] h = h
-ascend_within from end (mark ∷ marks) h = omega (arith, h.0, ascend_within (mark.address + 1) end marks h.1)
 
 some_marked : (end : ℕ) (marks : List Mark) → Ascend 0 marks end → (map (λ (mark : Mark). mark.label) marks ≡ [] → ⊥) → 1 ≤ end
 some_marked end [] h some = absurd (some refl)
 some_marked end (mark ∷ marks) h some = omega (arith, ascend_within (mark.address + 1) end marks h.1)
 
 pub some_words : (l : ProgramModel) (words : ℕ) (marks : List Mark) → AreMarked (program_flow l) words marks → 1 ≤ words
-some_words l words marks marked = some_marked words marks marked.apart (λ e. ends_marked (flow_in (stmts_of l.body) 0 0) (sym marked.each ∙ e))
+some_words l words marks marked = some_marked words marks marked.apart (λ e. some_label (flow_in (stmts_of l.body) 0 0) (sym marked.each ∙ e))
 
 -- ---- they fit
 
@@ -67,9 +55,5 @@ limits_same d (code ∷ codes) = refl
 pub same_limits : (d : Netlist) → limits_of (view_of d) ≡ limits_of d
 same_limits d = limits_same d d.codes
 
-size_same : (d : Netlist) (codes : List Code) → code_size (map (renamed_code d) codes) ≡ code_size codes
-size_same d [] = refl
-size_same d (code ∷ codes) = refl
-
 pub same_code_size : (d : Netlist) → code_size (view_of d).codes ≡ code_size d.codes
-same_code_size d = size_same d d.codes
+same_code_size d = same_size d d.codes

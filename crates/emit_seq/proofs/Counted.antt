@@ -9,10 +9,11 @@ use Rattle.form_model.specs.Matches.{HomeModel, in_register, in_file, LeafModel,
 use Rattle.form_model.specs.CoverModels.{CoverModel, use_form, CoverOperandsModel, no_operands, operand_then, CoverCutsModel, no_cuts, cut_then, cost, operands_cost, cuts_cost}
 use Rattle.form_model.specs.Covers.{StockModel, operands_of, cuts_of, home_destination, IsOrderly, AreOrderly, AreCut, parts_cost, job_cost}
 use Rattle.form_model.specs.Steps.{OperandCellsModel, CutCellsModel, holding, cell_of, cut_count, operand_counts, cut_counts, cover_operand_cells, cover_cut_cells, operand_cells_or_none, form_at, match_at, own_steps, operand_steps, woven, cut_steps, inside_operands, into_cells, cover_setting, form_step, cover_steps}
+use Rattle.form_model.proofs.Counts.{operands_long, cuts_long}
 use Rattle.emit_seq.specs.Leaves.{IsOfJob}
 use Rattle.emit_seq.specs.Inner.CellLists.{operands_in, trees_in}
 use Rattle.emit_seq.proofs.Walks.{cells_operands, cells_trees}
-use Rattle.emit_seq.proofs.Opened.{IsOpened, opened_cover, IsOpenedOperand, opened_operand, operands_long, cuts_long}
+use Rattle.emit_seq.proofs.Opened.{IsOpened, opened_cover, IsOpenedOperand, opened_operand}
 
 abbrev total_steps : List (List Step) → ℕ
 total_steps [] = 0

@@ -51,6 +51,7 @@ least_free held (suc n) h =
           (omega (arith, s, lt), ap (bit_at held) s ∙ z)
     ]
 
+-- one cell more is held
 pub held_more : (held c i : ℕ) → bit_at held i ≡ 1 → bit_at (bit_or held (2 ^ c)) i ≡ 1
 held_more held c i h = let l = bit_at-lt (2 ^ c) i in omega (arith, bit_at_or held (2 ^ c) i, h, l)
 

@@ -15,6 +15,7 @@ use Rattle.form_model.specs.Matches.{in_register, in_file, LeafModel, operand, c
 use Rattle.form_model.specs.Covers.{Operand, operands_of}
 use Rattle.form_model.specs.Effects.{register, expr_reads}
 use Rattle.form_model.proofs.SumNumbers.{sum_is_with}
+use Rattle.form_model.proofs.Counts.{operands-append}
 use Rattle.emit_seq.specs.Formed.{CellsShown}
 use Rattle.emit_seq.specs.Leaves.{ReadsFrom}
 use Rattle.emit_seq.proofs.Matched.{Joined, joined, Literal, literal, opened}
@@ -23,11 +24,6 @@ use Rattle.emit_seq.proofs.Matched.{Joined, joined, Literal, literal, opened}
 abbrev pub IsIdOf : List Operand → ℕ → Type 0
 IsIdOf [] r = ⊥
 IsIdOf (o ∷ os) r = (o.home ≡ in_register r) ⊎ IsIdOf os r
-
-pub operands-append : (xs ys : List LeafModel) → operands_of (xs ++ ys) ≡ operands_of xs ++ operands_of ys
-operands-append [] ys = refl
-operands-append (operand id tree whole ∷ xs) ys = ap (λ (z : List Operand). record { home = id; tree = tree; whole = whole } ∷ z) (operands-append xs ys)
-operands-append (cut shape tree ∷ xs) ys = operands-append xs ys
 
 pub id_left : (xs ys : List Operand) (r : ℕ) → IsIdOf xs r → IsIdOf (xs ++ ys) r
 id_left [] ys r h = absurd h

@@ -25,8 +25,6 @@ use Rattle.emit_seq.specs.Leaves.{ReadsFrom}
 use Rattle.form_model.proofs.SettingLaws.{IsSetting, shape_sets}
 use Rattle.emit_seq.proofs.BitUnions.{or_left}
 
--- ---- equal operators
-
 -- ---- parts of a match
 
 pub record Joined (a b : Option MatchModel) (f : MatchModel) : Type 0 where

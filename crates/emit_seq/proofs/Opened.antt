@@ -12,14 +12,15 @@ use Rattle.net_model.specs.Patterns.{Pattern}
 use Rattle.form_model.specs.Forms.{FormModel, GoalModel, into_reg, into_memory, into_file, branches, DestinationModel, into, filed, cell, stored, temporary, tested}
 use Rattle.form_model.specs.Matches.{in_register, LeafModel, MatchModel, settled, both, matched, address_match, goal_match, taken}
 use Rattle.form_model.specs.Shapes.{is_shape, shape_setting, shows_below}
-use Rattle.form_model.specs.CoverModels.{CoverModel, use_form, CoverOperandsModel, no_operands, operand_then, CoverCutsModel, no_cuts, cut_then}
+use Rattle.form_model.specs.CoverModels.{CoverModel, use_form, CoverOperandsModel, no_operands, operand_then, CoverCutsModel}
 use Rattle.form_model.specs.Covers.{StockModel, Operand, operands_of, cuts_of, form_clobbers, written, all_written, home_destination, home_set, IsOrderly, AreOrderly, AreCut}
 use Rattle.form_model.specs.Steps.{OperandCellsModel, holding, cell_of, operand_homes, cut_count, operands_count, cuts_count, operand_counts, cut_counts, form_or_none, match_or_none, operand_cells_or_none, form_at, match_at}
 use Rattle.emit_seq.specs.Formed.{IsFormed}
 use Rattle.emit_seq.specs.Leaves.{ReadsFrom, DestinationReads}
 use Rattle.emit_seq.proofs.Matched.{Joined, joined, settled_some}
 use Rattle.emit_seq.proofs.MatchLeaves.{LeavesRead, read-append, matched_taken}
-use Rattle.form_model.proofs.Zips.{get_mapped, length_out, map-remove, total, total-insert}
+use Rattle.form_model.proofs.Zips.{get_mapped, map-remove}
+use Rattle.form_model.proofs.Counts.{operands_long, cuts_long, operands_total, cuts_total}
 use Rattle.emit_seq.specs.Inner.CellLists.{operands_in}
 use Rattle.emit_seq.proofs.Walks.{past_leaves, past_total}
 
@@ -68,12 +69,6 @@ opened_operand stock left i p ps c =
 
 -- ---- how many operands, cuts and cells there are
 
-pub operands_long : (stock : StockModel) (ps : CoverOperandsModel) (left : List Operand) → AreOrderly stock left ps → length (operand_counts ps) ≡ length left
-operands_long stock no_operands left c = sym (ap length c)
-operands_long stock (operand_then i p ps) left c =
-    let h = operands_long stock ps (remove left i) c.4 in
-    omega (arith, h, length_inserted (operand_counts ps) i (cut_count p), length_out left i c.0 c.1)
-
 -- as many homes as there are operands
 pub homes_places : (stock : StockModel) (ps : CoverOperandsModel) (held : ℕ) → length (operand_homes stock ps held) ≡ length (operand_counts ps)
 homes_places stock no_operands held = refl
@@ -83,18 +78,6 @@ homes_places stock (operand_then i p ps) held =
 
 pub homes_long : (stock : StockModel) (ps : CoverOperandsModel) (left : List Operand) (held : ℕ) → AreOrderly stock left ps → length (operand_homes stock ps held) ≡ length left
 homes_long stock ps left held c = homes_places stock ps held ∙ operands_long stock ps left c
-
-pub cuts_long : (stock : StockModel) (cs : CoverCutsModel) (cuts : List ExprModel) → AreCut stock cuts cs → length (cut_counts cs) ≡ length cuts
-cuts_long stock no_cuts cuts c = sym (ap length c)
-cuts_long stock (cut_then p cs) cuts c = let h = cuts_long stock cs c.1 c.5 in omega (arith, h, ap length c.2)
-
-operands_total : (ps : CoverOperandsModel) → total (operand_counts ps) ≡ operands_count ps
-operands_total no_operands = refl
-operands_total (operand_then i p ps) = let h = operands_total ps in omega (arith, h, total-insert (operand_counts ps) i (cut_count p))
-
-cuts_total : (cs : CoverCutsModel) → total (cut_counts cs) + length (cut_counts cs) ≡ cuts_count cs
-cuts_total no_cuts = refl
-cuts_total (cut_then p cs) = let h = cuts_total cs in omega (arith, h)
 
 -- the cell past those of all leaves is the one past the cover's
 pub past_cover : (stock : StockModel) (leaves : List LeafModel) (ps : CoverOperandsModel) (cs : CoverCutsModel) (n : ℕ) → AreOrderly stock (operands_of leaves) ps → AreCut stock (cuts_of leaves) cs

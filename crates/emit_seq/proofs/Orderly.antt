@@ -12,13 +12,14 @@ use Rattle.form_model.specs.CoverModels.{CoverModel, use_form, CoverOperandsMode
 use Rattle.form_model.specs.Covers.{StockModel, Operand, home_destination, IsOrderly, AreOrderly, AreCut}
 use Rattle.form_model.specs.Steps.{OperandCellsModel, cut_count, operand_counts, cut_counts, inside_operands, match_at}
 use Rattle.form_model.proofs.Zips.{get_mapped, length_out, map-remove}
+use Rattle.form_model.proofs.Counts.{operands_long}
 use Rattle.emit_seq.specs.declared.cells.CutCells.{CutCells}
 use Rattle.emit_seq.specs.declared.cells.OperandCells.{OperandCells}
 use Rattle.emit_seq.specs.declared.roots.Root.{Root}
 use Rattle.emit_seq.specs.Emits.{IsFormAtRoot, IsTakenOut}
 use Rattle.emit_seq.specs.Inner.CellLists.{AreListed, ArePlaces, IsListed, operands_in, trees_in}
 use Rattle.emit_seq.specs.Models.{model_of_cut_cells, models_of_cut_cells, model_of_operand_cells, models_of_operand_cells}
-use Rattle.emit_seq.proofs.Opened.{opened_cover, operands_long}
+use Rattle.emit_seq.proofs.Opened.{opened_cover}
 use Rattle.emit_seq.proofs.Walks.{cells_operands, cells_trees}
 
 pub places_of : (stock : StockModel) (ps : CoverOperandsModel) (left : List Operand) → AreOrderly stock left ps → ArePlaces ps

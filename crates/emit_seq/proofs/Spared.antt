@@ -3,7 +3,7 @@ use Rattle.std.proofs.Common.{◌≡◌, ℕ, zero, suc, ◌==◌, ◌||◌, ◌
 use Rattle.std.specs.Prelude.{slice_get, remove}
 use Rattle.std.specs.Int.{bit_at}
 use Rattle.std.proofs.lemmas.Nat.Bits.{bit_at_or, bit_at-lt}
-use Rattle.std.proofs.lemmas.Bool.{true≢false, eqb-true, eq-eqb, cases_Bool, and_parts}
+use Rattle.std.proofs.lemmas.Bool.{true≢false, eqb-true, eq-eqb, cases_Bool, and_parts, false_from_ne_true}
 use Rattle.rec_bits.proofs.Booleans.{or_cases}
 use Rattle.rec_bits.proofs.Options.{picked}
 use Rattle.net_model.specs.Exprs.{ExprModel}
@@ -22,8 +22,9 @@ use Rattle.emit_seq.specs.Formed.{CellsShown, IsIntoMemory, IsIntoFile, IsFormed
 use Rattle.emit_seq.specs.Leaves.{IsOfJob}
 use Rattle.emit_seq.specs.Spares.{clobbers_of, step_clobbers, AreShared, ReadsCounter, AreDefined, wanted, AreSpare}
 use Rattle.emit_seq.proofs.Matched.{Joined, joined}
-use Rattle.emit_seq.proofs.MatchLeaves.{IsIdOf, operands-append, id_left, id_right, shape_unread, matched_taken}
+use Rattle.emit_seq.proofs.MatchLeaves.{IsIdOf, id_left, id_right, shape_unread, matched_taken}
 use Rattle.form_model.proofs.Zips.{Each}
+use Rattle.form_model.proofs.Counts.{operands-append}
 use Rattle.emit_seq.specs.Inner.CellLists.{operands_in, trees_in}
 use Rattle.emit_seq.proofs.Walks.{cells_operands, cells_trees}
 use Rattle.emit_seq.proofs.Opened.{IsOpened, opened_cover, IsOpenedOperand, opened_operand, writes_own}
@@ -169,10 +170,6 @@ live_parts false false d e = absurd (true≢false (sym e))
 spare_or : (n w : Bool) → (n ≡ true → w ≡ false → ⊥) → w ≡ false → n ≡ false
 spare_or true w f e = absurd (f refl e)
 spare_or false w f e = refl
-
-not_true : (b : Bool) → (b ≡ true → ⊥) → b ≡ false
-not_true true f = absurd (f refl)
-not_true false f = refl
 
 module _ (m : Step → Operation) (c : Step → Regs) (pc : ℕ) where
   -- the operands' steps, and then the form's own
@@ -392,8 +389,8 @@ module _ (stock : StockModel) (file_storage : Option ℕ) (patterns : List Patte
           subst (λ z. IsTidy m c pc (operand_steps stock ps left held ++ z) after (IsOwn destination)) (sym (step_of form destination setting s))
           (tidy_form m c pc (operand_steps stock ps left held) step after (IsIdOf (operands_in left)) (IsOwn destination) t
           (λ r x y. spare_or (after r) (writes (m step) r) (λ a. wrote r a (clobber_written k form ps cs setting r w.listed x)) y)
-          (not_true (reads (m step) (register pc)) (λ h. no_operand ps (operands_in left) orderly (read pc h)))
-          (not_true (writes (m step) pc) (λ h. no_own k ps cs destination tree whole o (g.owned setting pc h)))
+          (false_from_ne_true (reads (m step) (register pc)) (λ h. no_operand ps (operands_in left) orderly (read pc h)))
+          (false_from_ne_true (writes (m step) pc) (λ h. no_own k ps cs destination tree whole o (g.owned setting pc h)))
           read (λ r h. g.owns setting r h))
 
       cuts' : (n : ℕ) (destination : DestinationModel) (tree : ExprModel) (whole : Bool) → IsOrderly stock destination tree whole (use_form k ps cs) → IsAlone m c pc (cut_steps stock (use_form k ps cs) n destination tree whole)
@@ -472,7 +469,7 @@ module _ (stock : StockModel) (file_storage : Option ℕ) (patterns : List Patte
         spare = all.spare;
         given = given_of m c pc (cover_steps stock tested tree cover) no_regs after (λ r h. absurd (all.gone r h (read r (all.live r h))));
         apart = all.apart;
-        unwanted = not_true (after pc) (λ h. no_operand ps (operands_in left) orderly (read pc h));
+        unwanted = false_from_ne_true (after pc) (λ h. no_operand ps (operands_in left) orderly (read pc h));
       }
 
   -- the second half of what the steps of an orderly cover promise

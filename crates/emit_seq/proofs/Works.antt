@@ -24,9 +24,10 @@ use Rattle.emit_seq.proofs.Matched.{AtHome, Holds}
 use Rattle.emit_seq.proofs.MatchLeaves.{LeavesRead}
 use Rattle.form_model.proofs.NeedLaws.{goal_cells, cells_left}
 use Rattle.form_model.proofs.Zips.{Each, each_at, each_weaker, each_both, zip_put, zip_at}
+use Rattle.form_model.proofs.Counts.{operands_long, cuts_long}
 use Rattle.emit_seq.specs.Inner.CellLists.{operands_in, trees_in}
 use Rattle.emit_seq.proofs.Walks.{effect-steps, cells_operands, cells_trees, past_leaves, OperandCount, CutCount, operands_counted, cuts_counted, operands_below, cuts_below, operands_read, cuts_read, holds_of, IsLocal, IsKept, kept_local, Fills, Stores, IsFilled, IsWalked, walk}
-use Rattle.emit_seq.proofs.Opened.{IsOpened, opened_cover, IsOpenedOperand, opened_operand, operands_long, cuts_long, past_cover, into_formed, writes_own, goal_leaves}
+use Rattle.emit_seq.proofs.Opened.{IsOpened, opened_cover, IsOpenedOperand, opened_operand, past_cover, into_formed, writes_own, goal_leaves}
 use Rattle.emit_seq.proofs.Forms.{OwnBelow, OwnIn, form_done}
 use Rattle.emit_seq.proofs.FreeCells.{free_count, all_free, held_more, IsFree, left_some, left_none, room_left, cell_free, tied_is}
 

@@ -4,6 +4,7 @@
 pub const FORMS: &str = "record compile NET SRC
 record tune NET SRC
 record dual NET SRC PART
+record check NET SRC IMG
 record explain NET SRC
 record extract NET
 record run NET IMG MEM CYCLES

@@ -1,5 +1,7 @@
 //! What is wrong, in words.
 
+use check_command::RuleFault;
+use follow::MarkFault;
 use net_model::NetFault;
 use record_core::Status;
 use src_model::SrcFault;
@@ -42,6 +44,8 @@ pub fn reason_of(status: Status) -> &'static str {
         Status::NoCover(_) => "no transfers of the netlist do this; `record explain` tells why",
         Status::ImageText(_) => "no line of an image for this netlist",
         Status::PartText(_) => "no line of a part of the program's variables",
+        Status::Rule(RuleFault::Mark(MarkFault::Unmarked(_))) =>
+            "no mark of the image is of this test",
         Status::MemText(_) => "no line of a memory text for this netlist",
         Status::AsmText(_) => "no line of an assembler text for this netlist",
         Status::AsmWord(_) => "no instruction word does this",

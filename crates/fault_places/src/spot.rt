@@ -2,6 +2,8 @@
 
 ghost use Rattle.std.specs.Prelude.{◌<◌, ◌^◌, length};
 
+use check_command::RuleFault;
+use follow::MarkFault;
 use job_places::places_of;
 use rec_bits::NoMemory;
 use record_core::{Status, name_place};
@@ -32,7 +34,8 @@ fn src_offset(fault: SrcFault) -> Option<u64> {
 }
 
 /// The file that a status tells of, by its place among the words that name files, from 0, and what
-/// it tells of the place there. None where it tells of no place.
+/// it tells of the place there. None where it tells of no place. An image is the second file but of
+/// `check`, where it is the third.
 pub fn spot_of(status: Status) -> Option<(usize, FaultPlace)> {
     let (file, spot) = match status {
         Status::NetText(at) => (0, FaultPlace::At(at)),
@@ -42,7 +45,10 @@ pub fn spot_of(status: Status) -> Option<(usize, FaultPlace)> {
             FaultPlace::At(at),
         ),
         Status::Src(fault) => (1, FaultPlace::At(src_offset(fault)?)),
-        Status::NoCover(tree) => (1, FaultPlace::Tree(tree)),
+        Status::NoCover(tree) | Status::Rule(RuleFault::Mark(MarkFault::Unmarked(tree))) => (
+            1,
+            FaultPlace::Tree(tree),
+        ),
         Status::AsmWord(line) => (1, FaultPlace::Line(line)),
         Status::MemText(at) | Status::PartText(at) => (2, FaultPlace::At(at)),
         _ => return None,

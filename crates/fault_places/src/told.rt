@@ -16,6 +16,14 @@ fn file_name(words: &[String], file: usize) -> Option<&str> {
     }
 }
 
+// The place of the file that a status tells of: of `check` the image is the third.
+fn place_in(words: &[String], status: Status, file: usize) -> usize {
+    match (words, status) {
+        ([command, ..], Status::ImageText(_)) if command.as_str() == "check" => 2,
+        _ => file,
+    }
+}
+
 // What is shown of the place that a status tells of. None where it tells of none, and where the
 // file can't be read again.
 fn note_of<F: Shelf>(
@@ -25,7 +33,7 @@ fn note_of<F: Shelf>(
     status: Status,
 ) -> Option<Vec<u8>> {
     let (file, spot) = spot_of(status)?;
-    let name = file_name(words, file)?;
+    let name = file_name(words, place_in(words, status, file))?;
     let text = shelf.fetch(alloc, name, FILE_LIMIT).ok()?;
     let at = offset_in(alloc, &text, spot).ok()??;
     note(alloc, name, &text, at, reason_of(status)).ok()

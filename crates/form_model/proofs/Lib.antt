@@ -8,4 +8,6 @@ pub mod TreeLaws
 pub mod NeedLaws
 pub mod WideLaws
 pub mod Zips
+pub mod Spaces
+pub mod Counts
 mod WorkedCovers

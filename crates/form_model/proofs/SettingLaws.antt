@@ -1,9 +1,9 @@
 -- What a shape means under the bits that its setting has.
-use Rattle.std.proofs.Common.{◌≡◌, ℕ, ◌+◌, ◌-◌, ◌*◌, ◌/◌, ◌%◌, ◌^◌, ◌<◌, ◌≤◌, ◌==◌, ◌&&◌, ◌||◌, ◌⊎◌, inl, inr, nat_lt, nat_le, Bool, true, false, Option, Some, None, refl, sym, ap, subst, ◌∙◌, arith}
+use Rattle.std.proofs.Common.{◌≡◌, ℕ, ◌+◌, ◌-◌, ◌*◌, ◌/◌, ◌%◌, ◌^◌, ◌<◌, ◌≤◌, ◌==◌, ◌&&◌, ◌||◌, inl, inr, nat_lt, nat_le, true, false, Option, Some, None, refl, sym, ap, subst, ◌∙◌, arith}
 use Rattle.std.specs.Int.{bit_at}
 use Rattle.std.proofs.lemmas.Nat.{pow_pos}
 use Rattle.std.proofs.lemmas.Nat.Bits.{bit_at-zero, bit_at_cat_low, bit_at_cat_high, bit_at_above, same_from_bits, same_from_bits_below}
-use Rattle.std.proofs.lemmas.Bool.{true≢false, eqb-true, le-leb, cases_lt, ltb-true}
+use Rattle.std.proofs.lemmas.Bool.{true≢false, eqb-true, le-leb, cases_lt, ltb-true, leb-false, and_cases}
 use Rattle.std.proofs.Math.Nat.{add_comm}
 use Rattle.rec_bits.specs.declared.operator.Op2.TheVariants.{Add}
 use Rattle.rec_bits.specs.Operators.{slice_of, sext_of}
@@ -51,20 +51,13 @@ slice_bit i hi lo k h = low_bit (i / 2 ^ lo) (hi + 1 - lo) k h ∙ high_bit i lo
 
 -- ---- shapes
 
-and_false : (a b : Bool) → (a && b) ≡ false → (a ≡ false) ⊎ (b ≡ false)
-and_false true b h = inr h
-and_false false b h = inl refl
-
-below_of : (a b : ℕ) → nat_le a b ≡ false → b < a
-below_of a b h = elim (cases_lt b a) as (λ _. b < a) [ inl l ↦ l | inr l ↦ absurd (true≢false (sym (le-leb a b l) ∙ h)) ]
-
 slice_outside : (v hi lo k : ℕ) → v < 2 ^ (hi + 1 - lo) → (nat_le lo k && nat_le k hi) ≡ false → bit_at (v * 2 ^ lo) k ≡ 0
 slice_outside v hi lo k l h =
     elim (cases_lt k lo) as (λ _. bit_at (v * 2 ^ lo) k ≡ 0) [
       | inl m ↦ up_low v lo k m
-      | inr m ↦ elim (and_false (nat_le lo k) (nat_le k hi) h) as (λ _. bit_at (v * 2 ^ lo) k ≡ 0) [
+      | inr m ↦ elim (and_cases (nat_le lo k) (nat_le k hi) h) as (λ _. bit_at (v * 2 ^ lo) k ≡ 0) [
         | inl f ↦ absurd (true≢false (sym (le-leb lo k m) ∙ f))
-        | inr f ↦ let u : hi < k = below_of k hi f in up_high v lo k m ∙ bit_at_above v (hi + 1 - lo) (k - lo) l (omega arith)
+        | inr f ↦ let u : hi < k = leb-false k hi f in up_high v lo k m ∙ bit_at_above v (hi + 1 - lo) (k - lo) l (omega arith)
       ]
     ]
 

@@ -26,7 +26,7 @@ sext_small x n w lt less = by (is_negative_of n x)
     by true = (let wide = pow_below n w less in omega (arith, wide, lt))
     by false = (let wide = pow_below n w less in omega (arith, wide, lt))
 
-plain_fits : (bits : ℕ) (t : ExprModel) → SummandFits bits t → PlainFits bits t
+pub plain_fits : (bits : ℕ) (t : ExprModel) → SummandFits bits t → PlainFits bits t
 plain_fits bits (const w v) f = tt
 plain_fits bits (word w) f = f
 plain_fits bits (reg r w) f = f

@@ -1,15 +1,14 @@
 -- Sets of words by what holds of their words, and as a book grows.
-use Rattle.std.proofs.Common.{◌≡◌, ◌↔◌, ◌≢◌, ℕ, zero, suc, ◌^◌, ◌<◌, ◌≤◌, ◌==◌, ◌&&◌, Bool, true, false, true≢false, List, [], ◌∷◌, Option, Some, None, length, slice_get, refl, sym, ap, subst, ◌∙◌, arith, inl, inr}
+use Rattle.std.proofs.Common.{◌≡◌, ◌↔◌, ◌≢◌, ℕ, ◌^◌, ◌<◌, ◌≤◌, ◌==◌, ◌&&◌, Bool, true, false, true≢false, List, [], Option, Some, length, refl, sym, ap, subst, ◌∙◌, arith, inl, inr}
 use Rattle.std.specs.Prelude.{◌⊎◌}
 use Rattle.std.specs.Int.{bit_at}
 use Rattle.std.proofs.lemmas.Bool.{eqb-true, eq-eqb}
 use Rattle.std.proofs.lemmas.Nat.Bits.{bit_at_or, bit_at-zero, bit_at-pow_same, bit_at-pow_other, bit_at-lt}
+use Rattle.rec_bits.proofs.Lists.{slice_get_past}
 use Rattle.bit_bdd.specs.Diagrams.{Diagrams, Extends, has_word}
 use Rattle.bit_bdd.proofs.CallerLemmas.{same_words}
 use Rattle.net_model.specs.declared.hardware.Netlist.{Netlist}
 use Rattle.net_model.specs.declared.hardware.Storage.{Storage}
-use Rattle.net_model.specs.declared.hardware.Storage.TheVariants.{Register, Memory, File}
-use Rattle.net_model.specs.CheckedRules.{memory_count}
 use Rattle.net_model.specs.declared.hardware.Space.TheVariants.{File as InFile}
 use Rattle.net_model.specs.Nets.{memory_id, place_in}
 use Rattle.net_model.specs.Patterns.{IsWordOf, Pattern}
@@ -58,14 +57,6 @@ each_is book P set fields h small = (
   λ each setting is. let w = each setting is in (w.0, w.1, record { fits = small w.0 w.2; holds = (h.words w.0 (small w.0 w.2)).1 w.2 }),
 )
 
--- ---- a netlist's memory
-
-pub memory_within : (storages : List Storage) → memory_count storages ≡ 1 → memory_id storages < length storages
-memory_within [] e = absurd (omega (arith, e))
-memory_within (Register name width input when ∷ storages) e = (let r = memory_within storages (omega (arith, e)) in omega (arith, r))
-memory_within (Memory cells ∷ storages) e = omega arith
-memory_within (File cells ∷ storages) e = (let r = memory_within storages (omega (arith, e)) in omega (arith, r))
-
 -- ---- what the words do
 
 -- those that step, where the memory is the pattern's own storage, and where it isn't
@@ -90,18 +81,13 @@ other_file netlist p n word = (
   λ k. (((k.given, record { clean = k.given.clean; steps = k.steps }), k.memory), record { clean = k.given.clean; keeps = k.file n }),
 )
 
-past_none : (storages : List Storage) (id : ℕ) → length storages ≤ id → slice_get storages id ≡ None
-past_none [] id ge = refl
-past_none (s ∷ storages) zero ge = absurd (omega (arith, ge))
-past_none (s ∷ storages) (suc id) ge = past_none storages id (omega (arith, ge))
-
 pub no_file : (netlist : Netlist) (p : Pattern) → length netlist.storages ≤ place_in InFile netlist.storages → (word : ℕ) → KeepsMemory netlist p word ↔ KeepsOthers netlist p 0 word
 no_file netlist p ge word = (
   (λ h. record {
     given = h.0.0;
     steps = h.0.1.steps;
     memory = h.1;
-    file = λ n. ap (λ (o : Option Storage). transfer_of netlist word (place_in InFile netlist.storages) o) (past_none netlist.storages (place_in InFile netlist.storages) ge);
+    file = λ n. ap (λ (o : Option Storage). transfer_of netlist word (place_in InFile netlist.storages) o) (slice_get_past netlist.storages (place_in InFile netlist.storages) ge);
     registers = λ r b. absurd (let z = bit_at-zero r in omega (arith, z, b));
   }),
   λ k. ((k.given, record { clean = k.given.clean; steps = k.steps }), k.memory),

@@ -16,10 +16,9 @@ use Rattle.net_model.proofs.Meanings.{width_is}
 use Rattle.net_model.specs.declared.hardware.Code.{Code}
 use Rattle.net_model.specs.Nets.{code_bits, counter_of, word_width}
 use Rattle.net_model.proofs.WordWidths.{clean_below}
-use Rattle.net_model.proofs.Storages.{storage_within}
+use Rattle.net_model.proofs.Storages.{storage_within, memory_within}
 use Rattle.transfer_set.proofs.ReadyLaws.{row_at}
 use Rattle.form_set.proofs.FieldsBelow.{move_small}
-use Rattle.form_set.proofs.Holding.{memory_within}
 use Rattle.net_model.specs.Patterns.{IsPattern, Pattern}
 use Rattle.net_model.specs.Exprs.{TransferModel, keep, write}
 use Rattle.net_model.specs.Transfers.{transfer_at, same_reg, storage_transfer, transfer_of}

@@ -1,5 +1,5 @@
 -- Lists of forms, one pattern after the other, and how far their jumps reach.
-use Rattle.std.proofs.Common.{◌≡◌, ℕ, zero, suc, ◌+◌, ◌^◌, ◌<◌, ◌==◌, max, Bool, true, false, true≢false, cond, List, [], ◌∷◌, ◌++◌, take, Some, None, length, slice_get, refl, sym, ap, subst, ◌∙◌, arith, inl, inr}
+use Rattle.std.proofs.Common.{◌≡◌, ℕ, zero, suc, ◌+◌, ◌^◌, ◌<◌, ◌==◌, max, Bool, true, false, true≢false, cond, List, [], ◌∷◌, ◌++◌, take, Some, None, length, slice_get, refl, sym, ap, subst, ◌∙◌, arith, inl, inr, append_assoc}
 use Rattle.std.specs.Prelude.{◌⊎◌}
 use Rattle.std.proofs.lemmas.Nat.{and_le_l}
 use Rattle.net_model.specs.declared.hardware.Netlist.{Netlist}
@@ -28,10 +28,6 @@ append_none : {A : Type 0} (xs : List A) → xs ++ [] ≡ xs
 append_none [] = refl
 append_none (x ∷ xs) = ap (λ ys. x ∷ ys) (append_none xs)
 
-append_flat : {A : Type 0} (xs ys zs : List A) → (xs ++ ys) ++ zs ≡ xs ++ (ys ++ zs)
-append_flat [] ys zs = refl
-append_flat (x ∷ xs) ys zs = ap (λ rs. x ∷ rs) (append_flat xs ys zs)
-
 module _ (netlist : Netlist) (reach : ℕ) where
   -- the forms of one pattern more
   pub forms_more : (number : ℕ) (ps : List Pattern) (i : ℕ) (p : Pattern) → slice_get ps i ≡ Some p → (old new : List FormModel)
@@ -49,7 +45,7 @@ module _ (netlist : Netlist) (reach : ℕ) where
   forms_more number (x ∷ ps) (suc i) p at old new h a =
       let n : number + suc i ≡ number + 1 + i = omega arith in
       let r = forms_more (number + 1) ps i p at h.1 (h.1 ++ a.forms) h.3 (record { forms = a.forms; of = subst (λ k. AreFormModelsOf netlist reach k p a.forms) n a.of; is = refl }) in
-      (h.0, h.1 ++ a.forms, h.2, r, a.is ∙ ap (λ rs. rs ++ a.forms) h.4 ∙ append_flat h.0 h.1 a.forms)
+      (h.0, h.1 ++ a.forms, h.2, r, a.is ∙ ap (λ rs. rs ++ a.forms) h.4 ∙ append_assoc h.0 h.1 a.forms)
 
 pub forms_next : (netlist : Netlist) (reach : ℕ) (ps : List Pattern) (i : ℕ) (p : Pattern) → slice_get ps i ≡ Some p → (old new : List FormModel)
     → AreFormModels netlist reach 0 (take i ps) old → HasAdded netlist reach i p old new → AreFormModels netlist reach 0 (take (suc i) ps) new

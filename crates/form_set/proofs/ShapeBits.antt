@@ -24,7 +24,7 @@ use Rattle.sym_expr.proofs.Fits.{width_fits}
 use Rattle.transfer_set.specs.TextMarks.{IsExprOf}
 use Rattle.form_model.specs.Shapes.{FieldFits, PlainFits, ShapeFits, Sum, SummandFits, field_setting, is_field, is_plain, is_plain_sum, is_shape, less_by, plain_setting, shape_setting, sum_of, sum_setting, sum_with, summands}
 use Rattle.form_model.proofs.SumNumbers.{sum_is_with}
-use Rattle.form_model.proofs.SumLaws.{IsSum, sum_is}
+use Rattle.form_model.proofs.SumLaws.{IsSum, sum_is, plain_fits}
 use Rattle.form_model.proofs.FieldLaws.{field_small, then_some_true}
 use Rattle.form_model.proofs.PlainLaws.{sext_low}
 use Rattle.form_model.proofs.ShapeLaws.{setting_of_shape}
@@ -82,19 +82,6 @@ sum_fields : (o : Op2) (a b : ExprModel) (s : Sum) → sum_of o a b ≡ Some s �
 sum_fields Add a b s e = summands_fields a b s e
 sum_fields o a b s e = absurd (cc)
 
-plain_of : (bits : ℕ) (t : ExprModel) → SummandFits bits t → PlainFits bits t
-plain_of bits (const w v) f = tt
-plain_of bits (word w) f = f
-plain_of bits (reg r w) f = f
-plain_of bits (read space a w) f = f
-plain_of bits (un o a) f = f
-plain_of bits (bin o a b) f = f
-plain_of bits (slice a hi lo) f = f
-plain_of bits (cat a b) f = f
-plain_of bits (zext a w) f = f
-plain_of bits (sext a w) f = f
-plain_of bits (select c a b) f = f
-
 -- the bits that are told are bits of the shape
 plain_only : (bits : ℕ) (t : ExprModel) → is_plain t ≡ true → PlainFits bits t → (v b : ℕ) → plain_setting t v ≡ Some b → bit_and b (fields t) ≡ b
 plain_only bits (const w c) i f v b e = (let g = then_some_true (v == c) 0 b e in subst (λ n. bit_and n 0 ≡ n) g.1 refl)
@@ -117,7 +104,7 @@ sum_only : (bits : ℕ) (o : Op2) (a c : ExprModel) (s : Sum) → IsSum bits (bi
 sum_only bits o a c s sum e v b told = ap (bit_and b) (sum_fields o a c s e) ∙ by (nat_lt v (2 ^ s.width)) told
   where
     by : (t : Bool) → cond t (plain_setting s.to (less_by s.width v s.added)) None ≡ Some b → bit_and b (fields s.to) ≡ b
-    by true q = plain_only bits s.to sum.plain (plain_of bits s.to sum.fits) (less_by s.width v s.added) b q
+    by true q = plain_only bits s.to sum.plain (plain_fits bits s.to sum.fits) (less_by s.width v s.added) b q
     by false q = absurd (cc)
 
 pub shape_only : (bits : ℕ) (t : ExprModel) → is_shape t ≡ true → ShapeFits bits t → (v b : ℕ) → shape_setting t v ≡ Some b → bit_and b (fields t) ≡ b
@@ -208,7 +195,7 @@ plain_word bits (cat a c) h f i lt = absurd (true≢false (sym h))
 plain_word bits (select a c d) h f i lt = absurd (true≢false (sym h))
 
 shape_word : (bits : ℕ) (t : ExprModel) → is_shape t ≡ true → ShapeFits bits t → (i : ℕ) → i < 2 ^ bits → WordFitsExpr t i
-shape_word bits (bin o a c) h f i lt = (let p = both_plain o a c h in (plain_word bits a p.0 (plain_of bits a f.1) i lt, plain_word bits c p.1 (plain_of bits c f.2) i lt))
+shape_word bits (bin o a c) h f i lt = (let p = both_plain o a c h in (plain_word bits a p.0 (plain_fits bits a f.1) i lt, plain_word bits c p.1 (plain_fits bits c f.2) i lt))
 shape_word bits (const w c) h f i lt = plain_word bits (const w c) h f i lt
 shape_word bits (zext a w) h f i lt = plain_word bits (zext a w) h f i lt
 shape_word bits (sext a w) h f i lt = plain_word bits (sext a w) h f i lt

@@ -5,20 +5,14 @@ use Rattle.std.proofs.lemmas.Bool.{eqb-true, eq-eqb, and_from, and_parts}
 use Rattle.rec_bits.proofs.Booleans.{same_truth}
 use Rattle.rec_bits.proofs.Options.{some_given}
 use Rattle.rec_bits.proofs.Equality.{op1_is, op2_is, op1_self, op2_self}
-use Rattle.net_model.specs.declared.hardware.Space.{Space}
-use Rattle.net_model.specs.declared.hardware.Space.TheVariants.{Memory as InMemory, File as InFile}
 use Rattle.net_model.specs.Exprs.{ExprModel, word, reg, const, read, un, bin, slice, cat, zext, sext, select}
 use Rattle.form_model.specs.Effects.{same_space}
 use Rattle.form_model.specs.Matches.{same_op1, same_op2}
+use Rattle.form_model.proofs.Spaces.{space_is, space_self}
 use Rattle.form_set.specs.Targets.{first_of}
 use Rattle.form_set.specs.Tied.{behind, same_expr, tied_place}
 
 -- ---- two expressions are one
-
-space_is : (s t : Space) → same_space s t ≡ true → s ≡ t
-space_is InMemory InMemory h = refl
-space_is InFile InFile h = refl
-space_is s t h = absurd (true≢false (sym h))
 
 pub expr_is : (t u : ExprModel) → same_expr t u ≡ true → t ≡ u
 expr_is (word w) (word x) h = ap word (eqb-true w x h)
@@ -45,10 +39,6 @@ expr_is (select c a b) (select d e f) h =
     let r = and_parts (same_expr a e) (same_expr b f) q.1 in
     (λ j. select (expr_is c d q.0 j) (expr_is a e r.0 j) (expr_is b f r.1 j))
 expr_is t u h = absurd (true≢false (sym h))
-
-space_self : (s : Space) → same_space s s ≡ true
-space_self InMemory = refl
-space_self InFile = refl
 
 pub expr_self : (t : ExprModel) → same_expr t t ≡ true
 expr_self (word w) = eq-eqb w w refl

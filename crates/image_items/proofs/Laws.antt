@@ -39,7 +39,7 @@ below_is m n e =
 below_again : (n : ℕ) → n < 2 ^ 32 → below_2_32 n ≡ Some n
 below_again n h = ap (λ t. cond t (Some n) None) (lt-ltb n (2 ^ 32) h)
 
-small_is : (text : List ℕ) (n : ℕ) → small text ≡ Some n → (text ≡ decimal n) × (n < 2 ^ 32)
+pub small_is : (text : List ℕ) (n : ℕ) → small text ≡ Some n → (text ≡ decimal n) × (n < 2 ^ 32)
 unfolding small
 small_is text n e =
     let b = bind_ok (number_of text) below_2_32 n e in
@@ -47,16 +47,16 @@ small_is text n e =
     let q = number_is text b.value b.first in
     (rw p.0 at q.0, p.1)
 
-small_again : (n : ℕ) → n < 2 ^ 32 → small (decimal n) ≡ Some n
+pub small_again : (n : ℕ) → n < 2 ^ 32 → small (decimal n) ≡ Some n
 unfolding small
 small_again n h = bind_again (number_of (decimal n)) below_2_32 n (Some n) (number_again n (omega arith)) (below_again n h)
 
 -- what stands before a mark
-record BeforeIs (mark : ℕ) (text : List ℕ) (n : ℕ) (rest : List ℕ) : Type 0 where
+pub record BeforeIs (mark : ℕ) (text : List ℕ) (n : ℕ) (rest : List ℕ) : Type 0 where
   pub text_is : text ≡ decimal n ++ (mark ∷ rest)
   pub fits : n < 2 ^ 32
 
-before_is : (mark : ℕ) (text : List ℕ) (n : ℕ) (rest : List ℕ) → number_before mark text ≡ Some (n, rest) → BeforeIs mark text n rest
+pub before_is : (mark : ℕ) (text : List ℕ) (n : ℕ) (rest : List ℕ) → number_before mark text ≡ Some (n, rest) → BeforeIs mark text n rest
 unfolding number_before
 before_is mark text n rest e =
     let b = bind_ok (parts_at mark text) _ (n, rest) e in
@@ -69,7 +69,7 @@ before_is mark text n rest e =
       fits = omega (arith, p.0, s.1);
     }
 
-before_again : (mark n : ℕ) (rest : List ℕ) → Avoids mark (decimal n) → n < 2 ^ 32 → number_before mark (decimal n ++ (mark ∷ rest)) ≡ Some (n, rest)
+pub before_again : (mark n : ℕ) (rest : List ℕ) → Avoids mark (decimal n) → n < 2 ^ 32 → number_before mark (decimal n ++ (mark ∷ rest)) ≡ Some (n, rest)
 unfolding number_before
 before_again mark n rest out h =
     bind_again (parts_at mark (decimal n ++ (mark ∷ rest))) _ (decimal n, rest) (Some (n, rest)) (parts_again mark (decimal n) rest out)
@@ -83,7 +83,7 @@ last_is text n e =
     let q = end_is text b.value b.first in
     (rw p.0 at q, p.1)
 
-digits_avoid : (mark n : ℕ) → n < 2 ^ 32 → (is_digit mark ≡ false) → Avoids mark (decimal n)
+pub digits_avoid : (mark n : ℕ) → n < 2 ^ 32 → (is_digit mark ≡ false) → Avoids mark (decimal n)
 digits_avoid mark n h out = avoids-decimal mark n out (omega arith)
 
 last_again : (n : ℕ) → n < 2 ^ 32 → last_number (decimal n ++ (10 ∷ [])) ≡ Some n
@@ -117,10 +117,10 @@ pair_again pair h k =
 
 -- ---- labels
 
-same_text : (xs ys : List ℕ) → bytes_eq xs ys ≡ true → xs ≡ ys
+pub same_text : (xs ys : List ℕ) → bytes_eq xs ys ≡ true → xs ≡ ys
 same_text xs ys e = (bytes_eq-Decides xs ys).0 e
 
-other_text : (xs ys : List ℕ) → (xs ≡ ys → ⊥) → bytes_eq xs ys ≡ false
+pub other_text : (xs ys : List ℕ) → (xs ≡ ys → ⊥) → bytes_eq xs ys ≡ false
 other_text xs ys h = step (bytes_eq xs ys) (same_text xs ys)
   where
     step : (t : Bool) → (t ≡ true → xs ≡ ys) → t ≡ false
@@ -138,14 +138,14 @@ label_step text (Some n) false t e =
     let s = small_is text b.value b.first in
     (s.0 ∙ ap decimal g, omega (arith, g, s.1))
 
-label_is : (text : List ℕ) (label : Option ℕ) → label_of text ≡ Some label → (text ≡ label_text label) × LabelFits label
+pub label_is : (text : List ℕ) (label : Option ℕ) → label_of text ≡ Some label → (text ≡ label_text label) × LabelFits label
 unfolding label_of
 label_is text label e = label_step text label (bytes_eq text (codes "end")) refl e
 
 not_end : (ds : List ℕ) → Avoids 101 ds → ds ≡ codes "end" → ⊥
 not_end ds h e = let k : Avoids 101 (codes "end") = subst (Avoids 101) e h in let f : true ≡ false = k.0 in cc
 
-label_again : (label : Option ℕ) → LabelFits label → label_of (label_text label) ≡ Some label
+pub label_again : (label : Option ℕ) → LabelFits label → label_of (label_text label) ≡ Some label
 unfolding label_of
 label_again None h = refl
 label_again (Some n) h =

@@ -2,8 +2,9 @@
 //!
 //! Promise: `item_of` gives what a line of an image's text says, where a word has so many bytes, or
 //! None (`item_of` in `specs/Reading`, which goes step by step as the code does), and `word_in` the
-//! word that hexadecimal digits are. That a line which is read says what it is read as, and that a
-//! line which says something is read as that, is `proofs/Laws`, by which `image_text` goes.
+//! word that hexadecimal digits are; `small`, `number_before` and `label_of` give numbers and labels,
+//! for other lines that have them. That a line which is read says what it is read as, and that a line
+//! which says something is read as that, is `proofs/Laws`, by which `image_text` goes.
 //!
 //! Files:
 //!
@@ -22,6 +23,6 @@ mod item;
 mod list;
 mod reading;
 
-pub use field::word_in;
+pub use field::{label_of, number_before, small, word_in};
 pub use item::Item;
 pub use reading::item_of;

@@ -62,7 +62,7 @@ all_parts : (line : Item → List ℕ) (xs ys : List Item) → AllByRecursion Is
 all_parts line [] ys a b = b
 all_parts line (x ∷ xs) ys a b = (a.0, all_parts line xs ys a.1 b)
 
-whole_lines : (limits : Limits) (image : Image) → image.bits < 2 ^ 32 → limits.words < 2 ^ 32 → IsFitting limits image → AllByRecursion IsLine (image_lines image)
+pub whole_lines : (limits : Limits) (image : Image) → image.bits < 2 ^ 32 → limits.words < 2 ^ 32 → IsFitting limits image → AllByRecursion IsLine (image_lines image)
 whole_lines limits image small words f =
     let bytes = bytes_of image.bits in
     let line = item_line bytes in

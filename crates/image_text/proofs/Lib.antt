@@ -2,4 +2,4 @@ mod Progress
 mod Marks
 mod Machine
 pub mod Whole
-mod Again
+pub mod Again

@@ -28,5 +28,5 @@ mod reading;
 mod writing;
 
 pub use laws::law_of_again;
-pub use reading::read;
+pub use reading::{read, read_within};
 pub use writing::write;

@@ -42,8 +42,9 @@ fn whole_of(front: Front, end: usize) -> Result<Image, ParseFault>
     }
 }
 
-// The image whose text the bytes are, where it keeps to the limits.
-fn read_within(alloc: Global, limits: Limits, bytes: &[u8]) -> Result<Image, ParseFault>
+/// The image whose text the bytes are, where it keeps to the limits: as `read`, for the limits of a
+/// netlist that are known.
+pub fn read_within(alloc: Global, limits: Limits, bytes: &[u8]) -> Result<Image, ParseFault>
     requires some { 1 ≤ limits.bits }
     requires narrow { limits.bits ≤ 64 }
     requires few { limits.words < 2 ^ 32 }

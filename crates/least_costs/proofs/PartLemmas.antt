@@ -6,6 +6,7 @@ use Rattle.net_model.specs.Exprs.{ExprModel}
 use Rattle.form_model.specs.Matches.{LeafModel, operand, cut}
 use Rattle.form_model.specs.Covers.{Operand, operands_of, cuts_of}
 use Rattle.form_model.specs.Trees.{model_of_tree}
+use Rattle.form_model.proofs.Counts.{operands-append}
 use Rattle.tree_grammar.specs.declared.parts.Leaf.{Leaf}
 use Rattle.tree_grammar.specs.declared.parts.Leaf.TheVariants
 use Rattle.tree_grammar.specs.Leaves.{model_of_leaf, models_of_leaves, AreAt, IsPartAt}
@@ -14,11 +15,6 @@ use Rattle.least_costs.specs.declared.opened.OpenCut.{OpenCut}
 use Rattle.least_costs.specs.Subgoals.{operands_size, exprs_size}
 use Rattle.least_costs.specs.Matched.{AreLowLeaves}
 use Rattle.least_costs.specs.Searches.{open_operand, open_operands, open_cuts, EachOperandAt, EachCutAt, OperandsAt, CutsAt, AreParts, HasOperand, HasCut}
-
-operands-append : (xs ys : List LeafModel) → operands_of (xs ++ ys) ≡ operands_of xs ++ operands_of ys
-operands-append [] ys = refl
-operands-append (operand id tree whole ∷ xs) ys = ap (λ l. record { home = id; tree = tree; whole = whole } ∷ l) (operands-append xs ys)
-operands-append (cut shape tree ∷ xs) ys = operands-append xs ys
 
 cuts-append : (xs ys : List LeafModel) → cuts_of (xs ++ ys) ≡ cuts_of xs ++ cuts_of ys
 cuts-append [] ys = refl

@@ -1,6 +1,7 @@
 -- Entries of a row and their places.
 use Rattle.std.proofs.Common.{◌≡◌, ◌≢◌, ◌<◌, Bool, true, false, refl, sym, ap, ◌∙◌, subst, arith, eq-eqb}
 use Rattle.std.specs.Prelude.{not}
+use Rattle.std.proofs.lemmas.Bool.{not-false}
 use borrow.Author.Tests.{eqb-true}
 use Rattle.least_costs.specs.contracts.slots.SlotPartialEq.TheImpl.{ghosts as slot_eq}
 use Rattle.least_costs.specs.declared.slots.Slot.{Slot}
@@ -35,12 +36,8 @@ place_once Temporary Temporary h k e = refl
 
 -- ---- whether two entries are one
 
-not_false : (b : Bool) → not b ≡ false → b ≡ true
-not_false true h = refl
-not_false false h = absurd (cc)
-
 pub same_entry : (a b : Slot) → not (slot_eq.eq a b) ≡ false → a ≡ b
-same_entry (Register r) (Register q) h = ap Register (eqb-true r q (not_false _ h))
+same_entry (Register r) (Register q) h = ap Register (eqb-true r q (not-false _ h))
 same_entry (Register r) File h = absurd (cc)
 same_entry (Register r) Temporary h = absurd (cc)
 same_entry File (Register q) h = absurd (cc)

@@ -3,9 +3,10 @@ use Rattle.std.proofs.Common.{ℕ, ◌≡◌, ◌≤◌, ◌+◌, ◌-◌, ◌*�
 use Rattle.net_model.specs.declared.states.State.{State}
 use Rattle.src_model.specs.Written.{stmts_of}
 use Rattle.form_model.specs.declared.flow.Flow.{Flow}
-use Rattle.form_model.specs.declared.flow.Flow.TheVariants.{Assign, Test, Jump, End}
+use Rattle.form_model.specs.declared.flow.Flow.TheVariants.{End}
 use Rattle.src_trees.specs.Flows.{flow_in, program_flow}
 use Rattle.branch_fix.specs.Marked.{Ascend, labels}
+use Rattle.branch_fix.proofs.Marking.{some_label, ascend_within}
 use Rattle.code_model.specs.declared.image.Image.{Image}
 use Rattle.code_model.specs.declared.image.Mark.{Mark}
 use Rattle.code_model.specs.Machine.{IsCalm}
@@ -17,22 +18,9 @@ use Rattle.src_model.specs.Trace.{strace}
 use Rattle.make_command.specs.Stops.{IsAtEnd, RunsOn}
 use Rattle.make_command.proofs.Shown.{shown_runs}
 
--- a flow with an end has a label
-some_label : (flow : List Flow) → labels (flow ++ End ∷ []) ≡ [] → ⊥
-some_label [] e = cc
-some_label (Assign tree ∷ flow) e = some_label flow e
-some_label (Test tree when_one when_zero ∷ flow) e = cc
-some_label (Jump to ∷ flow) e = some_label flow e
-some_label (End ∷ flow) e = cc
-
--- marks stand before the last word's end
-ascend_le : (from end : ℕ) (marks : List Mark) → Ascend from marks end → from ≤ end
-ascend_le from end [] h = h
-ascend_le from end (mark ∷ marks) h = omega (arith, h.0, ascend_le (mark.address + 1) end marks h.1)
-
 some_word : (flow : List Flow) (words : ℕ) (marks : List Mark) → map (λ (mark : Mark). mark.label) marks ≡ labels (flow ++ End ∷ []) → Ascend 0 marks words → 1 ≤ words
 some_word flow words [] each apart = absurd (some_label flow (sym each))
-some_word flow words (mark ∷ marks) each apart = omega (arith, ascend_le (mark.address + 1) words marks apart.1)
+some_word flow words (mark ∷ marks) each apart = omega (arith, ascend_within (mark.address + 1) words marks apart.1)
 
 some_words : (task : Task) (image : Image) → task.flow ≡ program_flow task.program → IsMadeFor task image → 1 ≤ length (words_of image)
 some_words task image own made = some_word (flow_in (stmts_of task.program.body) 0 0) (length (words_of image)) image.marks (made.marked.each ∙ ap labels own) made.marked.apart

@@ -155,7 +155,7 @@ module _ (mode v : ℕ) (forms : List Form) where
 
 -- ---- the storage of such a form
 
-register_goal : (storage id : ℕ) (b c : Bool) → (if b then into_memory else if c then into_file else into_reg storage) ≡ into_reg id → storage ≡ id
+pub register_goal : (storage id : ℕ) (b c : Bool) → (if b then into_memory else if c then into_file else into_reg storage) ≡ into_reg id → storage ≡ id
 register_goal storage id true c e = absurd (cc)
 register_goal storage id false true e = absurd (cc)
 register_goal storage id false false e = cc

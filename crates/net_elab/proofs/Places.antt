@@ -1,5 +1,5 @@
 -- Where the items of a text and the ports of a part stand in the netlist.
-use Rattle.std.proofs.Common.{ℕ, zero, suc, ◌≡◌, ◌+◌, ◌-◌, ◌&&◌, ◌⊎◌, inl, inr, Bool, true, false, if◌then◌else◌, List, [], ◌∷◌, ◌++◌, length, Option, Some, slice_get, slice_index, refl, sym, ap, ◌∙◌, subst, arith, add-one}
+use Rattle.std.proofs.Common.{ℕ, zero, suc, ◌≡◌, ◌+◌, ◌-◌, ◌⊎◌, inl, inr, Bool, true, false, if◌then◌else◌, List, [], ◌∷◌, ◌++◌, length, Option, Some, slice_get, slice_index, refl, sym, ap, ◌∙◌, subst, arith, add-one}
 use Rattle.grammar.specs.declared.words.Ident.{Ident}
 use Rattle.net_model.specs.declared.units.Port.{Port}
 use Rattle.net_model.specs.declared.hardware.Netlist.{Netlist}
@@ -9,6 +9,7 @@ use Rattle.net_model.specs.Widths.{HasWidth}
 use Rattle.net_model.specs.Written.{UnitModel, NetExprModel}
 use Rattle.net_model.specs.TextNames.{is_port, port_named}
 use Rattle.rec_bits.specs.Faults.{same_name}
+use Rattle.rec_bits.proofs.Booleans.{and_left}
 use Rattle.net_model.specs.Numbering.{SiteModel, bound, count_if, count_input, count_output, count_equation, count_item, count_storages, item_wires, last_nets, port_place, port_wires, storage_numbers, wires_from}
 use Rattle.net_model.specs.Elaborated.{codes_from, count_codes, input_nets, inputs_nets, item_codes, item_nets, item_storages, nets_from, nets_if, output_wire, output_wires, plain_net, storages_from}
 use Rattle.net_elab.proofs.Standing.{Stands, stands_left, stands_right, has_at, length_if, length_input, length_output, length_item, length_stored, length_coded}
@@ -98,10 +99,6 @@ place_here output q ports name e = ap (λ (b : Bool). if b then 0 else port_plac
 place_later : (output : Bool) (q : Port) (ports : List Port) (name : List ℕ) → is_port output name q ≡ false → port_place output (q ∷ ports) name ≡ suc (port_place output ports name)
 place_later output q ports name e = ap (λ (b : Bool). if b then 0 else port_place output ports name + 1) e ∙ add-one (port_place output ports name)
 
-out_true : (b c : Bool) → b && c ≡ true → b ≡ true
-out_true true c h = refl
-out_true false c h = h
-
 in_false : (b c : Bool) → (if b then false else c) ≡ true → b ≡ false
 in_false true c h = absurd (cc h)
 in_false false c h = refl
@@ -110,7 +107,7 @@ is_input : (name : List ℕ) (q : Port) → is_port false name q ≡ true → q.
 is_input name q h = in_false q.output (same_name q.name.name name) h
 
 is_output : (name : List ℕ) (q : Port) → is_port true name q ≡ true → q.output ≡ true
-is_output name q h = out_true q.output (same_name q.name.name name) h
+is_output name q h = and_left q.output (same_name q.name.name name) h
 
 pub stands_else : {A : Type 0} (all : List A) (start : ℕ) (b : Bool) (xs ys : List A) → b ≡ false → Stands all start (if b then xs else ys) → Stands all start ys
 stands_else all start b xs ys e h = subst (λ (c : Bool). Stands all start (if c then xs else ys)) e h

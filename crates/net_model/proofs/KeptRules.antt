@@ -73,7 +73,7 @@ typed_of netlist w r = record {
 
 -- ---- control
 
-counter_register : (o : Option Storage) → IsCounter o → IsRegister o
+pub counter_register : (o : Option Storage) → IsCounter o → IsRegister o
 counter_register None h = h
 counter_register (Some (Register name width input None)) h = tt
 counter_register (Some (Register name width input (Some when))) h = absurd h
@@ -91,7 +91,7 @@ sound_of netlist order k = record {
 
 -- ---- few storages
 
-length-storages : (storages : List Storage) → length storages ≡ register_count storages + memory_count storages + count_in InFile storages
+pub length-storages : (storages : List Storage) → length storages ≡ register_count storages + memory_count storages + count_in InFile storages
 length-storages [] = omega arith
 length-storages (Register name width input when ∷ storages) = omega (arith, length-storages storages)
 length-storages (Memory cells ∷ storages) = omega (arith, length-storages storages)

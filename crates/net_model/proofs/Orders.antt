@@ -89,7 +89,7 @@ module _ (netlist : Netlist) (s : State) (word : ℕ) (order : List ℕ) (o : Is
   more_done x long e = one_more netlist order o (λ (m v : ℕ). v ≡ value_of netlist s word m) values 0 x i within long done e
 
 -- no value past the nets
-past_zero : (netlist : Netlist) (s : State) (word k n : ℕ) → slice_get netlist.nets n ≡ None → value_within k netlist s word n ≡ 0
+pub past_zero : (netlist : Netlist) (s : State) (word k n : ℕ) → slice_get netlist.nets n ≡ None → value_within k netlist s word n ≡ 0
 past_zero netlist s word zero n e = refl
 past_zero netlist s word (suc k) n e = ap (net_value (value_within k netlist s word) netlist s word) e
 

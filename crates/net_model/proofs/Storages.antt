@@ -181,3 +181,10 @@ same_space InMemory InMemory storages h e = refl
 same_space InFile InFile storages h e = refl
 same_space InMemory InFile storages h e = absurd (apart storages h e)
 same_space InFile InMemory storages h e = absurd (apart storages (subst (λ n. n < length storages) e h) (sym e))
+
+-- the one memory of a netlist is one of its storages
+pub memory_within : (storages : List Storage) → memory_count storages ≡ 1 → memory_id storages < length storages
+memory_within [] e = absurd (omega (arith, e))
+memory_within (Register name width input when ∷ storages) e = (let r = memory_within storages (omega (arith, e)) in omega (arith, r))
+memory_within (Memory cells ∷ storages) e = omega arith
+memory_within (File cells ∷ storages) e = (let r = memory_within storages (omega (arith, e)) in omega (arith, r))

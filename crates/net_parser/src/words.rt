@@ -1,29 +1,37 @@
 //! The words that tokens stand for.
 
 ghost use Rattle.std.specs.Prelude.{◌≡◌};
+ghost use Rattle.std.specs.Str.{bytes_eq};
 ghost use Rattle.net_parser.specs.Words.{binary_of, form_of, item_of, sign_of, symbol_of, unary_of};
 
 use lexing::Vocabulary;
 use net_model::{ItemWord, Key, Operator, Symbol, Word};
 use rec_bits::{Op1, Op2};
 
+/// Whether a text is this word.
+fn is_word(text: &[u8], word: &[u8]) -> bool
+    ensures { result ≡ bytes_eq text.now word.now }
+{
+    text == word
+}
+
 /// The reserved words that begin an item.
 fn item_of(text: &[u8]) -> Option<ItemWord>
     ensures { result ≡ item_of text.now }
 {
-    if text == b"code".as_slice() {
+    if is_word(text, b"code") {
         Some(ItemWord::Code)
-    } else if text == b"register".as_slice() {
+    } else if is_word(text, b"register") {
         Some(ItemWord::Register)
-    } else if text == b"memory".as_slice() {
+    } else if is_word(text, b"memory") {
         Some(ItemWord::Memory)
-    } else if text == b"net".as_slice() {
+    } else if is_word(text, b"net") {
         Some(ItemWord::Net)
-    } else if text == b"bus".as_slice() {
+    } else if is_word(text, b"bus") {
         Some(ItemWord::Bus)
-    } else if text == b"module".as_slice() {
+    } else if is_word(text, b"module") {
         Some(ItemWord::Module)
-    } else if text == b"part".as_slice() {
+    } else if is_word(text, b"part") {
         Some(ItemWord::Part)
     } else {
         None
@@ -34,9 +42,9 @@ fn item_of(text: &[u8]) -> Option<ItemWord>
 fn unary_of(text: &[u8]) -> Option<Op1>
     ensures { result ≡ unary_of text.now }
 {
-    if text == b"not".as_slice() {
+    if is_word(text, b"not") {
         Some(Op1::Not)
-    } else if text == b"neg".as_slice() {
+    } else if is_word(text, b"neg") {
         Some(Op1::Neg)
     } else {
         None
@@ -47,29 +55,29 @@ fn unary_of(text: &[u8]) -> Option<Op1>
 fn binary_of(text: &[u8]) -> Option<Op2>
     ensures { result ≡ binary_of text.now }
 {
-    if text == b"add".as_slice() {
+    if is_word(text, b"add") {
         Some(Op2::Add)
-    } else if text == b"sub".as_slice() {
+    } else if is_word(text, b"sub") {
         Some(Op2::Sub)
-    } else if text == b"mul".as_slice() {
+    } else if is_word(text, b"mul") {
         Some(Op2::Mul)
-    } else if text == b"and".as_slice() {
+    } else if is_word(text, b"and") {
         Some(Op2::And)
-    } else if text == b"or".as_slice() {
+    } else if is_word(text, b"or") {
         Some(Op2::Or)
-    } else if text == b"xor".as_slice() {
+    } else if is_word(text, b"xor") {
         Some(Op2::Xor)
-    } else if text == b"shl".as_slice() {
+    } else if is_word(text, b"shl") {
         Some(Op2::Shl)
-    } else if text == b"shr".as_slice() {
+    } else if is_word(text, b"shr") {
         Some(Op2::Shr)
-    } else if text == b"sar".as_slice() {
+    } else if is_word(text, b"sar") {
         Some(Op2::Sar)
-    } else if text == b"eq".as_slice() {
+    } else if is_word(text, b"eq") {
         Some(Op2::Eq)
-    } else if text == b"ltu".as_slice() {
+    } else if is_word(text, b"ltu") {
         Some(Op2::Ltu)
-    } else if text == b"lts".as_slice() {
+    } else if is_word(text, b"lts") {
         Some(Op2::Lts)
     } else {
         None
@@ -80,17 +88,17 @@ fn binary_of(text: &[u8]) -> Option<Op2>
 fn form_of(text: &[u8]) -> Option<Operator>
     ensures { result ≡ form_of text.now }
 {
-    if text == b"cat".as_slice() {
+    if is_word(text, b"cat") {
         Some(Operator::Cat)
-    } else if text == b"slice".as_slice() {
+    } else if is_word(text, b"slice") {
         Some(Operator::Slice)
-    } else if text == b"zext".as_slice() {
+    } else if is_word(text, b"zext") {
         Some(Operator::Zext)
-    } else if text == b"sext".as_slice() {
+    } else if is_word(text, b"sext") {
         Some(Operator::Sext)
-    } else if text == b"read".as_slice() {
+    } else if is_word(text, b"read") {
         Some(Operator::Read)
-    } else if text == b"case".as_slice() {
+    } else if is_word(text, b"case") {
         Some(Operator::Case)
     } else {
         None
@@ -101,21 +109,21 @@ fn form_of(text: &[u8]) -> Option<Operator>
 fn symbol_of(text: &[u8]) -> Option<Symbol>
     ensures { result ≡ symbol_of text.now }
 {
-    if text == b"size".as_slice() {
+    if is_word(text, b"size") {
         Some(Symbol::Size)
-    } else if text == b"at".as_slice() {
+    } else if is_word(text, b"at") {
         Some(Symbol::At)
-    } else if text == b"in".as_slice() {
+    } else if is_word(text, b"in") {
         Some(Symbol::In)
-    } else if text == b"out".as_slice() {
+    } else if is_word(text, b"out") {
         Some(Symbol::Out)
-    } else if text == b"when".as_slice() {
+    } else if is_word(text, b"when") {
         Some(Symbol::When)
-    } else if text == b"addr".as_slice() {
+    } else if is_word(text, b"addr") {
         Some(Symbol::Addr)
-    } else if text == b"write".as_slice() {
+    } else if is_word(text, b"write") {
         Some(Symbol::Write)
-    } else if text == b"else".as_slice() {
+    } else if is_word(text, b"else") {
         Some(Symbol::Else)
     } else {
         None

@@ -8,15 +8,13 @@ use Rattle.bit_bdd.specs.Diagrams.{Diagrams, has_word}
 use Rattle.net_model.specs.declared.hardware.Netlist.{Netlist}
 use Rattle.net_model.specs.declared.hardware.Space.{Space}
 use Rattle.net_model.specs.declared.hardware.Space.TheVariants.{Memory as InMemory, File as InFile}
-use Rattle.net_model.specs.declared.hardware.Storage.{Storage}
-use Rattle.net_model.specs.declared.hardware.Storage.TheVariants.{Register, Memory, File}
-use Rattle.net_model.specs.CheckedRules.{KeepsRules, memory_count}
-use Rattle.net_model.specs.Nets.{IsRegister, file_place, memory_id, place_in}
+use Rattle.net_model.specs.CheckedRules.{KeepsRules}
+use Rattle.net_model.specs.Nets.{IsRegister, file_place, place_in}
 use Rattle.net_model.specs.Exprs.{keep}
 use Rattle.net_model.specs.Transfers.{IsClean, space_transfer}
 use Rattle.net_model.proofs.Spaces.{by_space}
 use Rattle.net_model.proofs.KeptRules.{few_storages, one_each}
-use Rattle.net_model.proofs.Storages.{array_no_register, other_register, register_within}
+use Rattle.net_model.proofs.Storages.{array_no_register, other_register, register_within, memory_within as memory_there}
 use Rattle.sym_expr.specs.declared.pool.Node.{Node}
 use Rattle.transfer_set.specs.Ready.{IsReady}
 use Rattle.transfer_set.specs.Tables.{PatternTable}
@@ -30,12 +28,6 @@ use Rattle.nop_synth.specs.Wanted.{all_hold, AllBelow, cell_sets, has_cells, has
 use Rattle.word_fit.proofs.FilePlaces.{file_at, file_told}
 use Rattle.nop_synth.proofs.HeldSteps.{below-append, false_not, hold_both, hold_parts, step_does, step_held, steps_below, steps_do, steps_held}
 use Rattle.nop_synth.proofs.HeldStorages.{space_below, space_held, space_kept, registers_below, registers_held, registers_kept}
-
-memory_there : (storages : List Storage) → memory_count storages ≡ 1 → memory_id storages < length storages
-memory_there [] e = absurd (omega arith)
-memory_there (Register name width input when ∷ storages) e = omega (arith, memory_there storages (omega (arith, e)))
-memory_there (Memory cells ∷ storages) e = omega arith
-memory_there (File cells ∷ storages) e = omega (arith, memory_there storages (omega (arith, e)))
 
 -- ---- the number of a file
 

@@ -15,8 +15,6 @@ use Rattle.operand_swaps.specs.Swaps.{Path, SidesModel, addr_paths, at_level, le
 use Rattle.operand_swaps.proofs.SumSwaps.{here_stays}
 use Rattle.operand_swaps.specs.Inner.LevelSwaps.{addr_swaps, left_behind, left_levels, left_of, root_swaps, swap_level, swap_levels, swaps_of}
 
--- ---- truth values
-
 -- ---- paths that a choice picks
 
 picks_append : (choice : ℕ) (ps qs : List Path) (p : Path) → picks choice (ps ++ qs) p ≡ (picks choice ps p || picks (left_behind choice ps) qs p)

@@ -1,6 +1,5 @@
 -- What the words answer, by how the fetches end.
-use Rattle.std.proofs.Common.{◌≡◌, ℕ, ◌⊎◌, List, [], ◌∷◌, Some, None, inl, inr, refl, sym, ap, subst, arith, ◌∙◌}
-use Rattle.std.specs.declared.option.Option.{Option}
+use Rattle.std.proofs.Common.{◌≡◌, ℕ, ◌⊎◌, List, [], ◌∷◌, Some, inl, inr, refl, sym, ap, subst, arith, ◌∙◌}
 use Rattle.rec_io.specs.Shelf.{ShelfState, NoFetchFailed}
 use Rattle.rec_io.specs.Sink.{SinkState}
 use Rattle.record_core.proofs.StageLemmas.{By-none}
@@ -14,6 +13,8 @@ use Rattle.record_core.specs.declared.refusal.Refusal.TheVariants.{Read}
 use Rattle.record_core.specs.declared.status.Status.{Status}
 use Rattle.record_core.specs.declared.status.Status.TheVariants.{Memory, ReadFault, TooLong}
 use Rattle.record_core.specs.declared.words.Command.{Command}
+use Rattle.record_core.specs.declared.stop.Told.{Told}
+use Rattle.record_core.specs.declared.stop.Told.TheVariants.{Nothing}
 
 no_read_fault : (names : List (List ℕ)) (before now : ShelfState) → FetchesPass names now → (file : ℕ) → IsFileReadFault names before now file → ⊥
 no_read_fault [] before now passes file fault = let p = fault.place in absurd cc
@@ -26,20 +27,20 @@ no_long_file (name ∷ names) before now passes at long = let a = (passes (omega
 -- ---- refusals, made of their status and the line that is due
 
 -- of what words ask for
-pub words_refused : (words : List (List ℕ)) (net : List ℕ) (bus : Option ℕ) (before now : ShelfState) (status : Status) (refusal : Refusal) → NoFetchFailed before now
-    → MayAnswer words before now status (due_line words net bus status) → IsRefusal words net bus status refusal → RefusesWords words before now refusal
-words_refused words net bus before now status refusal calm due (inl memory) = rw memory (record { answer = inl (refl, refl); fetches = inl calm })
-words_refused words net bus before now status refusal calm due (inr (is, text)) = record {
+pub words_refused : (words : List (List ℕ)) (net : List ℕ) (told : Told) (before now : ShelfState) (status : Status) (refusal : Refusal) → NoFetchFailed before now
+    → MayAnswer words before now status (due_line words net told status) → IsRefusal words net told status refusal → RefusesWords words before now refusal
+words_refused words net told before now status refusal calm due (inl memory) = rw memory (record { answer = inl (refl, refl); fetches = inl calm })
+words_refused words net told before now status refusal calm due (inr (is, text)) = record {
   answer = subst (λ (s : Status). MayAnswer words before now s (text_of words refusal)) (sym is) (subst (λ (t : List ℕ). MayAnswer words before now status t) (sym text) due);
   fetches = inl calm;
 }
 
 -- of a command over its files
-pub text_refused : (words : List (List ℕ)) (net : List ℕ) (bus : Option ℕ) (line : Option ℕ → Status → List ℕ) (command : Command) (files : List (List ℕ)) (status : Status) (refusal : Refusal)
-    → (status ≡ Memory) ⊎ TextAnswers line command files status (due_line words net bus status) → IsRefusal words net bus status refusal → RefusesText words line command files refusal
-text_refused words net bus line command files status refusal due (inl memory) = rw memory (inl (refl, refl))
-text_refused words net bus line command files status refusal (inl memory) (inr (is, text)) = inl (is ∙ memory, text ∙ ap (due_line words net bus) memory)
-text_refused words net bus line command files status refusal (inr answers) (inr (is, text)) =
+pub text_refused : (words : List (List ℕ)) (net : List ℕ) (told : Told) (line : Told → Status → List ℕ) (command : Command) (files : List (List ℕ)) (status : Status) (refusal : Refusal)
+    → (status ≡ Memory) ⊎ TextAnswers line command files status (due_line words net told status) → IsRefusal words net told status refusal → RefusesText words line command files refusal
+text_refused words net told line command files status refusal due (inl memory) = rw memory (inl (refl, refl))
+text_refused words net told line command files status refusal (inl memory) (inr (is, text)) = inl (is ∙ memory, text ∙ ap (due_line words net told) memory)
+text_refused words net told line command files status refusal (inr answers) (inr (is, text)) =
     inr (subst (λ (s : Status). TextAnswers line command files s (text_of words refusal)) (sym is) (subst (λ (t : List ℕ). TextAnswers line command files status t) (sym text) answers))
 
 -- ---- fetches
@@ -59,17 +60,17 @@ module _ (words : List (List ℕ)) (command : Command) (before now : ShelfState)
       ))
 
   -- a fetch stopped, and that is what the words answer
-  pub answers_stopped : (status : Status) (refusal : Refusal) → FetchStops (names_of command words) before now status → IsRefusal words [] None status refusal
+  pub answers_stopped : (status : Status) (refusal : Refusal) → FetchStops (names_of command words) before now status → IsRefusal words [] Nothing status refusal
       → ((file : ℕ) → status ≡ ReadFault file → refusal ≡ Read file) → RefusesWords words before now refusal
   answers_stopped status refusal (inl (memory, none)) made read =
-      words_refused words [] None before now status refusal (inr none) (inl (memory, ap (due_line words [] None) memory)) made
+      words_refused words [] Nothing before now status refusal (inr none) (inl (memory, ap (due_line words [] Nothing) memory)) made
   answers_stopped status refusal (inr (inl (why, last))) made read =
       rw (read why.0 why.2) (record {
         answer = inr (rw is (inl ((why.0, why.1, refl), refl)));
         fetches = inr (last, (why.0, refl));
       })
   answers_stopped status refusal (inr (inr (long, none))) made read =
-      words_refused words [] None before now status refusal (inr none) (inr (
+      words_refused words [] Nothing before now status refusal (inr none) (inr (
       rw is
       (inr (By-none ReadFault (IsFileReadFault (names_of command words) before now) (λ file fault. let a = fault.failed in let b = long.1.ended in absurd cc), inl (long, refl))))) made
 

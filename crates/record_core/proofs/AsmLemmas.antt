@@ -1,7 +1,6 @@
 -- What `asm` and `dis` answer.
-use Rattle.std.proofs.Common.{◌≡◌, ◌⊎◌, ℕ, List, [], ◌∷◌, inl, inr, refl, subst, arith}
+use Rattle.std.proofs.Common.{◌≡◌, ◌⊎◌, ℕ, List, [], ◌∷◌, inl, inr, refl}
 use Rattle.std.specs.List.{AllZip}
-use Rattle.net_model.specs.declared.hardware.Netlist.{Netlist}
 use Rattle.isa_extract.specs.Taken.{BreaksAnyTaken}
 use Rattle.isa_extract.proofs.RoutedTaken.{no_text_fault_where_taken}
 use Rattle.net_model.specs.declared.fault.NetFault.{NetFault}
@@ -18,10 +17,9 @@ use Rattle.asm_command.specs.Machines.{IsMachineText}
 use Rattle.asm_command.specs.declared.fault.AsmFault.{AsmFault}
 use Rattle.asm_command.specs.declared.fault.AsmFault.TheVariants as assembling
 use Rattle.asm_command.specs.declared.fault.DisFault.{DisFault}
+use Rattle.asm_command.proofs.DisLaws.{image_file}
 use Rattle.asm_command.specs.declared.fault.DisFault.TheVariants as showing
-use Rattle.run_command.specs.Runs.{IsImageFile, IsNoImageFile}
-use Rattle.code_model.specs.ImageFits.{limits_of}
-use Rattle.code_model.specs.ImageLines.{IsImageText}
+use Rattle.run_command.specs.Runs.{IsNoImageFile}
 use Rattle.record_core.specs.Showing.{IsShownText}
 use Rattle.record_core.proofs.NetLemmas.{NetStages, past_rules, stops_at_rule, stops_at_text}
 use Rattle.record_core.proofs.StageLemmas.{By-none}
@@ -94,17 +92,9 @@ module _ (line : Status → List ℕ) (net image : List ℕ) where
   abbrev image_answers : Status → List ℕ → Type 0
   image_answers = Then line (By ImageText (IsNoImageFile net image)) (λ status text. (status ≡ Done) × IsDisassembled net image text)
 
-  image_file : (out : List ℕ) → IsDisassembled net image out → IsImageFile net image
-  image_file out is = record {
-    entries = is.is.entries;
-    said = is.said;
-    net_file = record { file = is.is.file.file; taken = (let taken = is.is.taken in omega (arith, taken)) };
-    image_text = subst (λ (n : Netlist). IsImageText (limits_of n) image is.said) is.is.netlist is.read;
-  }
-
   pub answers_lines : (out : List ℕ) → IsDisassembled net image out → DisAnswers line net image Done out
   answers_lines out is = past_machine line net image_answers is.machine is.is Done out (inr (
-    By-none ImageText (IsNoImageFile net image) (λ at none. no_image_fault net image at (image_file out is) none),
+    By-none ImageText (IsNoImageFile net image) (λ at none. no_image_fault net image at (image_file net image out is) none),
     (refl, is),
   ))
 

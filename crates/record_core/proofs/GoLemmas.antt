@@ -31,7 +31,7 @@ use Rattle.record_core.specs.Inner.Putting.{IsMemoryStatus}
 use Rattle.record_core.specs.Inner.Statuses.{compile_status, memory_status}
 use Rattle.record_core.specs.Watching.{IsWatched, LacksMemory}
 use Rattle.record_core.specs.declared.status.Status.{Status}
-use Rattle.record_core.specs.declared.status.Status.TheVariants.{Done, Usage, ReadFault, TooLong, WriteFault, NetText, Net, SrcText, Src, NoStep, NoJump, NoCover, DataFull, NoReach, ImageFull, Memory, ImageText, MemText, Clash, AsmText, AsmWord, TestLimit, PartText}
+use Rattle.record_core.specs.declared.status.Status.TheVariants.{Done, Usage, ReadFault, TooLong, WriteFault, NetText, Net, SrcText, Src, NoStep, NoJump, NoCover, DataFull, NoReach, ImageFull, Memory, ImageText, MemText, Clash, AsmText, AsmWord, TestLimit, PartText, Rule, Follow}
 
 -- ---- the state to start from
 
@@ -134,3 +134,5 @@ module _ (line : Status → List ℕ) (net src memory : List ℕ) (clocks : ℕ)
     memory_fault (AsmWord number) is = absurd is
     memory_fault (TestLimit count bound) is = absurd is
     memory_fault (PartText at) is = absurd is
+    memory_fault (Rule fault) is = absurd is
+    memory_fault (Follow origin cause) is = absurd is

@@ -1,6 +1,7 @@
 mod AnswerLemmas
 mod AsmLemmas
 mod BothLemmas
+mod CheckLemmas
 mod CompileLemmas
 mod ExplainLemmas
 mod ExtractLemmas
@@ -16,4 +17,5 @@ mod WordLemmas
 mod WroteLemmas
 mod NameLemmas
 mod NetLemmas
+mod PutLemmas
 mod RunLemmas

@@ -1,6 +1,5 @@
 -- What `run` answers for three texts.
-use Rattle.std.proofs.Common.{◌≡◌, ◌⊎◌, ℕ, List, Some, None, inl, inr, refl}
-use Rattle.std.specs.declared.option.Option.{Option}
+use Rattle.std.proofs.Common.{◌≡◌, ◌⊎◌, ℕ, List, inl, inr, refl}
 use Rattle.net_front.proofs.FrontLaws.{no_text_fault}
 use Rattle.net_front.proofs.TakenLaws.{no_broken_for, no_text_fault_for, not_later}
 use Rattle.net_front.specs.Taken.{BreaksTaken, IsLater, IsTakenFile, added_role}
@@ -17,14 +16,16 @@ use Rattle.record_core.specs.Stages.{By, Then}
 use Rattle.record_core.specs.Inner.Statuses.{run_stop}
 use Rattle.record_core.specs.declared.status.Status.{Status}
 use Rattle.record_core.specs.declared.status.Status.TheVariants.{Done, NetText, Net, Memory, ImageText, MemText, Clash}
+use Rattle.record_core.specs.declared.stop.Told.{Told}
+use Rattle.record_core.specs.declared.stop.Told.TheVariants.{Nothing, Bus}
 
-module _ (line : Option ℕ → Status → List ℕ) (net image memory : List ℕ) (clocks : ℕ) where
+module _ (line : Told → Status → List ℕ) (net image memory : List ℕ) (clocks : ℕ) where
   -- the later stages, by what the texts passed so far
   abbrev memory_answers : Status → List ℕ → Type 0
-  memory_answers = Then (line None) (By MemText (IsNoMemoryFile net memory)) (RunEnds line net image memory clocks)
+  memory_answers = Then (line Nothing) (By MemText (IsNoMemoryFile net memory)) (RunEnds line net image memory clocks)
 
   abbrev image_answers : Status → List ℕ → Type 0
-  image_answers = Then (line None) (By ImageText (IsNoImageFile net image)) memory_answers
+  image_answers = Then (line Nothing) (By ImageText (IsNoImageFile net image)) memory_answers
 
   past_net : (entries : UnitsModel) → IsTakenFile run_edition net entries → (status : Status) (text : List ℕ) → image_answers status text → RunAnswers line net image memory clocks status text
   past_net entries file status text later = inr (
@@ -43,25 +44,25 @@ module _ (line : Option ℕ → Status → List ℕ) (net image memory : List �
   pub answers_state : (out : List ℕ) → ShowsState net image memory clocks out → RunAnswers line net image memory clocks Done out
   answers_state out shows = past_memory shows.loaded shows.taken Done out (inr (refl, shows))
 
-  answers_clash : (c : ClashedAt) → Clashes net image memory clocks c → RunAnswers line net image memory clocks (Clash c.cycle c.bus) (line (Some c.at) (Clash c.cycle c.bus))
-  answers_clash c clashes = past_memory clashes.loaded clashes.taken (Clash c.cycle c.bus) (line (Some c.at) (Clash c.cycle c.bus)) (inl (c, clashes, refl, refl))
+  answers_clash : (c : ClashedAt) → Clashes net image memory clocks c → RunAnswers line net image memory clocks (Clash c.cycle c.bus) (line (Bus c.at) (Clash c.cycle c.bus))
+  answers_clash c clashes = past_memory clashes.loaded clashes.taken (Clash c.cycle c.bus) (line (Bus c.at) (Clash c.cycle c.bus)) (inl (c, clashes, refl, refl))
 
-  answers_no_net_text : (at : ℕ) → IsNoNetText net at → RunAnswers line net image memory clocks (NetText at) (line None (NetText at))
+  answers_no_net_text : (at : ℕ) → IsNoNetText net at → RunAnswers line net image memory clocks (NetText at) (line Nothing (NetText at))
   answers_no_net_text at none = inl ((at, none, refl), refl)
 
-  answers_broken : (fault : NetFault) → BreaksTaken run_edition net fault → RunAnswers line net image memory clocks (Net fault) (line None (Net fault))
+  answers_broken : (fault : NetFault) → BreaksTaken run_edition net fault → RunAnswers line net image memory clocks (Net fault) (line Nothing (Net fault))
   answers_broken fault breaks =
       inr (By-none NetText (IsNoNetText net) (λ at faulty. no_text_fault_for (IsLater run_edition) added_role net fault at breaks faulty), inl ((fault, breaks, refl), refl))
 
-  answers_no_image : (at : ℕ) → IsNoImageFile net image at → RunAnswers line net image memory clocks (ImageText at) (line None (ImageText at))
-  answers_no_image at none = past_net none.entries none.net_file (ImageText at) (line None (ImageText at)) (inl ((at, none, refl), refl))
+  answers_no_image : (at : ℕ) → IsNoImageFile net image at → RunAnswers line net image memory clocks (ImageText at) (line Nothing (ImageText at))
+  answers_no_image at none = past_net none.entries none.net_file (ImageText at) (line Nothing (ImageText at)) (inl ((at, none, refl), refl))
 
-  answers_no_memory : (at : ℕ) → IsImageFile net image → IsNoMemoryFile net memory at → RunAnswers line net image memory clocks (MemText at) (line None (MemText at))
-  answers_no_memory at has none = past_image has (MemText at) (line None (MemText at)) (inl ((at, none, refl), refl))
+  answers_no_memory : (at : ℕ) → IsImageFile net image → IsNoMemoryFile net memory at → RunAnswers line net image memory clocks (MemText at) (line Nothing (MemText at))
+  answers_no_memory at has none = past_image has (MemText at) (line Nothing (MemText at)) (inl ((at, none, refl), refl))
 
   -- a fault of the run is what is answered
   pub answers_fault : (fault : RunFault) → IsRunFault net image memory clocks fault
-      → ((run_stop fault).status ≡ Memory) ⊎ RunAnswers line net image memory clocks (run_stop fault).status (line (run_stop fault).bus (run_stop fault).status)
+      → ((run_stop fault).status ≡ Memory) ⊎ RunAnswers line net image memory clocks (run_stop fault).status (line (run_stop fault).told (run_stop fault).status)
   answers_fault (RunNetText at) is = inr (answers_no_net_text at is)
   answers_fault (RunNet fault) is = inr (answers_broken fault is)
   answers_fault (NoImage at) is = inr (answers_no_image at is)
@@ -70,7 +71,7 @@ module _ (line : Option ℕ → Status → List ℕ) (net image memory : List �
   answers_fault RunMemory is = inl refl
 
 -- what is written on `Done` is the state
-pub state_of : (line : Option ℕ → Status → List ℕ) (net image memory : List ℕ) (clocks : ℕ) (text : List ℕ) → RunAnswers line net image memory clocks Done text → ShowsState net image memory clocks text
+pub state_of : (line : Told → Status → List ℕ) (net image memory : List ℕ) (clocks : ℕ) (text : List ℕ) → RunAnswers line net image memory clocks Done text → ShowsState net image memory clocks text
 state_of line net image memory clocks text (inl ((at, reason, is), same)) = absurd cc
 state_of line net image memory clocks text (inr (net_text, inl ((fault, reason, is), same))) = absurd cc
 state_of line net image memory clocks text (inr (net_text, inr (rules, inl ((at, reason, is), same)))) = absurd cc

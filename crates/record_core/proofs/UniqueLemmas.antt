@@ -5,7 +5,7 @@ use Rattle.std.specs.Str.{bytes_eq}
 use Rattle.std.specs.declared.option.Option.{Option}
 use Rattle.net_parser.proofs.TextFaults.{one_net_fault}
 use Rattle.net_front.proofs.TakenLaws.{one_broken_for}
-use Rattle.net_front.specs.Taken.{HasNoBank, IsLater, added_role, unbanked_role}
+use Rattle.net_front.specs.Taken.{BreaksTaken, HasNoBank, IsLater, added_role, unbanked_role}
 use Rattle.src_parser.proofs.TextFaults.{one_src_fault}
 use Rattle.isa_extract.specs.Extracts.{IsExtracted, extracted_edition}
 use Rattle.net_model.specs.declared.fault.NetFault.{NetFault}
@@ -13,6 +13,9 @@ use Rattle.isa_extract.proofs.RoutedTaken.{one_broken_any_taken, one_broken_of_a
 use Rattle.isa_extract.specs.Taken.{BreaksAnyBanked}
 use Rattle.job_gen.specs.NetText.{net_text as job_netlist}
 use Rattle.job_gen.specs.SrcText.{src_text as job_program}
+use Rattle.check_command.specs.Checked.{BreaksCheckedSrc, BreaksImageRule}
+use Rattle.check_command.specs.Tasks.{checked_edition}
+use Rattle.check_command.proofs.CheckLaws.{one_broken_rule, one_broken_src, one_no_image}
 use Rattle.compile_command.specs.Code.{IsDataFull, IsWithin}
 use Rattle.compile_command.specs.Compiled.{BreaksSrc, IsCompiled}
 use Rattle.compile_command.specs.Tasks.{TaskHolds, compiled_edition}
@@ -45,15 +48,17 @@ use Rattle.record_core.proofs.GoLemmas.{one_lack}
 use Rattle.record_core.proofs.NetLemmas.{NetStages-alike}
 use Rattle.asm_command.specs.Machines.{assembled_edition}
 use Rattle.record_core.proofs.StageLemmas.{AllAlike, AtMostOne, By-unique, Then-alike, Just-unique}
-use Rattle.record_core.specs.Answers.{AnswersAgree, Answers, AsmAnswers, DisAnswers, FilesAnswer, CanCompile, CanDual, CanTune, AreOfImages, AreOfTests, CodeAnswers, CodeEnds, CoverAnswers, DualAnswers, ExtractAnswers, FormAnswers, IsAskedOf, RoomAnswers, SourceAnswers, TuneAnswers, TuneEnds, IsOfTune, WatchAnswers, netlist_in, RunEnds, RunAnswers, TestAnswers, TestEnds, TextAnswers, CommandAnswers, file_at, file_limit, place_from, AreFiles, IsFileReadFault, IsFileTooLong, IsFile, IsAnswer, IsExact, IsAccepted}
+use Rattle.record_core.specs.Answers.{AnswersAgree, Answers, AsmAnswers, CheckAnswers, CheckEnds, DisAnswers, FilesAnswer, CanCompile, CanDual, CanTune, AreOfImages, AreOfTests, CodeAnswers, CodeEnds, CoverAnswers, DualAnswers, ExtractAnswers, FormAnswers, IsAskedOf, RoomAnswers, SourceAnswers, TuneAnswers, TuneEnds, IsOfCheck, IsOfTune, WatchAnswers, netlist_in, RunEnds, RunAnswers, TestAnswers, TestEnds, TextAnswers, CommandAnswers, file_at, file_limit, place_from, AreFiles, IsFileReadFault, IsFileTooLong, IsFile, IsAnswer, IsExact, IsAccepted}
 use Rattle.record_core.specs.Lines.{due_line}
-use Rattle.record_core.specs.Stages.{Then}
+use Rattle.record_core.specs.Stages.{Then, ThenTelling}
 use Rattle.record_core.specs.Watching.{IsWatched}
 use Rattle.record_core.specs.Words.{command_of, names_of}
 use Rattle.record_core.specs.declared.words.Command.{Command}
-use Rattle.record_core.specs.declared.words.Command.TheVariants.{Compile, Extract, Run, Go, Make, Asm, Dis, Test, Explain, Tune, Dual}
+use Rattle.record_core.specs.declared.words.Command.TheVariants.{Compile, Extract, Run, Go, Make, Asm, Dis, Test, Explain, Tune, Dual, Check}
 use Rattle.record_core.specs.declared.status.Status.{Status}
-use Rattle.record_core.specs.declared.status.Status.TheVariants.{Done, Usage, ReadFault, TooLong, NetText, Net, SrcText, Src, NoStep, NoJump, NoCover, DataFull, NoReach, ImageFull, ImageText, MemText, Clash, AsmText, AsmWord, PartText, Memory}
+use Rattle.record_core.specs.declared.status.Status.TheVariants.{Done, Usage, ReadFault, TooLong, NetText, Net, SrcText, Src, NoStep, NoJump, NoCover, DataFull, NoReach, ImageFull, ImageText, MemText, Clash, AsmText, AsmWord, PartText, Rule, Memory}
+use Rattle.record_core.specs.declared.stop.Told.{Told}
+use Rattle.record_core.specs.declared.stop.Told.TheVariants.{Nothing}
 
 one_read : (names : List (List ℕ)) (before now : ShelfState) (x y : ℕ) → IsFileReadFault names before now x → IsFileReadFault names before now y → x ≡ y
 one_read names before now x y p q = let a = p.place in let b = q.place in cc
@@ -78,6 +83,7 @@ equal (Some Test) s t e = inl e
 equal (Some Explain) s t e = e
 equal (Some Tune) s t e = inl e
 equal (Some Dual) s t e = inl e
+equal (Some Check) s t e = inl e
 
 -- ---- stages
 
@@ -198,6 +204,29 @@ module _ (line : Status → List ℕ) (net src : List ℕ) where
       FormAnswers-alike TunesAgree (λ s t e. inl e) line net src _ (one_broken_any_taken compiled_edition net) _
       (λ s t a b p q. inr (of_tune s a p, of_tune t b q))
 
+-- ---- `check`
+
+module _ (line : Told → Status → List ℕ) (net src image : List ℕ) where
+  -- one answer, or two of an image that keeps all rules
+  abbrev ChecksAgree : Status → Status → Type 0
+  ChecksAgree s t = (s ≡ t) ⊎ (IsOfCheck s × IsOfCheck t)
+
+  of_check : (s : Status) (text : List ℕ) → CheckEnds line net src image s text → IsOfCheck s
+  of_check s text (inl (origin, cause, name, kept, is, same)) = rw is tt
+  of_check s text (inr (is, checked)) = rw is tt
+
+  rules_agree : AllAlike ChecksAgree (ThenTelling line Rule (BreaksImageRule net src image) (CheckEnds line net src image))
+  rules_agree s t a b (inl (f, n, p, is, x)) (inl (g, m, q, also, y)) = inl (is ∙ ap Rule (one_broken_rule net src image f g n m p q) ∙ sym also)
+  rules_agree s t a b (inl (f, n, p, is, x)) (inr (none, q)) = absurd (none f n p)
+  rules_agree s t a b (inr (none, p)) (inl (g, m, q, also, y)) = absurd (none g m q)
+  rules_agree s t a b (inr (none, p)) (inr (also, q)) = inr (of_check s a p, of_check t b q)
+
+  CheckAnswers-agree : AllAlike ChecksAgree (CheckAnswers line net src image)
+  CheckAnswers-agree =
+      SourceAnswers-alike ChecksAgree (λ s t e. inl e) (line Nothing) net src (BreaksTaken checked_edition net) (one_broken_for (IsLater checked_edition) added_role net)
+      (BreaksCheckedSrc net src) (one_broken_src net src) _
+      (stage ChecksAgree (λ s t e. inl e) (line Nothing) _ _ (By-unique ImageText _ (one_no_image net image)) rules_agree)
+
 -- ---- `extract`
 
 ExtractAnswers-unique : (line : Status → List ℕ) (net : List ℕ) → AtMostOne (ExtractAnswers line net)
@@ -206,19 +235,19 @@ ExtractAnswers-unique line net = NetStages-alike line net _ _ (one_broken_any_ta
 -- ---- `run`
 
 -- clocks end in one way
-RunEnds-unique : (line : Option ℕ → Status → List ℕ) (net image memory : List ℕ) (clocks : ℕ) → AtMostOne (RunEnds line net image memory clocks)
+RunEnds-unique : (line : Told → Status → List ℕ) (net image memory : List ℕ) (clocks : ℕ) → AtMostOne (RunEnds line net image memory clocks)
 RunEnds-unique line net image memory clocks s t a b (inl (c, p, is, x)) (inl (d, q, also, y)) =
     let same = one_clash net image memory clocks c d p q in is ∙ ap (λ (e : ClashedAt). Clash e.cycle e.bus) same ∙ sym also
 RunEnds-unique line net image memory clocks s t a b (inl (c, p, is, x)) (inr (also, q)) = absurd (no_clash_shown net image memory clocks c b p q)
 RunEnds-unique line net image memory clocks s t a b (inr (is, p)) (inl (d, q, also, y)) = absurd (no_clash_shown net image memory clocks d a q p)
 RunEnds-unique line net image memory clocks s t a b (inr (is, p)) (inr (also, q)) = is ∙ sym also
 
-RunAnswers-unique : (line : Option ℕ → Status → List ℕ) (net image memory : List ℕ) (clocks : ℕ) → AtMostOne (RunAnswers line net image memory clocks)
+RunAnswers-unique : (line : Told → Status → List ℕ) (net image memory : List ℕ) (clocks : ℕ) → AtMostOne (RunAnswers line net image memory clocks)
 RunAnswers-unique line net image memory clocks =
-    Then-alike (λ s t. s ≡ t) (line None) _ _ (By-unique NetText _ (one_net_fault net)) (
-    Then-alike (λ s t. s ≡ t) (line None) _ _ (By-unique Net _ (one_broken_for (IsLater run_edition) added_role net)) (
-    Then-alike (λ s t. s ≡ t) (line None) _ _ (By-unique ImageText _ (one_image_fault net image)) (
-    Then-alike (λ s t. s ≡ t) (line None) _ _ (By-unique MemText _ (one_memory_fault net memory)) (RunEnds-unique line net image memory clocks))))
+    Then-alike (λ s t. s ≡ t) (line Nothing) _ _ (By-unique NetText _ (one_net_fault net)) (
+    Then-alike (λ s t. s ≡ t) (line Nothing) _ _ (By-unique Net _ (one_broken_for (IsLater run_edition) added_role net)) (
+    Then-alike (λ s t. s ≡ t) (line Nothing) _ _ (By-unique ImageText _ (one_image_fault net image)) (
+    Then-alike (λ s t. s ≡ t) (line Nothing) _ _ (By-unique MemText _ (one_memory_fault net memory)) (RunEnds-unique line net image memory clocks))))
 
 -- ---- `asm` and `dis`
 
@@ -260,21 +289,22 @@ module _ (line : Status → List ℕ) (net : List ℕ) where
 
 -- ---- all commands
 
-TextAnswers-agree : (line : Option ℕ → Status → List ℕ) (command : Command) (files : List (List ℕ)) → AllAlike (AnswersAgree (Some command)) (TextAnswers line command files)
+TextAnswers-agree : (line : Told → Status → List ℕ) (command : Command) (files : List (List ℕ)) → AllAlike (AnswersAgree (Some command)) (TextAnswers line command files)
 TextAnswers-agree line Compile files =
-    CodeAnswers-agree (line None) (file_at files 0) (file_at files 1) _ (done_beside (IsCompiled (file_at files 0) (file_at files 1)))
-TextAnswers-agree line Extract files = ExtractAnswers-unique (line None) (file_at files 0)
+    CodeAnswers-agree (line Nothing) (file_at files 0) (file_at files 1) _ (done_beside (IsCompiled (file_at files 0) (file_at files 1)))
+TextAnswers-agree line Extract files = ExtractAnswers-unique (line Nothing) (file_at files 0)
 TextAnswers-agree line (Run clocks) files = RunAnswers-unique line (file_at files 0) (file_at files 1) (file_at files 2) clocks
 TextAnswers-agree line (Go clocks) files =
-    CodeAnswers-agree (line None) (file_at files 0) (file_at files 1) _ (watch_beside (line None) (file_at files 0) (file_at files 1) (file_at files 2) clocks)
-TextAnswers-agree line (Make number) files = CodeAnswers-agree (line None) (job_netlist number) (job_program number) _ (done_beside (IsSummary number))
-TextAnswers-agree line Asm files = AsmAnswers-unique (line None) (file_at files 0) (file_at files 1)
-TextAnswers-agree line Dis files = DisAnswers-unique (line None) (file_at files 0) (file_at files 1)
-TextAnswers-agree line Test files = TestAnswers-agree (line None) (file_at files 0)
+    CodeAnswers-agree (line Nothing) (file_at files 0) (file_at files 1) _ (watch_beside (line Nothing) (file_at files 0) (file_at files 1) (file_at files 2) clocks)
+TextAnswers-agree line (Make number) files = CodeAnswers-agree (line Nothing) (job_netlist number) (job_program number) _ (done_beside (IsSummary number))
+TextAnswers-agree line Asm files = AsmAnswers-unique (line Nothing) (file_at files 0) (file_at files 1)
+TextAnswers-agree line Dis files = DisAnswers-unique (line Nothing) (file_at files 0) (file_at files 1)
+TextAnswers-agree line Test files = TestAnswers-agree (line Nothing) (file_at files 0)
 TextAnswers-agree line Explain files =
-    FormAnswers-alike (λ s t. s ≡ t) (λ s t e. e) (line None) (file_at files 0) (file_at files 1) _ (one_broken_any_taken explained_edition (file_at files 0)) _ (done_only (IsExplained (file_at files 0) (file_at files 1)))
-TextAnswers-agree line Tune files = TuneAnswers-agree (line None) (file_at files 0) (file_at files 1)
-TextAnswers-agree line Dual files = DualAnswers-agree (line None) (file_at files 0) (file_at files 1) (file_at files 2)
+    FormAnswers-alike (λ s t. s ≡ t) (λ s t e. e) (line Nothing) (file_at files 0) (file_at files 1) _ (one_broken_any_taken explained_edition (file_at files 0)) _ (done_only (IsExplained (file_at files 0) (file_at files 1)))
+TextAnswers-agree line Tune files = TuneAnswers-agree (line Nothing) (file_at files 0) (file_at files 1)
+TextAnswers-agree line Dual files = DualAnswers-agree (line Nothing) (file_at files 0) (file_at files 1) (file_at files 2)
+TextAnswers-agree line Check files = CheckAnswers-agree line (file_at files 0) (file_at files 1) (file_at files 2)
 
 -- the bytes of a file that is told
 one_file : (files : Option Files) (name a b : List ℕ) → IsSome files → IsFile files name a → IsFile files name b → a ≡ b
@@ -290,7 +320,7 @@ same_files told [] [] (y ∷ b) some p q = absurd q
 same_files told (name ∷ names) [] b some p q = absurd p
 same_files told (name ∷ names) (x ∷ a) [] some p q = absurd q
 
-CommandAnswers-agree : (line : List ℕ → Option ℕ → Status → List ℕ) (told : Option Files) (command : Command) (names : List (List ℕ)) → IsSome told →
+CommandAnswers-agree : (line : List ℕ → Told → Status → List ℕ) (told : Option Files) (command : Command) (names : List (List ℕ)) → IsSome told →
     AllAlike (AnswersAgree (Some command)) (CommandAnswers line told command names)
 CommandAnswers-agree line told command names some s t a b (files, p, x) (others, q, y) =
     let e : others ≡ files = same_files told names others files some q p in
@@ -301,11 +331,11 @@ usage_only line s t a b p q = p.0 ∙ sym q.0
 
 FilesAnswer-agree : (words : List (List ℕ)) (command : Option Command) (before now : ShelfState) → IsSome before.files →
     AllAlike (AnswersAgree command) (FilesAnswer words command before now)
-FilesAnswer-agree words None before now told = usage_only (due_line words [] None Usage)
+FilesAnswer-agree words None before now told = usage_only (due_line words [] Nothing Usage)
 FilesAnswer-agree words (Some command) before now told =
-    Then-alike (AnswersAgree (Some command)) (due_line words [] None) _ _
+    Then-alike (AnswersAgree (Some command)) (due_line words [] Nothing) _ _
     (λ s t p q. equal (Some command) s t (By-unique ReadFault _ (one_read (names_of command words) before now) s t p q))
-    (Then-alike (AnswersAgree (Some command)) (due_line words [] None) _ _
+    (Then-alike (AnswersAgree (Some command)) (due_line words [] Nothing) _ _
     (λ s t p q. equal (Some command) s t (By-unique (λ (p : ℕ × ℕ). TooLong p.0 p.1) _ (one_long (names_of command words) before now) s t p q))
     (CommandAnswers-agree (due_line words) before.files command (names_of command words) told))
 
@@ -359,7 +389,7 @@ no_long_file (Some all) told names contents before now is are at long =
 
 -- where the files say what the later stages take, they answer
 accepted_by : (words : List (List ℕ)) (before now : ShelfState) (command : Command) (Of : List (List ℕ) → Type 0) → IsAskedOf command Of words before.files → (Rose before.faults now.faults → ⊥) →
-    ((line : Option ℕ → Status → List ℕ) (files : List (List ℕ)) → Of files → (status : Status) (text : List ℕ) → TextAnswers line command files status text → status ≡ Done) →
+    ((line : Told → Status → List ℕ) (files : List (List ℕ)) → Of files → (status : Status) (text : List ℕ) → TextAnswers line command files status text → status ≡ Done) →
     (status : Status) (text : List ℕ) → Answers words before now status text → status ≡ Done
 accepted_by words before now command Of can calm done status text answers = by (subst (λ (asked : Option Command). FilesAnswer words asked before now status text) can.asked answers)
   where
@@ -376,18 +406,18 @@ pub compiled_of : (words : List (List ℕ)) (before now : ShelfState) (old new :
 compiled_of words before now old new result gives can read calm =
     complete_of words before now old new result gives
     (accepted_by words before now Compile (λ (files : List (List ℕ)). TaskHolds (file_at files 0) (file_at files 1) IsWithin) can read
-    (λ line files within. done_within (line None) (file_at files 0) (file_at files 1) within)) calm
+    (λ line files within. done_within (line Nothing) (file_at files 0) (file_at files 1) within)) calm
 
 pub tuned_with : (words : List (List ℕ)) (before now : ShelfState) (old new : SinkState) (result : Status) → IsAnswer words before now old new result →
     CanTune words before.files → (Rose before.faults now.faults → ⊥) → (Rose old.faults new.faults → ⊥) → (result ≡ Done) ⊎ (result ≡ Memory)
 tuned_with words before now old new result gives can read calm =
     complete_of words before now old new result gives
     (accepted_by words before now Tune (λ (files : List (List ℕ)). TaskHolds (file_at files 0) (file_at files 1) IsWithin) can read
-    (λ line files within. tuned_done (line None) (file_at files 0) (file_at files 1) within)) calm
+    (λ line files within. tuned_done (line Nothing) (file_at files 0) (file_at files 1) within)) calm
 
 pub both_of : (words : List (List ℕ)) (before now : ShelfState) (old new : SinkState) (result : Status) → IsAnswer words before now old new result →
     CanDual words before.files → (Rose before.faults now.faults → ⊥) → (Rose old.faults new.faults → ⊥) → (result ≡ Done) ⊎ (result ≡ Memory)
 both_of words before now old new result gives can read calm =
     complete_of words before now old new result gives
     (accepted_by words before now Dual (λ (files : List (List ℕ)). DualHolds (file_at files 0) (file_at files 1) (file_at files 2) IsDualWithin) can read
-    (λ line files within. dual_within (line None) (file_at files 0) (file_at files 1) (file_at files 2) within)) calm
+    (λ line files within. dual_within (line Nothing) (file_at files 0) (file_at files 1) (file_at files 2) within)) calm

@@ -26,6 +26,10 @@ use Rattle.tune_command.specs.Tuned.{IsTuned, TuneFailsWith}
 use Rattle.dual_command.specs.Code.{IsDualFull, IsDualWithin}
 use Rattle.dual_command.specs.Compiled.{BreaksDualSrc, IsDualCompiled, IsNoPart}
 use Rattle.dual_command.specs.Tasks.{DualHolds, ViewHolds}
+use Rattle.check_command.specs.Checked.{BreaksCheckedSrc, BreaksImageRule, IsChecked, IsNoViewedFile, KeepsAllRules}
+use Rattle.check_command.specs.Tasks.{checked_edition}
+use Rattle.check_command.specs.declared.fault.Cause.{Cause}
+use Rattle.check_command.specs.declared.fault.Origin.{Origin}
 use Rattle.job_gen.specs.NetText.{net_text as job_netlist}
 use Rattle.job_gen.specs.SrcText.{src_text as job_program}
 use Rattle.make_command.specs.Summaries.{IsSummary}
@@ -43,13 +47,15 @@ use Rattle.rec_io.specs.Sink.{SinkState, LastPutFailed}
 use Rattle.rec_io.specs.Written.{Takes, TakesPrefix}
 use Rattle.record_core.specs.Lines.{due_line}
 use Rattle.record_core.specs.Showing.{IsShownText}
-use Rattle.record_core.specs.Stages.{By, Just, Then}
+use Rattle.record_core.specs.Stages.{By, Just, Then, ThenTelling, name_told}
 use Rattle.record_core.specs.Watching.{IsWatched, LacksMemory}
 use Rattle.record_core.specs.Words.{command_of, names_of}
 use Rattle.record_core.specs.declared.words.Command.{Command}
-use Rattle.record_core.specs.declared.words.Command.TheVariants.{Compile, Extract, Run, Go, Make, Asm, Dis, Test, Explain, Tune, Dual}
+use Rattle.record_core.specs.declared.words.Command.TheVariants.{Compile, Extract, Run, Go, Make, Asm, Dis, Test, Explain, Tune, Dual, Check}
 use Rattle.record_core.specs.declared.status.Status.{Status}
-use Rattle.record_core.specs.declared.status.Status.TheVariants.{Done, Usage, ReadFault, TooLong, WriteFault, NetText, Net, SrcText, Src, NoStep, NoJump, NoCover, DataFull, NoReach, ImageFull, Memory, ImageText, MemText, Clash, AsmText, AsmWord, TestLimit, PartText}
+use Rattle.record_core.specs.declared.status.Status.TheVariants.{Done, Usage, ReadFault, TooLong, WriteFault, NetText, Net, SrcText, Src, NoStep, NoJump, NoCover, DataFull, NoReach, ImageFull, Memory, ImageText, MemText, Clash, AsmText, AsmWord, TestLimit, PartText, Rule, Follow}
+use Rattle.record_core.specs.declared.stop.Told.{Told}
+use Rattle.record_core.specs.declared.stop.Told.TheVariants.{Nothing, Bus}
 
 -- the most bytes of a file
 abbrev pub file_limit : ℕ
@@ -169,6 +175,22 @@ DualAnswers line net src part =
     RoomAnswers line (λ (p : ℕ × ℕ). DualHolds net src part (IsDualFull p.0 p.1)) (ViewHolds net src part) (
     CoverAnswers line (ViewHolds net src part) (λ status text. (status ≡ Done) × IsDualCompiled net src part text))))
 
+-- how the check of an image ends that keeps all rules: it isn't shown that its words follow the
+-- program from some mark on, or it is right by its views. The first says nothing of the image, so both
+-- may apply
+abbrev pub CheckEnds : (Told → Status → List ℕ) → (net src image : List ℕ) → Status → List ℕ → Type 0
+CheckEnds line net src image status text =
+    ((origin : Origin) × (cause : Cause) × (name : Option (List ℕ)) × KeepsAllRules net src image
+    × (status ≡ Follow origin cause) × (text ≡ line (name_told name) (Follow origin cause)))
+    ⊎ ((status ≡ Done) × IsChecked net src image text)
+
+-- what `check` answers for these three texts, of which the first has no modes and no bank
+abbrev pub CheckAnswers : (Told → Status → List ℕ) → (net src image : List ℕ) → Status → List ℕ → Type 0
+CheckAnswers line net src image =
+    SourceAnswers (line Nothing) net src (BreaksTaken checked_edition net) (BreaksCheckedSrc net src) (
+    Then (line Nothing) (By ImageText (IsNoViewedFile net image)) (
+    ThenTelling line Rule (BreaksImageRule net src image) (CheckEnds line net src image)))
+
 -- what `explain` answers for these two texts, of which the first has no modes; a cover that is
 -- missing is no refusal
 abbrev pub ExplainAnswers : (Status → List ℕ) → List ℕ → List ℕ → Status → List ℕ → Type 0
@@ -184,19 +206,19 @@ ExtractAnswers line net =
     λ status text. (status ≡ Done) × IsExtracted net text))
 
 -- how the clocks of `run` end: a bus clashes, and its name is told, or the state is reached
-abbrev pub RunEnds : (Option ℕ → Status → List ℕ) → List ℕ → List ℕ → List ℕ → ℕ → Status → List ℕ → Type 0
+abbrev pub RunEnds : (Told → Status → List ℕ) → List ℕ → List ℕ → List ℕ → ℕ → Status → List ℕ → Type 0
 RunEnds line net image memory clocks status text =
     ((c : ClashedAt) × Clashes net image memory clocks c × (status ≡ Clash c.cycle c.bus)
-    × (text ≡ line (Some c.at) (Clash c.cycle c.bus)))
+    × (text ≡ line (Bus c.at) (Clash c.cycle c.bus)))
     ⊎ ((status ≡ Done) × ShowsState net image memory clocks text)
 
 -- what `run` answers for these three texts and this number of clocks
-abbrev pub RunAnswers : (Option ℕ → Status → List ℕ) → List ℕ → List ℕ → List ℕ → ℕ → Status → List ℕ → Type 0
+abbrev pub RunAnswers : (Told → Status → List ℕ) → List ℕ → List ℕ → List ℕ → ℕ → Status → List ℕ → Type 0
 RunAnswers line net image memory clocks =
-    Then (line None) (By NetText (IsNoNetText net)) (
-    Then (line None) (By Net (BreaksTaken run_edition net)) (
-    Then (line None) (By ImageText (IsNoImageFile net image)) (
-    Then (line None) (By MemText (IsNoMemoryFile net memory)) (
+    Then (line Nothing) (By NetText (IsNoNetText net)) (
+    Then (line Nothing) (By Net (BreaksTaken run_edition net)) (
+    Then (line Nothing) (By ImageText (IsNoImageFile net image)) (
+    Then (line Nothing) (By MemText (IsNoMemoryFile net memory)) (
     RunEnds line net image memory clocks))))
 
 -- what `go` answers once there is an image: its checkpoints from the state that the memory text
@@ -259,19 +281,20 @@ TestAnswers line net =
 abbrev pub file_at : List (List ℕ) → ℕ → List ℕ
 file_at files place = slice_index_or files place []
 
--- what a command answers for the bytes of its files; a line is of the place of a bus's name
-abbrev pub TextAnswers : (Option ℕ → Status → List ℕ) → Command → List (List ℕ) → Status → List ℕ → Type 0
-TextAnswers line Compile files = CompileAnswers (line None) (file_at files 0) (file_at files 1)
-TextAnswers line Extract files = ExtractAnswers (line None) (file_at files 0)
+-- what a command answers for the bytes of its files; a line is of what is told beside the status
+abbrev pub TextAnswers : (Told → Status → List ℕ) → Command → List (List ℕ) → Status → List ℕ → Type 0
+TextAnswers line Compile files = CompileAnswers (line Nothing) (file_at files 0) (file_at files 1)
+TextAnswers line Extract files = ExtractAnswers (line Nothing) (file_at files 0)
 TextAnswers line (Run clocks) files = RunAnswers line (file_at files 0) (file_at files 1) (file_at files 2) clocks
-TextAnswers line (Go clocks) files = GoAnswers (line None) (file_at files 0) (file_at files 1) (file_at files 2) clocks
-TextAnswers line (Make number) files = MakeAnswers (line None) number
-TextAnswers line Asm files = AsmAnswers (line None) (file_at files 0) (file_at files 1)
-TextAnswers line Dis files = DisAnswers (line None) (file_at files 0) (file_at files 1)
-TextAnswers line Test files = TestAnswers (line None) (file_at files 0)
-TextAnswers line Explain files = ExplainAnswers (line None) (file_at files 0) (file_at files 1)
-TextAnswers line Tune files = TuneAnswers (line None) (file_at files 0) (file_at files 1)
-TextAnswers line Dual files = DualAnswers (line None) (file_at files 0) (file_at files 1) (file_at files 2)
+TextAnswers line (Go clocks) files = GoAnswers (line Nothing) (file_at files 0) (file_at files 1) (file_at files 2) clocks
+TextAnswers line (Make number) files = MakeAnswers (line Nothing) number
+TextAnswers line Asm files = AsmAnswers (line Nothing) (file_at files 0) (file_at files 1)
+TextAnswers line Dis files = DisAnswers (line Nothing) (file_at files 0) (file_at files 1)
+TextAnswers line Test files = TestAnswers (line Nothing) (file_at files 0)
+TextAnswers line Explain files = ExplainAnswers (line Nothing) (file_at files 0) (file_at files 1)
+TextAnswers line Tune files = TuneAnswers (line Nothing) (file_at files 0) (file_at files 1)
+TextAnswers line Dual files = DualAnswers (line Nothing) (file_at files 0) (file_at files 1) (file_at files 2)
+TextAnswers line Check files = CheckAnswers line (file_at files 0) (file_at files 1) (file_at files 2)
 
 -- the netlist's text of a command: the first file, and of `make` that of its number
 abbrev pub netlist_in : Command → List (List ℕ) → List ℕ
@@ -279,7 +302,7 @@ netlist_in (Make number) files = job_netlist number
 netlist_in command files = file_at files 0
 
 -- what it answers once its files are there; a line is of the netlist's text too
-abbrev pub CommandAnswers : (List ℕ → Option ℕ → Status → List ℕ) → Option Files → Command →
+abbrev pub CommandAnswers : (List ℕ → Told → Status → List ℕ) → Option Files → Command →
     List (List ℕ) → Status → List ℕ → Type 0
 CommandAnswers line known command names status text =
     (files : List (List ℕ)) × AreFiles known names files
@@ -287,10 +310,10 @@ CommandAnswers line known command names status text =
 
 -- what the words answer by their command
 abbrev pub FilesAnswer : List (List ℕ) → Option Command → ShelfState → ShelfState → Status → List ℕ → Type 0
-FilesAnswer words None before now status text = (status ≡ Usage) × (text ≡ due_line words [] None Usage)
+FilesAnswer words None before now status text = (status ≡ Usage) × (text ≡ due_line words [] Nothing Usage)
 FilesAnswer words (Some command) before now status text =
-    Then (due_line words [] None) (By ReadFault (IsFileReadFault (names_of command words) before now)) (
-    Then (due_line words [] None)
+    Then (due_line words [] Nothing) (By ReadFault (IsFileReadFault (names_of command words) before now)) (
+    Then (due_line words [] Nothing)
     (By (λ (p : ℕ × ℕ). TooLong p.0 p.1) (IsFileTooLong (names_of command words) before now)) (
     CommandAnswers (due_line words) before.files command (names_of command words))) status text
 
@@ -302,7 +325,7 @@ Answers words before now status text = FilesAnswer words (command_of words) befo
 -- that, or want of memory
 abbrev pub MayAnswer : List (List ℕ) → ShelfState → ShelfState → Status → List ℕ → Type 0
 MayAnswer words before now status text =
-    ((status ≡ Memory) × (text ≡ due_line words [] None Memory))
+    ((status ≡ Memory) × (text ≡ due_line words [] Nothing Memory))
     ⊎ Answers words before now status text
 
 -- a file could not be read
@@ -367,8 +390,15 @@ IsOfTune (NoReach bound reach) = ⊤
 IsOfTune (ImageFull len size bound) = ⊤
 IsOfTune _ = ⊥
 
+-- answers that `check` has of an image that keeps all rules
+abbrev pub IsOfCheck : Status → Type 0
+IsOfCheck Done = ⊤
+IsOfCheck (Follow origin cause) = ⊤
+IsOfCheck _ = ⊥
+
 -- one answer; of the commands that make code, or two of images made for one task; of `test`, or two
--- of words made for one netlist; of `tune`, or two of a program in some spelling
+-- of words made for one netlist; of `tune`, or two of a program in some spelling; of `check`, or two
+-- of an image that keeps all rules
 abbrev pub AnswersAgree : Option Command → Status → Status → Type 0
 AnswersAgree (Some Compile) status other = (status ≡ other) ⊎ AreOfImages status other
 AnswersAgree (Some (Go clocks)) status other = (status ≡ other) ⊎ AreOfImages status other
@@ -376,6 +406,7 @@ AnswersAgree (Some (Make number)) status other = (status ≡ other) ⊎ AreOfIma
 AnswersAgree (Some Test) status other = (status ≡ other) ⊎ AreOfTests status other
 AnswersAgree (Some Tune) status other = (status ≡ other) ⊎ (IsOfTune status × IsOfTune other)
 AnswersAgree (Some Dual) status other = (status ≡ other) ⊎ AreOfImages status other
+AnswersAgree (Some Check) status other = (status ≡ other) ⊎ (IsOfCheck status × IsOfCheck other)
 AnswersAgree _ status other = status ≡ other
 
 -- where an answer applies, nothing else is returned but one that agrees with it, want of memory or
@@ -420,7 +451,9 @@ CanDual =
 -- `test`: the report of a right self-test of the netlist. Of `explain`: what covers the program's
 -- jobs, and what in them no form makes. Of `tune`: an image that traces the program on the netlist,
 -- made for it in a spelling by equal trees. Of `dual`: an image that is right code for the program on
--- the netlist of two memories, with the variables of the part in the bank
+-- the netlist of two memories, with the variables of the part in the bank. Of `check`: that the image
+-- of the bytes is right code by its views for the program on the netlist, with its views, what it
+-- hides, and the clocks from mark to mark
 abbrev pub IsText : Command → List (List ℕ) → List ℕ → Type 0
 IsText Compile files = IsCompiled (file_at files 0) (file_at files 1)
 IsText Extract files = IsExtracted (file_at files 0)
@@ -433,6 +466,7 @@ IsText Test files = IsTested (file_at files 0)
 IsText Explain files = IsExplained (file_at files 0) (file_at files 1)
 IsText Tune files = IsTuned (file_at files 0) (file_at files 1)
 IsText Dual files = IsDualCompiled (file_at files 0) (file_at files 1) (file_at files 2)
+IsText Check files = IsChecked (file_at files 0) (file_at files 1) (file_at files 2)
 
 -- the bytes that were taken are the text of the command for the files of these names
 pub record HasText (command : Command) (names : List (List ℕ)) (known : Files) (old new : List ℕ) : Type 0 where

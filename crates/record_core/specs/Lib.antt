@@ -2,6 +2,7 @@ pub mod Answers
 pub mod Lines
 pub mod NetLines
 pub mod SrcLines
+pub mod CheckLines
 pub mod Showing
 pub mod Stages
 pub mod Status

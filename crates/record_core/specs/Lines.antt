@@ -1,13 +1,16 @@
 -- The line of each fault.
-use Rattle.std.specs.Prelude.{ℕ, ◌+◌, List, [], ◌∷◌, Option, None, codes, slice_index_or}
+use Rattle.std.specs.Prelude.{ℕ, ◌+◌, List, [], ◌∷◌, Option, None, Some, codes, slice_index_or}
 use Rattle.std.specs.Fmt.{decimal}
 use Rattle.std.specs.List.{concat}
 use Rattle.compile_command.specs.declared.fault.CompileFault.TheVariants.{NoCover as Uncovered, NoReach as Beyond, ImageFull as Overlong}
 use Rattle.explain_command.specs.Lines.{end_line}
+use Rattle.record_core.specs.CheckLines.{follow_line, rule_line}
 use Rattle.record_core.specs.NetLines.{net_line, name_place, name_from}
 use Rattle.record_core.specs.SrcLines.{src_line}
 use Rattle.record_core.specs.declared.status.Status.{Status}
-use Rattle.record_core.specs.declared.status.Status.TheVariants.{Done, Usage, ReadFault, TooLong, WriteFault, NetText, Net, SrcText, Src, NoStep, NoJump, NoCover, DataFull, NoReach, ImageFull, Memory, ImageText, MemText, Clash, AsmText, AsmWord, TestLimit, PartText}
+use Rattle.record_core.specs.declared.status.Status.TheVariants.{Done, Usage, ReadFault, TooLong, WriteFault, NetText, Net, SrcText, Src, NoStep, NoJump, NoCover, DataFull, NoReach, ImageFull, Memory, ImageText, MemText, Clash, AsmText, AsmWord, TestLimit, PartText, Rule, Follow}
+use Rattle.record_core.specs.declared.stop.Told.{Told}
+use Rattle.record_core.specs.declared.stop.Told.TheVariants.{Nothing, Bus, Name as Named}
 
 -- the word that names this file
 abbrev pub name_of_file : List (List ℕ) → ℕ → List ℕ
@@ -43,15 +46,20 @@ status_line words name (AsmWord line) = concat (codes "error asm word " ∷ deci
 status_line words name (TestLimit count bound) =
     concat (codes "error test limit " ∷ decimal count ∷ codes " " ∷ decimal bound ∷ codes "\n" ∷ [])
 status_line words name (PartText at) = concat (codes "error part text " ∷ decimal at ∷ codes "\n" ∷ [])
+status_line words name (Rule fault) = rule_line name fault
+status_line words name (Follow origin cause) = follow_line name origin cause
 
--- where the name stands that a line tells: the item's of a broken rule, or that of the bus which
--- clashes
-abbrev pub name_offset : Option ℕ → Status → Option ℕ
-name_offset bus (Net fault) = name_place fault
-name_offset bus (Clash cycle net) = bus
-name_offset bus _ = None
+-- where the name of the item stands that a broken rule of the netlist is about
+abbrev pub name_offset : Status → Option ℕ
+name_offset (Net fault) = name_place fault
+name_offset _ = None
 
--- the line that is written, of these words, this netlist's text, and the place of the name of a bus
--- that clashes
-abbrev pub due_line : List (List ℕ) → List ℕ → Option ℕ → Status → List ℕ
-due_line words net bus status = status_line words (name_from net (name_offset bus status)) status
+-- the name that a line tells: one that is told beside its status, or that of the item
+abbrev pub told_name : List ℕ → Told → Status → List ℕ
+told_name net Nothing status = name_from net (name_offset status)
+told_name net (Bus at) status = name_from net (Some at)
+told_name net (Named name) status = name_from name (Some 0)
+
+-- the line that is written, of these words, this netlist's text, and what is told beside the status
+abbrev pub due_line : List (List ℕ) → List ℕ → Told → Status → List ℕ
+due_line words net told status = status_line words (told_name net told status) status

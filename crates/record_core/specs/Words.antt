@@ -6,7 +6,7 @@ use Rattle.std.specs.Option.{option_map_or}
 use Rattle.std.specs.Str.{bytes_eq}
 use Rattle.text_lines.specs.Fields.{number_of}
 use Rattle.record_core.specs.declared.words.Command.{Command}
-use Rattle.record_core.specs.declared.words.Command.TheVariants.{Compile, Extract, Run, Go, Make, Asm, Dis, Test, Explain, Tune, Dual}
+use Rattle.record_core.specs.declared.words.Command.TheVariants.{Compile, Extract, Run, Go, Make, Asm, Dis, Test, Explain, Tune, Dual, Check}
 
 -- the words as texts
 abbrev pub texts_of : List (String Global) → List (List ℕ)
@@ -52,7 +52,9 @@ command_of (word ∷ other ∷ []) =
     else (if bytes_eq word (codes "test") then Some Test
     else (if bytes_eq word (codes "make") then option_map Make (job_number other) else None))
 command_of (word ∷ net ∷ other ∷ []) = pair_command word
-command_of (word ∷ net ∷ other ∷ part ∷ []) = if bytes_eq word (codes "dual") then Some Dual else None
+command_of (word ∷ net ∷ other ∷ part ∷ []) =
+    if bytes_eq word (codes "dual") then Some Dual
+    else (if bytes_eq word (codes "check") then Some Check else None)
 command_of (word ∷ net ∷ other ∷ memory ∷ clocks ∷ []) =
     if bytes_eq word (codes "run") then option_map Run (clocks_of clocks)
     else (if bytes_eq word (codes "go") then option_map Go (clocks_of clocks) else None)
@@ -76,6 +78,7 @@ file_count Test = 1
 file_count Explain = 2
 file_count Tune = 2
 file_count Dual = 3
+file_count Check = 3
 
 -- how many files the words ask for
 abbrev pub files_asked : List (List ℕ) → ℕ

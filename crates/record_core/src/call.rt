@@ -15,7 +15,7 @@ use crate::Status;
 use crate::commands::{file, put_command};
 use crate::fetch::fetch_all;
 use crate::refusal::{Refusal, refused};
-use crate::stop::Stop;
+use crate::stop::{Stop, Told};
 use crate::words::{Command, command_of};
 use rec_io::{Shelf, Sink, WriteFault};
 use std::alloc::Global;
@@ -28,14 +28,14 @@ fn command_refused(
     files: &[Vec<u8>],
     stop: Stop,
 ) -> Refusal
-    ensures { IsRefusal (texts_of words.now) (netlist_in command (contents files.now)) stop.bus stop.status result }
+    ensures { IsRefusal (texts_of words.now) (netlist_in command (contents files.now)) stop.told stop.status result }
 {
     match command {
         Command::Make(number) => match job_gen::netlist(alloc, u64::from(number)) {
-            Ok(net) => refused(alloc, words, &net, stop.bus, stop.status),
+            Ok(net) => refused(alloc, words, &net, &stop.told, stop.status),
             Err(_) => Refusal::Memory,
         },
-        _ => refused(alloc, words, file(files, 0), stop.bus, stop.status),
+        _ => refused(alloc, words, file(files, 0), &stop.told, stop.status),
     }
 }
 
@@ -81,11 +81,11 @@ fn decide<F: Shelf, S: Sink>(
     ensures still { IfErr result (λ _. S.state out.new ≡ S.state out.old) }
 {
     let Some(command) = command_of(words) else {
-        return Err(refused(alloc, words, &[], None, Status::Usage));
+        return Err(refused(alloc, words, &[], &Told::Nothing, Status::Usage));
     };
     match fetch_all(alloc, &words[1..command.file_count() + 1], shelf) {
         Ok(files) => put_for(alloc, words, command, &files, out),
-        Err(status) => Err(refused(alloc, words, &[], None, status)),
+        Err(status) => Err(refused(alloc, words, &[], &Told::Nothing, status)),
     }
 }
 
@@ -113,13 +113,14 @@ fn answer<F: Shelf, S: Sink>(alloc: Global, words: &[String], shelf: &mut F, out
 ///
 /// The words are those after the program's name: `compile NET SRC`, `extract NET`, `run NET IMG MEM
 /// CYCLES`, `go NET SRC MEM CYCLES`, `make N`, `asm NET TEXT`, `dis NET IMG`, `test NET`, `explain
-/// NET SRC`, `tune NET SRC` or `dual NET SRC PART`, where NET, SRC, IMG, MEM, TEXT and PART are names
-/// of files, CYCLES is a decimal number from 0 to 1,000,000, and N one from 1 to 1,000. On `Done` the
-/// output took the whole text: an image, the patterns of a netlist, a state, checkpoints, a summary,
-/// lines of transfers, the report of a self-test, or what covers the jobs of a program. On
-/// `WriteFault` it took a prefix of the text that was due, and nothing after the put that failed; on
-/// every other status it took the line of the fault. Want of memory may be answered anywhere, but
-/// where a file could not be read.
+/// NET SRC`, `tune NET SRC`, `dual NET SRC PART` or `check NET SRC IMG`, where NET, SRC, IMG, MEM,
+/// TEXT and PART are names of files, CYCLES is a decimal number from 0 to 1,000,000, and N one from
+/// 1 to 1,000. On `Done` the output took the whole text: an image, the patterns of a netlist, a
+/// state, checkpoints, a summary, lines of transfers, the report of a self-test, what covers the
+/// jobs of a program, or the clocks of an image from mark to mark. On `WriteFault` it took a prefix
+/// of the text that was due, and nothing after the put that failed; on every other status it took
+/// the line of the fault. Want of memory may be answered anywhere, but where a file could not be
+/// read.
 pub fn record_call<F: Shelf, S: Sink>(
     alloc: Global,
     words: &Vec<String>,
@@ -141,8 +142,9 @@ pub fn record_call<F: Shelf, S: Sink>(
     ensures gives { IsAnswer (texts_of words.now.items) (F.state shelf.old) (F.state shelf.new)
         (S.state out.old) (S.state out.new) result }
 
-    // Where the files are told, nothing else is answered than what applies; where code or a self-test
-    // is made more than one answer may, since what is made for one task may differ in length.
+    // Where the files are told, nothing else is answered than what applies; where code or a
+    // self-test is made more than one answer may, since what is made for one task may differ in
+    // length; and so may of an image that keeps all rules, as `Follow` says nothing of it.
     ensures exactly { IsSome (F.state shelf.old).files →
         IsExact (texts_of words.now.items) (F.state shelf.old) (F.state shelf.new) result }
 
@@ -172,7 +174,8 @@ pub fn record_call<F: Shelf, S: Sink>(
 
     // The main promise: what was written is the text of the command for its files, as of `compile`
     // an image that is right code for the program on the netlist, and that the netlist holds; as of
-    // `tune` one made by equal trees, and of `dual` one for both memories of a netlist.
+    // `tune` one made by equal trees, and of `dual` one for both memories of a netlist. Of `check`
+    // it is that the image of the bytes is right by its views for this netlist and this program.
     ensures wrote { (command : Command) → command_of (texts_of words.now.items) ≡ Some command →
         result ≡ Status.Done →
         Wrote command (names_of command (texts_of words.now.items)) (F.state shelf.old).files

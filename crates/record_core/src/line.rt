@@ -1,12 +1,16 @@
 //! The lines of the faults.
 ghost use Rattle.std.specs.Prelude.{◌≡◌, ◌+◌, ◌<◌, IfOk, drop, length, string_bytes, take_while};
 ghost use Rattle.lexing.specs.Bytes.{is_name_byte};
-ghost use Rattle.record_core.specs.Lines.{name_offset, status_line, name_of_file};
+ghost use Rattle.record_core.specs.CheckLines.{answer_text, cause_text, follow_line, mark_line, origin_text, rule_line};
+ghost use Rattle.record_core.specs.Lines.{name_offset, status_line, name_of_file, told_name};
 ghost use Rattle.record_core.specs.NetLines.{name_from, name_place, net_line, net_rule_text, net_kind_text, role_text};
 ghost use Rattle.record_core.specs.SrcLines.{src_line, src_kind_text};
 ghost use Rattle.record_core.specs.Words.{texts_of};
 
 use crate::Status;
+use crate::stop::Told;
+use check_command::{Cause, Origin, RuleFault};
+use follow::MarkFault;
 use net_model::{NetFault, NetKind, Role};
 use src_model::{SrcFault, SrcKind};
 use std::alloc::{AllocError, Global};
@@ -102,21 +106,18 @@ fn behind(bytes: &[u8], at: u64) -> &[u8]
     }
 }
 
-/// Where the name stands that the line tells, if it tells one. `bus` is the place of the name of a
-/// bus that clashes.
-pub fn name_offset(bus: Option<u64>, status: Status) -> Option<u64>
-    ensures { result ≡ name_offset bus status }
+// Where the name of the item stands that a broken rule of the netlist is about.
+fn name_offset(status: Status) -> Option<u64>
+    ensures { result ≡ name_offset status }
 {
     match status {
         Status::Net(fault) => name_place(fault),
-        Status::Clash { .. } => bus,
         _ => None,
     }
 }
 
-/// The name that begins at this place of the netlist's text; the empty text where there is no
-/// place.
-pub fn name_from(net: &[u8], at: Option<u64>) -> &str
+// The name that begins at this place of a text; the empty text where there is no place.
+fn name_from(net: &[u8], at: Option<u64>) -> &str
     ensures { result.now ≡ name_from net.now at }
 {
     let Some(at) = at else {
@@ -126,6 +127,17 @@ pub fn name_from(net: &[u8], at: Option<u64>) -> &str
     match str::from_utf8(&rest[..name_bytes(rest)]) {
         Ok(name) => name,
         Err(_) => "",
+    }
+}
+
+/// The name that the line of a status tells, with what is told beside it.
+pub fn told_name<'a>(net: &'a [u8], told: &'a Told, status: Status) -> &'a str
+    ensures { result.now ≡ told_name net.now told.now status }
+{
+    match told {
+        Told::Nothing => name_from(net, name_offset(status)),
+        Told::Bus(at) => name_from(net, Some(*at)),
+        Told::Name(name) => name_from(name.as_slice(), Some(0)),
     }
 }
 
@@ -188,9 +200,85 @@ fn src_fault_line(alloc: Global, fault: SrcFault) -> Result<String, AllocError>
     }
 }
 
+// What is wrong with a mark.
+fn mark_fault_line(alloc: Global, fault: MarkFault) -> Result<String, AllocError>
+    ensures { IfOk result (λ line. string_bytes line ≡ mark_line fault) }
+{
+    match fault {
+        MarkFault::Unmarked(tree) => format!(in alloc; "error mark {tree}\n"),
+        MarkFault::End => String::from_str(alloc, "error mark end\n"),
+        MarkFault::Stray { address, tree } => format!(in alloc; "error mark {address} {tree}\n"),
+    }
+}
+
+// `name` is that of the variable whose place or view is wrong.
+fn rule_fault_line(alloc: Global, name: &str, fault: RuleFault) -> Result<String, AllocError>
+    ensures { IfOk result (λ line. string_bytes line ≡ rule_line name.now fault) }
+{
+    match fault {
+        RuleFault::Place => format!(in alloc; "error place {name}\n"),
+        RuleFault::Temps => String::from_str(alloc, "error place temps\n"),
+        RuleFault::Mark(fault) => mark_fault_line(alloc, fault),
+        RuleFault::View(address) => format!(in alloc; "error view {address} {name}\n"),
+        RuleFault::EndWord => String::from_str(alloc, "error end word\n"),
+    }
+}
+
+// The answer of a test.
+fn answer_digit(answer: bool) -> &'static str
+    ensures { result.now ≡ answer_text answer }
+{
+    if answer { "1" } else { "0" }
+}
+
+// Where words begin that don't follow.
+fn origin_word(alloc: Global, origin: Origin) -> Result<String, AllocError>
+    ensures { IfOk result (λ text. string_bytes text ≡ origin_text origin) }
+{
+    match origin {
+        Origin::Start => String::from_str(alloc, "start"),
+        Origin::Mark { address, answer } => {
+            let answer = answer_digit(answer);
+            format!(in alloc; "{address} {answer}")
+        }
+    }
+}
+
+// Why they don't. `name` is that of a variable or a storage, where the cause is about one.
+fn cause_words(alloc: Global, name: &str, cause: Cause) -> Result<String, AllocError>
+    ensures { IfOk result (λ text. string_bytes text ≡ cause_text name.now cause) }
+{
+    match cause {
+        Cause::Clash(word) => format!(in alloc; "clash {word}"),
+        Cause::Word(word) => format!(in alloc; "word {word}"),
+        Cause::Clocks => String::from_str(alloc, "clocks"),
+        Cause::Mark(word) => format!(in alloc; "mark {word}"),
+        Cause::Variable => format!(in alloc; "var {name}"),
+        Cause::Written => format!(in alloc; "written {name}"),
+        Cause::Holding(None) => format!(in alloc; "hold {name}"),
+        Cause::Holding(Some(cell)) => format!(in alloc; "hold {name}[{cell}]"),
+        Cause::Number => format!(in alloc; "know {name}"),
+        Cause::Much => String::from_str(alloc, "much"),
+    }
+}
+
+fn follow_fault_line(
+    alloc: Global,
+    name: &str,
+    origin: Origin,
+    cause: Cause,
+) -> Result<String, AllocError>
+    ensures { IfOk result (λ line. string_bytes line ≡ follow_line name.now origin cause) }
+{
+    let origin = origin_word(alloc, origin)?;
+    let cause = cause_words(alloc, name, cause)?;
+    format!(in alloc; "error follow {origin} {cause}\n")
+}
+
 /// The line of the fault, with its LF. `Done` and `WriteFault` have none, which is the empty text.
 ///
-/// `name` is the item's or the bus's that the status is about, for those that are about one.
+/// `name` is the item's, the bus's or the variable's that the status is about, for those that are
+/// about one.
 pub fn fault_line(
     alloc: Global,
     words: &[String],
@@ -234,5 +322,7 @@ pub fn fault_line(
             format!(in alloc; "error test limit {count} {bound}\n")
         }
         Status::PartText(at) => format!(in alloc; "error part text {at}\n"),
+        Status::Rule(fault) => rule_fault_line(alloc, name, fault),
+        Status::Follow { origin, cause } => follow_fault_line(alloc, name, origin, cause),
     }
 }

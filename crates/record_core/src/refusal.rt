@@ -8,7 +8,8 @@ ghost use Rattle.record_core.specs.declared.status.Status.{Status};
 
 use crate::Status;
 use crate::commands::put;
-use crate::line::{fault_line, file_name, name_from, name_offset};
+use crate::line::{fault_line, file_name, told_name};
+use crate::stop::Told;
 use rec_io::{Sink, WriteFault};
 use std::alloc::Global;
 
@@ -24,22 +25,16 @@ pub enum Refusal {
     Told { status: Status, line: String },
 }
 
-/// The refusal of this status, with its line from the words and the netlist's text. `bus` is the
-/// place of the name of a bus that clashes.
-pub fn refused(
-    alloc: Global,
-    words: &[String],
-    net: &[u8],
-    bus: Option<u64>,
-    status: Status,
-) -> Refusal
-    ensures line { IsRefusal (texts_of words.now) net.now bus status result }
+/// The refusal of this status, with its line from the words, the netlist's text and what is told
+/// beside it.
+pub fn refused(alloc: Global, words: &[String], net: &[u8], told: &Told, status: Status) -> Refusal
+    ensures line { IsRefusal (texts_of words.now) net.now told.now status result }
     ensures read { (file : ℕ) → status ≡ Status.ReadFault file → result ≡ Refusal.Read file }
 {
     if let Status::ReadFault { file } = status {
         return Refusal::Read(file);
     }
-    let name = name_from(net, name_offset(bus, status));
+    let name = told_name(net, told, status);
     match fault_line(alloc, words, name, status) {
         Ok(line) => Refusal::Told { status, line },
         Err(_) => Refusal::Memory,

@@ -1,7 +1,8 @@
 //! The command that runs an image.
-ghost use Rattle.std.specs.Prelude.{◌≡◌, ◌≢◌, ◌⊎◌, ℕ, List, Option, ◌≤◌, IfOk, IfErr, length};
+ghost use Rattle.std.specs.Prelude.{◌≡◌, ◌≢◌, ◌⊎◌, ℕ, List, ◌≤◌, IfOk, IfErr, length};
 ghost use Rattle.record_core.specs.Answers.{file_limit, RunAnswers};
 ghost use Rattle.record_core.specs.declared.status.Status.{Status};
+ghost use Rattle.record_core.specs.declared.stop.Told.{Told};
 
 use crate::stop::Stop;
 use run_command::run;
@@ -21,11 +22,11 @@ pub fn run_text(
     requires memory_short { length memory.now ≤ file_limit }
 
     // Whatever the lines of the refusals are.
-    ensures ok { (line : Option ℕ → Status → List ℕ) → IfOk result (λ text.
+    ensures ok { (line : Told → Status → List ℕ) → IfOk result (λ text.
         RunAnswers line net.now image.now memory.now clocks Status.Done text.items) }
-    ensures refused { (line : Option ℕ → Status → List ℕ) →
+    ensures refused { (line : Told → Status → List ℕ) →
         IfErr result (λ stop. (stop.status ≡ Status.Memory)
-        ⊎ RunAnswers line net.now image.now memory.now clocks stop.status (line stop.bus stop.status)) }
+        ⊎ RunAnswers line net.now image.now memory.now clocks stop.status (line stop.told stop.status)) }
     ensures other { IfErr result (λ stop. stop.status ≢ Status.Done) }
 {
     let text = run(alloc, net, image, memory, clocks)?;

@@ -3,6 +3,7 @@ ghost use Rattle.std.specs.Prelude.{◌≡◌};
 ghost use Rattle.record_core.specs.declared.status.Status.{Status};
 
 use asm_command::{AsmFault, DisFault};
+use check_command::{Cause, CheckFault, Origin, RuleFault};
 use compile_command::CompileFault;
 use dual_command::DualFault;
 use net_front::NetRefusal;
@@ -66,6 +67,11 @@ pub enum Status {
     /// The third file tells no part of the program's variables; the offset of the first line that
     /// isn't a declared name or repeats one.
     PartText(u64),
+    /// The image breaks a rule of images with views.
+    Rule(RuleFault),
+    /// It isn't shown that the image's words follow the program from here on. This says nothing of
+    /// the image.
+    Follow { origin: Origin, cause: Cause },
 }
 
 impl Status {
@@ -93,6 +99,8 @@ impl Status {
             Status::AsmWord(_) => 17,
             Status::TestLimit { .. } => 18,
             Status::PartText(_) => 19,
+            Status::Rule(_) => 20,
+            Status::Follow { .. } => 21,
         }
     }
 }
@@ -140,6 +148,26 @@ impl From<CompileFault> for Status {
             CompileFault::NoReach { bound, reach } => Status::NoReach { bound, reach },
             CompileFault::ImageFull { len, size, bound } => Status::ImageFull { len, size, bound },
             CompileFault::Memory => Status::Memory,
+        }
+    }
+}
+
+impl From<CheckFault> for Status {
+    ghost from_gives = { λ fault status. status ≡ check_status fault };
+
+    ghost use Rattle.std.specs.Prelude.{◌≡◌};
+    ghost use Rattle.record_core.specs.Inner.Statuses.{check_status};
+
+    fn from(fault: CheckFault) -> Status {
+        match fault {
+            CheckFault::NetText(at) => Status::NetText(at),
+            CheckFault::Net(fault) => Status::Net(fault),
+            CheckFault::SrcText(at) => Status::SrcText(at),
+            CheckFault::Src(fault) => Status::Src(fault),
+            CheckFault::ImageText(at) => Status::ImageText(at),
+            CheckFault::Rule(fault) => Status::Rule(fault),
+            CheckFault::Follow { origin, cause } => Status::Follow { origin, cause },
+            CheckFault::Memory => Status::Memory,
         }
     }
 }

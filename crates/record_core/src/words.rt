@@ -38,6 +38,9 @@ pub enum Command {
     /// `dual NET SRC PART`: the image text of a program for a netlist with a bank, in which the
     /// variables of a part stand.
     Dual,
+    /// `check NET SRC IMG`: the clocks from mark to mark of an image that is right code for a program,
+    /// by its views.
+    Check,
 }
 
 impl Command {
@@ -53,7 +56,7 @@ impl Command {
             Command::Compile | Command::Asm | Command::Dis => 2,
             Command::Explain | Command::Tune => 2,
             Command::Extract | Command::Test => 1,
-            Command::Run(_) | Command::Go(_) | Command::Dual => 3,
+            Command::Run(_) | Command::Go(_) | Command::Dual | Command::Check => 3,
             Command::Make(_) => 0,
         }
     }
@@ -126,6 +129,9 @@ fn triple_command(words: &[String]) -> Option<Command>
 {
     if words[0].as_str() == "dual" {
         return Some(Command::Dual);
+    }
+    if words[0].as_str() == "check" {
+        return Some(Command::Check);
     }
     None
 }

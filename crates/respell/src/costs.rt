@@ -1,9 +1,9 @@
 //! The least costs of classes by the forms, as far as the search knows them. What waits where is
 //! left to `cover`, so these costs only choose.
 
-use crate::index::{Graph, Index};
-use crate::survey::Kind;
+use crate::survey::kind_of;
 use form_model::{Form, Goal};
+use law_rounds::{Graph, Index, Kind};
 use net_model::Expr;
 use rec_bits::NoMemory;
 use std::alloc::Global;
@@ -109,7 +109,7 @@ impl Costs {
     fn sweep(&mut self, graph: Graph<'_>, forms: &[Form]) -> bool {
         let mut changed = false;
         for (place, form) in forms.iter().enumerate() {
-            match Kind::of_expr(&form.value) {
+            match kind_of(&form.value) {
                 Some(Kind::Read) | None => {
                     for class in graph.index.heads() {
                         changed |= self.try_form(graph, *class, place, form);

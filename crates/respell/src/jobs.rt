@@ -15,14 +15,14 @@ ghost use Rattle.respell.specs.Respelled.{IsRespelled, IsSameDestination, IsSpel
 ghost use Rattle.respell.specs.Inner.Choosing.{IsBest, IsCheaper, IsFound, IsLess, IsNoMore};
 
 use crate::costs::{Costs, Listed, Root};
-use crate::index::{Graph, Index};
 use crate::needs::{Limits, check_small};
 use crate::picks::Picks;
 use crate::reads::reads_no_more;
-use crate::search::Search;
+use crate::search::round;
 use crate::survey::Survey;
 use cover::CoverFault;
 use form_model::{Aim, Form, Forms, Job, Tree};
+use law_rounds::{Graph, Index, Rounds};
 use mode_set::plan_job;
 use rec_bits::{NoMemory, Op1};
 use std::alloc::Global;
@@ -183,9 +183,9 @@ impl<'a> Speller<'a> {
             tree,
             cost: own,
         };
-        let mut search = Search::new(alloc, self.limits.cell, &self.survey);
-        match self.explore(alloc, &mut search, own)? {
-            Some(outlook) => self.cheapest(alloc, &search.table, &outlook, own),
+        let mut rounds = Rounds::new(alloc, self.limits.cell, self.survey.gate());
+        match self.explore(alloc, &mut rounds, own)? {
+            Some(outlook) => self.cheapest(alloc, &rounds.table, &outlook, own),
             None => Ok(None),
         }
     }
@@ -194,13 +194,13 @@ impl<'a> Speller<'a> {
     fn explore(
         &self,
         alloc: Global,
-        search: &mut Search<'_>,
+        rounds: &mut Rounds<'_>,
         own: OwnSpelling<'_>,
     ) -> Result<Option<Outlook<'a>>, NoMemory>
-        ensures { cell_bits search.new.table ≡ cell_bits search.old.table }
+        ensures { cell_bits rounds.new.table ≡ cell_bits rounds.old.table }
     {
-        match list_job(&mut search.table, own.job, own.tree)? {
-            Some(listed) => Ok(Some(self.grow(alloc, search, listed)?)),
+        match list_job(&mut rounds.table, own.job, own.tree)? {
+            Some(listed) => Ok(Some(self.grow(alloc, rounds, listed)?)),
             None => Ok(None),
         }
     }
@@ -210,18 +210,18 @@ impl<'a> Speller<'a> {
     fn grow(
         &self,
         alloc: Global,
-        search: &mut Search<'_>,
+        rounds: &mut Rounds<'_>,
         listed: Listed,
     ) -> Result<Outlook<'a>, NoMemory>
-        ensures { cell_bits search.new.table ≡ cell_bits search.old.table }
+        ensures { cell_bits rounds.new.table ≡ cell_bits rounds.old.table }
     {
-        let mut outlook = self.after_round(alloc, search, listed)?;
+        let mut outlook = self.after_round(alloc, rounds, listed)?;
         for _ in 1..ROUNDS {
-            if !outlook.changed || search.is_full() {
+            if !outlook.changed || rounds.is_full() {
                 return Ok(outlook);
             }
             let known = outlook.cost();
-            outlook = self.after_round(alloc, search, listed)?;
+            outlook = self.after_round(alloc, rounds, listed)?;
             if known.is_some() && outlook.cost() == known {
                 return Ok(outlook);
             }
@@ -233,15 +233,15 @@ impl<'a> Speller<'a> {
     fn after_round(
         &self,
         alloc: Global,
-        search: &mut Search<'_>,
+        rounds: &mut Rounds<'_>,
         listed: Listed,
     ) -> Result<Outlook<'a>, NoMemory>
-        ensures { cell_bits search.new.table ≡ cell_bits search.old.table }
+        ensures { cell_bits rounds.new.table ≡ cell_bits rounds.old.table }
     {
-        let changed = search.round(alloc)?;
-        let index = search.index(alloc)?;
+        let changed = round(alloc, rounds, &self.survey)?;
+        let index = rounds.index(alloc)?;
         let graph = Graph {
-            table: &search.table,
+            table: &rounds.table,
             index: &index,
         };
         let modes = self.mode_costs(alloc, graph, listed)?;

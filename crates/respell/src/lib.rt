@@ -10,18 +10,16 @@
 //!
 //! The search owes nothing but safety: `tree_laws` gives an equal tree whatever was listed, joined
 //! and picked, and `cover` says what both spellings cost. It lists the job's trees, applies the laws
-//! in rounds, up to `CLASSES` classes, reckons after each round what forms cost for each class that
-//! leave its value in a register, the file or a cell, and picks the nodes of the least. A law that
-//! would bring an operator which no form has is left out, and operators are widened only by the
-//! extensions that stand beside them in forms (`survey`).
+//! in rounds (`law_rounds`), up to `CLASSES` classes, reckons after each round what forms cost for
+//! each class that leave its value in a register, the file or a cell, and picks the nodes of the
+//! least. A law that would bring an operator which no form has is left out, and operators are widened
+//! only by the extensions that stand beside them in forms (`survey`).
 //!
 //! Files:
 //!
 //! - `survey`: the operators of forms.
-//! - `index`: the nodes of each class.
-//! - `matching`: where a side of a rule stands in a table.
-//! - `rules`, `seeds`: which laws are applied, and what they begin with.
-//! - `search`: the laws, in rounds.
+//! - `seeds`: what laws begin with.
+//! - `search`: a round of seeds and laws.
 //! - `costs`: the least costs of classes by the forms.
 //! - `picks`: the nodes of the trees that cost least.
 //! - `reads`, `needs`: which cells a tree reads beside another, and what it needs.
@@ -34,14 +32,11 @@
 #![tactic(auto)]
 
 mod costs;
-mod index;
 mod jobs;
 mod laws;
-mod matching;
 mod needs;
 mod picks;
 mod reads;
-mod rules;
 mod search;
 mod seeds;
 mod survey;
@@ -49,4 +44,4 @@ mod survey;
 pub use jobs::{Respelled, Speller};
 pub use laws::{law_of_respelled_jobs, law_of_respelled_programs};
 pub use needs::Limits;
-pub use search::CLASSES;
+pub use survey::CLASSES;

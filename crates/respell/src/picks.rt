@@ -1,8 +1,8 @@
 //! The nodes of the trees that cost least, in order.
 
 use crate::costs::{ClassHome, Costs, Root};
-use crate::index::Graph;
 use form_model::Form;
+use law_rounds::Graph;
 use net_model::Expr;
 use std::alloc::Global;
 use sym_expr::Node;

@@ -3,7 +3,8 @@
 ghost use Rattle.std.specs.Prelude.{◌≡◌};
 ghost use Rattle.tree_laws.specs.Classes.{cell_bits};
 
-use crate::survey::{Extension, Field, Kind, Shift, Survey};
+use crate::survey::{Extension, Field, Shift, Survey};
+use law_rounds::Kind;
 use rec_bits::{NoMemory, Op2, mask};
 use sym_expr::Node;
 use tree_laws::Classes;

@@ -1,56 +1,31 @@
 //! What the operators of a netlist's forms are, by which the search is kept small.
 
 use form_model::Forms;
+use law_rounds::{Brings, Gate, Kind};
 use net_model::Expr;
-use rec_bits::{NoMemory, Op1, Op2};
+use rec_bits::{NoMemory, Op2};
 use std::alloc::Global;
-use sym_expr::Node;
 use tree_grammar::{expr_width, fits_field, is_field_shape};
 
-/// An operator of trees without its operands.
-#[derive(Clone, Copy, PartialEq, Eq)]
-pub(crate) enum Kind {
-    Number,
-    Read,
-    Un(Op1),
-    Bin(Op2),
-    Slice,
-    Zext,
-    Sext,
-}
+/// How many classes, of those that stand for themselves, a table may have before no further law is
+/// applied.
+pub const CLASSES: u64 = 1500;
 
-impl Kind {
-    /// The kind of an expression of a form, where a field shape is a number. A register and a cell
-    /// of the file have none.
-    pub(crate) fn of_expr(e: &Expr) -> Option<Kind> {
-        if is_field_shape(e) {
-            return Some(Kind::Number);
-        }
-        match e {
-            Expr::Read(..) => Some(Kind::Read),
-            Expr::Un(op, _) => Some(Kind::Un(*op)),
-            Expr::Bin(op, ..) => Some(Kind::Bin(*op)),
-            Expr::Slice(..) => Some(Kind::Slice),
-            Expr::Zext(..) => Some(Kind::Zext),
-            Expr::Sext(..) => Some(Kind::Sext),
-            Expr::Word(_) | Expr::Reg(..) | Expr::Const { .. } => None,
-            Expr::Cell(..) | Expr::Cat(..) | Expr::Select(..) => None,
-        }
+/// The kind of an expression of a form, where a field shape is a number. A register and a cell of
+/// the file have none.
+pub(crate) fn kind_of(e: &Expr) -> Option<Kind> {
+    if is_field_shape(e) {
+        return Some(Kind::Number);
     }
-
-    /// The kind of a node of a tree.
-    pub(crate) fn of_node(node: Node) -> Option<Kind> {
-        match node {
-            Node::Const { .. } => Some(Kind::Number),
-            Node::Read(..) => Some(Kind::Read),
-            Node::Un(op, _) => Some(Kind::Un(op)),
-            Node::Bin(op, ..) => Some(Kind::Bin(op)),
-            Node::Slice(..) => Some(Kind::Slice),
-            Node::Zext(..) => Some(Kind::Zext),
-            Node::Sext(..) => Some(Kind::Sext),
-            Node::Word(_) | Node::Reg(..) | Node::Cell(..) => None,
-            Node::Cat(..) | Node::Select(..) => None,
-        }
+    match e {
+        Expr::Read(..) => Some(Kind::Read),
+        Expr::Un(op, _) => Some(Kind::Un(*op)),
+        Expr::Bin(op, ..) => Some(Kind::Bin(*op)),
+        Expr::Slice(..) => Some(Kind::Slice),
+        Expr::Zext(..) => Some(Kind::Zext),
+        Expr::Sext(..) => Some(Kind::Sext),
+        Expr::Word(_) | Expr::Reg(..) | Expr::Const { .. } => None,
+        Expr::Cell(..) | Expr::Cat(..) | Expr::Select(..) => None,
     }
 }
 
@@ -158,10 +133,14 @@ impl<'a> Survey<'a> {
         &self.extensions
     }
 
-    /// The widths of extensions and of what they extend: what is tried for the variable of a law
-    /// that nothing else gives. More numbers would make the tables of classes grow past use.
-    pub(crate) fn widths(&self) -> &[u8] {
-        &self.widths
+    /// Laws that bring operators of forms alone. The widths of extensions and of what they extend
+    /// are tried for a number that nothing else gives.
+    pub(crate) fn gate(&self) -> Gate<'_> {
+        Gate {
+            brings: Brings::These(&self.kinds),
+            widths: &self.widths,
+            most: CLASSES,
+        }
     }
 
     /// The shifts by numbers.
@@ -192,7 +171,7 @@ impl<'a> Survey<'a> {
 
     // Notes the operators of an expression.
     fn note(&mut self, e: &'a Expr) -> Result<(), NoMemory> {
-        let Some(kind) = Kind::of_expr(e) else {
+        let Some(kind) = kind_of(e) else {
             return Ok(());
         };
         if !self.has(kind) {

@@ -29,7 +29,7 @@ use Rattle.branch_fix.specs.Made.{DoesBlock, DoesFork, IsMade, image_word}
 use Rattle.branch_fix.specs.Sections.{DoSections, DoesIn, DoesSection, PutsMode, Section, section_jobs, section_room, sections_room}
 use Rattle.branch_fix.proofs.Sections.{sections_do}
 use Rattle.branch_fix.specs.Inner.Flowing.{IsFlow}
-use Rattle.branch_fix.proofs.Addresses.{address_next, address_rises, part_at, fit_length}
+use Rattle.branch_fix.proofs.Addresses.{address_next, address_rises, part_at, fit_length, some_words}
 use Rattle.branch_fix.proofs.Laying.{address_total}
 use Rattle.branch_fix.proofs.Shapes.{program_is_flow}
 use Rattle.branch_fix.proofs.LaidRight.{turned_right}
@@ -91,12 +91,6 @@ counter_narrow None h = absurd h
 
 powers : (w : ℕ) → w ≤ 64 → 2 ^ w ≤ 2 ^ 64
 powers w le = pow-le-pow_right {n = 2} (omega arith) {i = w} {j = 64} le
-
-one_word : (next long : Bool) → 1 ≤ branch_words next long
-one_word true true = omega arith
-one_word false true = omega arith
-one_word true false = omega arith
-one_word false false = omega arith
 
 three_words : (next long : Bool) → long ≡ true → 3 ≤ branch_words next long
 three_words next true e = omega arith
@@ -161,7 +155,7 @@ module _ (m : Machine) (kit : Kit) (are : IsKit m 0 kit) (image : Image) where
             block_done _ (address parts at) words (made.blocks at n block words b e) (omega (arith, l, full)));
         forks = λ at fork e job has.
             (let l : address parts at + (fork.words + branch_words fork.next fork.long) < total parts = before_end kit.stock.forms flow end parts at (Test fork) f made.fit e refl in
-            let one : 1 ≤ branch_words fork.next fork.long = one_word fork.next fork.long in
+            let one : 1 ≤ branch_words fork.next fork.long = some_words fork.next fork.long in
             let wide : 2 ^ counter_width kit.netlist ≤ 2 ^ 64 = powers (counter_width kit.netlist) few in
             subst (λ t. DoesFork m.netlist image t job (form_at_one (slice_get kit.stock.forms fork.form)) fork (address parts at) (address parts fork.to) (address parts fork.other)) are.temps
             (fork_does m.netlist kit.netlist are.base are.order are.keeps image kit.patterns kit.stock are.sized are.formed job _ fork (address parts at) (address parts fork.to) (address parts fork.other) (made.forks at fork e job has) few

@@ -42,7 +42,7 @@ use Rattle.right_code.proofs.Tasks.{test_job_of}
 
 -- ---- a block begins at a part of a block
 
-stops : (flow : List Flow) (at : ℕ) → length flow ≤ at → continues flow at ≡ false
+pub stops : (flow : List Flow) (at : ℕ) → length flow ≤ at → continues flow at ≡ false
 stops flow at l = rw (slice_get_past flow at l) (by (nat_lt 0 at) (is_assign (slice_get flow (at - 1))))
   where
     by : (a b : Bool) → (a && (b && false)) ≡ false
@@ -50,7 +50,7 @@ stops flow at l = rw (slice_get_past flow at l) (by (nat_lt 0 at) (is_assign (sl
     by true false = refl
     by false b = refl
 
-assign_there : (flow : List Flow) (at : ℕ) → continues flow at ≡ true → is_assign (slice_get flow at) ≡ true
+pub assign_there : (flow : List Flow) (at : ℕ) → continues flow at ≡ true → is_assign (slice_get flow at) ≡ true
 assign_there flow at e =
     let p = and_parts (nat_lt 0 at) (is_assign (slice_get flow (at - 1)) && (is_assign (slice_get flow at) && not (is_entered flow at))) e in
     let q = and_parts (is_assign (slice_get flow (at - 1))) (is_assign (slice_get flow at) && not (is_entered flow at)) p.1 in

@@ -14,6 +14,7 @@ use Rattle.src_trees.specs.Lowered.{holds_at_one}
 use Rattle.src_trees.specs.Blocks.{continues}
 use Rattle.src_trees.specs.Turned.{Turns, turned_flow}
 use Rattle.src_trees.specs.Flows.{places_for, places_in, places_else, else_entry, asked, flow_of, flow_in, flow_else, program_flow}
+use Rattle.src_trees.proofs.Standing.{entry_within}
 use Rattle.branch_fix.specs.Parts.{form_at_one, fork_to, branch_or_zero, blocks_before, tests_before, part_for, place_part, parts_from, parts_of, room, starts, FitsPart, PartsFit}
 use Rattle.branch_fix.specs.Rounds.{goal_shows, form_shows, widened, widened_from, round, rounds}
 use Rattle.branch_fix.specs.declared.outline.Branch.{Branch}
@@ -46,15 +47,11 @@ asked_upto n cmp tree on_true on_false rest l k g = by (holds_at_one cmp)
     by true = (l, k, g)
     by false = (k, l, g)
 
-entry_le : (o : ElseModel) (at : ℕ) → else_entry o at ≤ at + places_else o
-entry_le without at = omega arith
-entry_le (otherwise list) at = omega arith
-
 mutual
   flow_upto : (a : StmtModel) (tree at n : ℕ) → at + places_for a ≤ n → Upto n (flow_of a tree at)
   flow_upto (assign place e) tree at n h = tt
   flow_upto (choice test taken other) tree at n h =
-      let l = entry_le other (at + 1 + places_in taken) in
+      let l = entry_within other (at + 1 + places_in taken) in
       asked_upto n test.cmp tree (at + 1) (else_entry other (at + 1 + places_in taken)) (flow_in taken (tree + 1) (at + 1) ++ flow_else other (tree + 1 + statements_in taken) (at + 1 + places_in taken)) (omega (arith, h)) (omega (arith, h, l))
       (upto_on n (flow_in taken (tree + 1) (at + 1)) (flow_else other (tree + 1 + statements_in taken) (at + 1 + places_in taken)) (in_upto taken (tree + 1) (at + 1) n (omega (arith, h)))
       (else_upto other (tree + 1 + statements_in taken) (at + 1 + places_in taken) n (omega (arith, h))))

@@ -98,14 +98,11 @@ module _ (netlist : Netlist) (order : List ℕ) (keeps : KeepsRules netlist orde
   abbrev pub HasWord : Step → Type 0
   HasWord step = (word : ℕ) × FitsTurn netlist o word (operation_in netlist patterns step)
 
-  same_pattern : (p q : Pattern) → Some p ≡ Some q → p ≡ q
-  same_pattern p q e = cc
-
   -- a step of such a form with bits of its pattern
   turn_word : (form : FormModel) (p : Pattern) (setting : ℕ) → CanTurnWith netlist o patterns form → slice_get patterns form.pattern ≡ Some p → IsSetting (transfer_fields p.move) setting
       → HasWord (record { pattern = form.pattern; setting = setting })
   turn_word form p setting can at within =
-      let own : IsSetting (transfer_fields can.pattern.move) setting = subst (λ (q : Pattern). IsSetting (transfer_fields q.move) setting) (same_pattern p can.pattern (sym at ∙ can.at)) within in
+      let own : IsSetting (transfer_fields can.pattern.move) setting = subst (λ (q : Pattern). IsSetting (transfer_fields q.move) setting) (same_Some p can.pattern (sym at ∙ can.at)) within in
       let w = can.can setting own in (
         w.0,
         record {

@@ -1,7 +1,7 @@
 -- The patterns of a netlist are of its expressions, whose operators get operands of the widths that
 -- they ask for.
 use Rattle.std.proofs.Common.{◌≡◌, ℕ, zero, suc, ◌<◌, List, [], ◌∷◌, length, Some, slice_get, slice_index_or, subst, arith}
-use Rattle.std.specs.Prelude.{All}
+use Rattle.mode_set.proofs.Putting.{all_at}
 use Rattle.net_model.specs.declared.hardware.Netlist.{Netlist}
 use Rattle.net_model.specs.CheckedRules.{KeepsRules}
 use Rattle.net_model.specs.Patterns.{ArePatterns, IsPattern, Pattern}
@@ -16,9 +16,6 @@ at_or : {A : Type 0} (xs : List A) (n : ℕ) (x d : A) → slice_get xs n ≡ So
 at_or [] n x d e = absurd (cc)
 at_or (y ∷ xs) zero x d e = (omega arith, cc)
 at_or (y ∷ xs) (suc n) x d e = (let r = at_or xs n x d e in (omega (arith, r.0), r.1))
-
-all_at : {A : Type 0} (P : A → Type 0) (xs : List A) (n : ℕ) (x : A) → All P xs → slice_get xs n ≡ Some x → P x
-all_at P xs n x h e = let r = at_or xs n x x e in subst P r.1 (h n x r.0)
 
 -- the patterns of a netlist
 pub known_of : (netlist : Netlist) (order : List ℕ) → KeepsRules netlist order → (patterns : List Pattern) → ArePatterns netlist patterns → AreKnown netlist patterns

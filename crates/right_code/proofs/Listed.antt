@@ -1,7 +1,8 @@
 -- The forms of a netlist are as the steps of covers want them.
-use Rattle.std.proofs.Common.{◌≡◌, ℕ, ◌+◌, ◌<◌, ◌==◌, ◌⊎◌, inl, inr, Bool, true, false, if◌then◌else◌, List, Option, Some, None, length, slice_get, refl, sym, ◌∙◌, ap, subst, arith}
+use Rattle.std.proofs.Common.{◌≡◌, ℕ, ◌+◌, ◌<◌, ◌==◌, ◌⊎◌, inl, inr, true, List, Option, Some, None, length, slice_get, refl, sym, ◌∙◌, ap, subst, arith}
 use Rattle.std.proofs.lemmas.Bool.{eq-eqb}
 use Rattle.std.proofs.lemmas.Nat.{and_le_l}
+use Rattle.mode_set.proofs.Putting.{register_goal}
 use Rattle.net_model.specs.declared.hardware.Space.TheVariants.{Memory as InMemory, File as InFile}
 use Rattle.net_model.specs.declared.hardware.Netlist.{Netlist}
 use Rattle.net_model.specs.CheckedRules.{KeepsRules}
@@ -11,7 +12,7 @@ use Rattle.net_model.specs.Patterns.{Pattern}
 use Rattle.net_model.specs.Exprs.{ExprModel, word, reg, const, read, un, bin, slice, cat, zext, sext, select, TransferModel, keep, write, write_at, next_of, swapped_next_of}
 use Rattle.net_model.specs.Transfers.{transfer_at}
 use Rattle.transfer_set.specs.TextMarks.{IsTransferOf, IsExprOf}
-use Rattle.form_model.specs.Forms.{FormModel, into_file, into_memory, into_reg, jumps, branches}
+use Rattle.form_model.specs.Forms.{FormModel, into_reg, jumps, branches}
 use Rattle.form_model.specs.Effects.{register, expr_reads}
 use Rattle.form_set.specs.Listing.{AreFormModels, sides_of}
 use Rattle.form_set.specs.Promises.{IsForm, IsFormOf, of_branch, of_jump, of_plain}
@@ -99,11 +100,6 @@ module _ (netlist : Netlist) (order : List ℕ) (keeps : KeepsRules netlist orde
     value_read choice m n pc e h =
         let sw : AreSwapped (record { addr = None; value = n }) (swapped choice (record { addr = None; value = n })) = swapped_sides choice (record { addr = None; value = n }) in
         ap (λ x. expr_reads 0 (swapped choice (sides_of x)).value (register pc)) e ∙ sym (sw.value.reads 0 pc) ∙ h
-
-    register_goal : (storage pc : ℕ) (b c : Bool) → (if b then into_memory else if c then into_file else into_reg storage) ≡ into_reg pc → storage ≡ pc
-    register_goal storage pc true c e = absurd (cc)
-    register_goal storage pc false true e = absurd (cc)
-    register_goal storage pc false false e = cc
 
     counter_read : (number : ℕ) (p : Pattern) (form : FormModel) → IsFormOf netlist reach number p form → form.goal ≡ into_reg (counter_of netlist.codes) → expr_reads 0 form.value (register (counter_of netlist.codes)) ≡ true
     counter_read number p form (of_jump h e) g = let x : jumps _ ≡ into_reg (counter_of netlist.codes) = sym (ap (λ (r : FormModel). r.goal) e) ∙ g in absurd (cc)

@@ -1,6 +1,6 @@
 -- Words of groups over forms that keep the mode keep it: no step of a cover by such forms writes it,
 -- so it stays live through all groups.
-use Rattle.std.proofs.Common.{ℕ, ◌≡◌, ◌+◌, ◌==◌, ◌||◌, ◌&&◌, not, Bool, true, false, if◌then◌else◌, List, [], ◌∷◌, ◌++◌, Option, Some, None, refl, sym, ap, arith, subst, slice_get, eq-eqb}
+use Rattle.std.proofs.Common.{ℕ, ◌≡◌, ◌+◌, ◌==◌, Bool, true, false, if◌then◌else◌, List, [], ◌∷◌, ◌++◌, Option, Some, None, refl, sym, ap, arith, subst, slice_get, eq-eqb}
 use Rattle.std.specs.Int.{bit_at}
 use Rattle.std.specs.List.{AllByRecursion, sum_by}
 use Rattle.std.proofs.lemmas.List.Sorted.{sum_by-IsPermutation}
@@ -22,6 +22,7 @@ use Rattle.compaction.specs.Laws.{operation_in}
 use Rattle.word_fit.specs.Fits.{fits_over}
 use Rattle.word_fit.specs.Groups.{GroupsFit}
 use Rattle.word_fit.proofs.Least.{all_fit}
+use Rattle.word_fit.proofs.Needed.{live_kept}
 use Rattle.compaction.specs.Packing.{all_steps}
 use Rattle.code_model.specs.Words.{KeepsMode}
 use Rattle.mode_set.specs.Keeping.{IsModeRegister}
@@ -63,15 +64,9 @@ module _ {A : Type 0} (m : A → Operation) (mode : ℕ) where
   groups_spare (g ∷ gs) h = let b : sum_by hits (g ++ all_steps gs) ≡ sum_by hits g + sum_by hits (all_steps gs) = sum_by-append hits g (all_steps gs) in (group_spares g (omega (arith, h, b)), groups_spare gs (omega (arith, h, b)))
 
   -- the mode is live before such groups where it is live behind them
-  live_on : (a b c : Bool) → b ≡ true → c ≡ false → (a || (b && not c)) ≡ true
-  live_on true b c e f = refl
-  live_on false true false e f = refl
-  live_on false false c e f = e
-  live_on false true true e f = sym f
-
   pub still_live : (gs : List (List A)) (after : Regs) → after mode ≡ true → AllByRecursion (λ g. group_writes m g mode ≡ false) gs → live_before m gs after mode ≡ true
   still_live [] after live h = live
-  still_live (g ∷ gs) after live h = live_on (group_reads m g mode) (live_before m gs after mode) (group_writes m g mode) (still_live gs after live h.1) h.0
+  still_live (g ∷ gs) after live h = live_kept (group_reads m g mode) (live_before m gs after mode) (group_writes m g mode) (still_live gs after live h.1) h.0
 
   -- so each word that fits them keeps it
   pub words_keep : (netlist : Netlist) → IsRegister (slice_get netlist.storages mode) → (ws : List ℕ) (gs : List (List A)) (after : Regs) → after mode ≡ true → AllByRecursion (λ g. group_writes m g mode ≡ false) gs

@@ -1,5 +1,5 @@
 -- Code as the layout orders it is made of its parts.
-use Rattle.std.proofs.Common.{Option, ℕ, ◌≡◌, ◌<◌, ◌+◌, ◌++◌, unwrap_or, zero, suc, Bool, true, false, List, [], ◌∷◌, length, Some, None, slice_get, slice_index, sym, ◌∙◌, ap, arith, subst}
+use Rattle.std.proofs.Common.{Option, ℕ, ◌≡◌, ◌<◌, ◌+◌, ◌++◌, unwrap_or, zero, suc, Bool, true, false, List, [], ◌∷◌, length, Some, None, slice_get, slice_index, sym, ◌∙◌, ap, arith, subst, length-append}
 use Rattle.rec_bits.proofs.Lists.{slice_get_within}
 use Rattle.net_model.specs.declared.hardware.Netlist.{Netlist}
 use Rattle.net_model.specs.CheckedRules.{KeepsRules}
@@ -59,10 +59,6 @@ stand_both code (x ∷ xs) ys at h =
     let z : at + 1 + length xs ≡ at + suc (length xs) = omega arith in
     ((h.0, r.0), subst (λ k. StandAt code k ys) z r.1)
 
-length_both : (xs ys : List ℕ) → length (xs ++ ys) ≡ length xs + length ys
-length_both [] ys = omega arith
-length_both (x ∷ xs) ys = let h = length_both xs ys in omega (arith, h)
-
 module _ (m : Machine) (kit : Kit) (image : Image) where
   -- jobs of one mode
   jobs_made : (own : Kit) (jobs : List JobModel) (at n : ℕ) (words : List ℕ) → IsBlockReady own.netlist m.netlist.special own.patterns own.stock jobs words n → StandAt (words_of image) at words
@@ -93,7 +89,7 @@ module _ (m : Machine) (kit : Kit) (image : Image) where
       let n_is : n ≡ length r.3 = r.7.long in
       let far : at + 1 + length r.3 ≡ at + 1 + n = omega (arith, n_is) in
       let all : length words ≡ suc (length (r.3 ++ r.4 ∷ [])) = ap length r.5 in
-      let more : length (r.3 ++ r.4 ∷ []) ≡ length r.3 + 1 = length_both r.3 (r.4 ∷ []) in
+      let more : length (r.3 ++ r.4 ∷ []) ≡ length r.3 + 1 = length-append r.3 (r.4 ∷ []) in
       record {
         made = (
           r.0,
@@ -119,7 +115,7 @@ module _ (m : Machine) (kit : Kit) (image : Image) where
       let z : at + length r.0 ≡ at + section_room x.mode x.words = omega (arith, n) in
       let later : SectionsStand sections (at + section_room x.mode x.words) r.1 = sections_made sections (at + section_room x.mode x.words) r.1 r.4 (subst (λ k. StandAt (words_of image) k r.1) z both.1) in
       let m : length r.1 ≡ sections_room sections = later.long in
-      let all : length words ≡ length r.0 + length r.1 = ap length r.2 ∙ length_both r.0 r.1 in
+      let all : length words ≡ length r.0 + length r.1 = ap length r.2 ∙ length-append r.0 r.1 in
       record { made = (one.made, later.made); long = omega (arith, all, n, m) }
 
 module _ (m : Machine) (kit : Kit) (order : List ℕ) (keeps : KeepsRules kit.netlist order) (image : Image) (reach : ℕ) (turns : AreTurns kit.netlist kit.patterns kit.stock.forms reach) where

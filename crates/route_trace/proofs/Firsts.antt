@@ -1,5 +1,6 @@
 -- The first of several tests that holds.
 use Rattle.std.proofs.Common.{◌≡◌, ℕ, zero, suc, ◌+◌, ◌^◌, ◌<◌, ◌≤◌, ◌&&◌, ◌||◌, not, Bool, true, false, if◌then◌else◌, true≢false, List, [], ◌∷◌, ◌++◌, map, take, length, Some, slice_get, refl, sym, ap, subst, ◌∙◌, arith}
+use Rattle.ctl_bdd.proofs.Clashes.{gate_step}
 use Rattle.bit_bdd.specs.Diagrams.{Diagrams, has_word, Extends}
 use Rattle.bit_bdd.proofs.CallerLemmas.{extends_trans, same_words}
 use Rattle.net_model.specs.Exprs.{ExprModel}
@@ -11,9 +12,9 @@ use Rattle.rec_bits.proofs.Booleans.{or-false}
 use Rattle.transfer_set.specs.declared.route.Route.{Route}
 use Rattle.route_trace.specs.declared.heads.Head.TheVariants.{Same}
 use Rattle.transfer_set.specs.Routes.{IsRouteTable, models_under, routes_at}
+use Rattle.transfer_set.proofs.Collecting.{held_later}
 use Rattle.route_trace.specs.Inner.Routing.{AllTests, passes, first_exprs, AreTables, AllFit}
 use Rattle.route_trace.proofs.Products.{both_later, table_later}
-use Rattle.route_trace.proofs.Merging.{held_later}
 use Rattle.route_trace.proofs.Loops.{no_exprs}
 
 pub map_same : (ts : List ExprModel) → map (λ t. t) ts ≡ ts
@@ -120,12 +121,7 @@ module _ (book : Diagrams) (pool : List Node) (nets : List (List Route)) (word :
 
     pub left_more : (b p c new : Bool) → p ≡ passes book word (take i tests) → c ≡ has_word book test.0 word → new ≡ ((b && not p) && not c) → new ≡ (b && not (passes book word (take (i + 1) tests)))
     left_more b p c new ep ec en =
-        en ∙ by b p c ∙ (λ j. b && not (ep j || ec j)) ∙ ap (λ q. b && not q) (sym (ap (passes book word) one_more ∙ passes_more (take i tests) test))
-      where
-        by : (b p c : Bool) → ((b && not p) && not c) ≡ (b && not (p || c))
-        by true true c = refl
-        by true false c = refl
-        by false p c = refl
+        en ∙ gate_step b p c ∙ (λ j. b && not (ep j || ec j)) ∙ ap (λ q. b && not q) (sym (ap (passes book word) one_more ∙ passes_more (take i tests) test))
 
 pub tables_later : (book book' : Diagrams) (pool pool' : List Node) → Extends book book' → Grows pool pool' → (nets : List (List Route)) → AreTables book pool nets → AreTables book' pool' nets
 tables_later book book' pool pool' e g nets t = record {

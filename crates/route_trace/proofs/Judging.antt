@@ -26,8 +26,8 @@ use Rattle.route_trace.specs.Inner.Verdicts.{HasBroken, HasLarge, IsFound, IsJud
 use Rattle.route_trace.specs.declared.verdict.Verdict.{Verdict}
 use Rattle.route_trace.specs.declared.verdict.Verdict.TheVariants.{Kept, Large, Many, Skipped}
 use Rattle.transfer_set.proofs.Exact.{exact}
+use Rattle.transfer_set.proofs.Collecting.{set_at}
 use Rattle.route_trace.proofs.Exact.{GivesPart, as_many, every}
-use Rattle.route_trace.proofs.Merging.{set_at}
 
 -- ---- no more different values than routes
 

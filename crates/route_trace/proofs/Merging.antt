@@ -7,10 +7,10 @@ use Rattle.std.proofs.lemmas.Bool.{ltb-true, ltb-false}
 use borrow.Author.Tests.{eqb-true, eqb-false}
 use Rattle.transfer_set.proofs.Exact.{held-append}
 use Rattle.bit_bdd.specs.Diagrams.{Diagrams, has_word, Extends}
-use Rattle.bit_bdd.proofs.CallerLemmas.{same_words}
 use Rattle.rec_bits.proofs.Lists.{Around, around}
 use Rattle.transfer_set.specs.declared.route.Route.{Route}
 use Rattle.transfer_set.specs.Routes.{row, exprs_under, Fresh, NoRepeat, IsSet, AllSets, AllExprs, IsRoutes}
+use Rattle.transfer_set.proofs.Collecting.{held_later, sets_later}
 use Rattle.route_trace.specs.Inner.Routing.{Finds}
 
 -- ---- finding
@@ -108,27 +108,8 @@ exprs_push size (x ∷ xs) y s h = (h.0, exprs_push size xs y s h.1)
 
 -- ---- a book that grows
 
-pub set_later : (old new : Diagrams) → Extends old new → (set : ℕ) → IsSet old set → IsSet new set
-set_later old new g set s = record {
-  within = omega (arith, s.within, g.longer);
-  word = s.word;
-  fits = subst (λ b. s.word < 2 ^ b) (sym g.bits) s.fits;
-  holds = same_words old new g set s.within s.word ∙ s.holds;
-}
-
-pub sets_later : (old new : Diagrams) → Extends old new → (routes : List Route) → AllSets old routes → AllSets new routes
-sets_later old new g [] h = tt
-sets_later old new g (route ∷ routes) h = (set_later old new g route.set h.0, sets_later old new g routes h.1)
-
 pub routes_later : (old new : Diagrams) → Extends old new → (routes : List Route) → IsRoutes old routes → IsRoutes new routes
 routes_later old new g routes h = record { sets = sets_later old new g routes h.sets; apart = h.apart }
-
-pub held_later : (old new : Diagrams) → Extends old new → (routes : List Route) → AllSets old routes → (word : ℕ) → exprs_under new routes word ≡ exprs_under old routes word
-held_later old new g [] h word = refl
-held_later old new g (route ∷ routes) h word =
-    let e = same_words old new g route.set h.0.within word in
-    let f = held_later old new g routes h.1 word in
-    (λ j. (if e j then route.expr ∷ [] else []) ++ f j)
 
 -- ---- the route of an expression gets more words
 
@@ -225,8 +206,3 @@ found_index expr seen out place d e f =
 
 pub not_found : (expr : ℕ) (seen out : List Route) → seen ≡ out → None ≡ position (λ route. route.expr == expr) seen → Fresh expr out
 not_found expr seen out e f = subst (λ l. Fresh expr l) e (subst (λ o. Finds expr seen o) (sym f) (finds_len expr seen))
-
-pub set_at : (book : Diagrams) (out : List Route) (place : ℕ) (route : Route) → slice_get out place ≡ Some route → AllSets book out → IsSet book route.set
-set_at book out place route at h =
-    let r = around out place route at in
-    sets_at book r.before r.after route (subst (λ l. AllSets book l) r.is h)

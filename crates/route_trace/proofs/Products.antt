@@ -1,5 +1,5 @@
 -- Routes of operators over operands that have routes.
-use Rattle.std.proofs.Common.{◌≡◌, ℕ, zero, suc, ◌+◌, ◌<◌, ◌≤◌, Bool, true, false, if◌then◌else◌, List, [], ◌∷◌, ◌++◌, map, take, length, Some, slice_get, refl, sym, ap, subst, ◌∙◌, length-append, arith}
+use Rattle.std.proofs.Common.{◌≡◌, ℕ, zero, suc, ◌+◌, ◌≤◌, Bool, true, false, if◌then◌else◌, List, [], ◌∷◌, ◌++◌, map, take, length, Some, slice_get, refl, sym, ap, subst, ◌∙◌, length-append, arith}
 use Rattle.std.proofs.lemmas.List.{append-nil, map-append}
 use Rattle.bit_bdd.specs.Diagrams.{Diagrams, has_word, Extends}
 use Rattle.net_model.specs.Exprs.{ExprModel, read, un, bin, cat, zext, sext, select, expr_width}
@@ -15,7 +15,8 @@ use Rattle.route_trace.specs.Inner.Heads.{LastFits, head_parts, head_expr}
 use Rattle.transfer_set.specs.Routes.{row, exprs_under, models_under, AllExprs, IsRouteTable}
 use Rattle.route_trace.specs.Inner.Routing.{AllFit}
 use Rattle.transfer_set.proofs.Exact.{held-append}
-use Rattle.route_trace.proofs.Merging.{held_later, routes_later}
+use Rattle.transfer_set.proofs.Collecting.{held_later}
+use Rattle.route_trace.proofs.Merging.{routes_later}
 
 -- ---- a pool that grows
 
@@ -121,8 +122,3 @@ pub fit_at : (head : Head) (pool : List Node) (routes : List Route) (i : ℕ) (r
 fit_at head pool [] i route at f = absurd (cc)
 fit_at head pool (x ∷ routes) zero route at f = (let e : x ≡ route = cc in subst (λ (r : Route). LastFits head (expr_of_id pool) (expr_width (expr_of_id pool r.expr))) e f.0)
 fit_at head pool (x ∷ routes) (suc i) route at f = fit_at head pool routes i route at f.1
-
-pub expr_at : (size : ℕ) (routes : List Route) (i : ℕ) (route : Route) → slice_get routes i ≡ Some route → AllExprs size routes → route.expr < size
-expr_at size [] i route at f = absurd (cc)
-expr_at size (x ∷ routes) zero route at f = (let e : x ≡ route = cc in subst (λ (r : Route). r.expr < size) e f.0)
-expr_at size (x ∷ routes) (suc i) route at f = expr_at size routes i route at f.1

@@ -10,7 +10,7 @@ use Rattle.net_front.proofs.FrontLaws.{taken_keeps}
 use Rattle.code_model.specs.declared.image.Image.{Image}
 use Rattle.code_model.specs.Places.{words_of}
 use Rattle.code_model.specs.ImageFits.{CodeFits, limits_of}
-use Rattle.code_model.specs.ImageLines.{IsImageText}
+use Rattle.viewed_text.specs.Texts.{IsImageRead}
 use Rattle.run_command.proofs.LimitLaws.{words_fit}
 use Rattle.net_model.specs.MemoryText.{IsMemoryText}
 use Rattle.run_command.specs.Runs.{IsLoaded, IsImageFile, IsNetRead, ShowsState, IsRunFault}
@@ -19,15 +19,15 @@ use Rattle.run_command.specs.declared.machine.RunFault.{RunFault}
 use Rattle.run_command.specs.declared.machine.RunFault.TheVariants.{NetText, Net, ImageText, MemText, Clash, Memory}
 
 -- the words of an image that fits the netlist fit it
-pub read_words_fit : (net image : List ℕ) (checked : Moded) → IsNetRead net checked → (said : Image) → IsImageText (limits_of checked.netlist) image said → AllByRecursion (WordFits checked.netlist) (words_of said)
+pub read_words_fit : (net image : List ℕ) (checked : Moded) → IsNetRead net checked → (said : Image) → IsImageRead checked.netlist image said → AllByRecursion (WordFits checked.netlist) (words_of said)
 read_words_fit net image checked read said is =
     subst (λ (n : Netlist). AllByRecursion (WordFits n) (words_of said)) (sym read.netlist)
-    (words_fit (taken_of read.entries) (taken_keeps read.entries read.file.file.keeps) said.words (subst (λ (n : Netlist). AllByRecursion (CodeFits (limits_of n).bits) said.words) read.netlist is.fits.words))
+    (words_fit (taken_of read.entries) (taken_keeps read.entries read.file.file.keeps) said.words (subst (λ (n : Netlist). AllByRecursion (CodeFits (limits_of n).bits) said.words) read.netlist is.is.fits.words))
 
 module _ (net image memory : List ℕ) (clocks : ℕ) (checked : Moded) (read : IsNetRead net checked) where
-  module _ (said : Image) (image_is : IsImageText (limits_of checked.netlist) image said) where
+  module _ (said : Image) (image_is : IsImageRead checked.netlist image said) where
     abbrev image_file : IsImageFile net image
-    image_file = record { entries = read.entries; said = said; net_file = read.file; image_text = subst (λ (n : Netlist). IsImageText (limits_of n) image said) read.netlist image_is }
+    image_file = record { entries = read.entries; said = said; net_file = read.file; image_text = subst (λ (n : Netlist). IsImageRead n image said) read.netlist image_is }
 
     module _ (start : State) (memory_is : IsMemoryText checked.netlist None memory start) where
       taken : IsLoaded net image memory (record { entries = read.entries; image = said; start = start })

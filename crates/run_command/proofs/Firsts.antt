@@ -18,9 +18,9 @@ use Rattle.net_model.proofs.BaseTexts.{fault_of_base, text_of_base}
 use Rattle.cycle_sim.specs.Moded.{IsHeldBy}
 use Rattle.cycle_sim.specs.Shown.{Shown}
 use Rattle.code_model.specs.declared.image.Image.{Image}
-use Rattle.code_model.specs.declared.limits.Limits.{Limits}
 use Rattle.code_model.specs.ImageFits.{limits_in, limits_of}
-use Rattle.code_model.specs.ImageLines.{IsImageRefusal, IsImageText, IsLineFault}
+use Rattle.viewed_text.specs.Texts.{IsImageRead, IsRemarkedRefusal}
+use Rattle.viewed_text.proofs.Same.{Shares, fault_shared, read_shared}
 use Rattle.state_text.specs.Settings.{IsStartState}
 use Rattle.state_text.specs.Shown.{state_text}
 use Rattle.run_command.specs.Inner.Runs.{IsImageFault, IsMemoryFaultOf, image_fault, memory_fault}
@@ -59,11 +59,14 @@ module _ (netlist first : Netlist) (e : first ≡ base_at netlist 0) where
   module _ (bytes : List ℕ) where
     -- ---- images
 
-    pub image_first : (image : Image) → IsImageText (limits_of first) bytes image → IsImageText (limits_of netlist) bytes image
-    image_first image h = subst (λ (limits : Limits). IsImageText limits bytes image) (limits_first netlist first e) h
+    shares : Shares first netlist
+    shares = record { limits = limits_first netlist first e; storages = storages_in netlist first 0 e }
 
-    pub image_fault_first : (fault : ParseFault) → IsImageRefusal (limits_of first) bytes fault → IsImageFault netlist bytes (image_fault fault)
-    image_fault_first (NoText at) h = subst (λ (limits : Limits). IsLineFault limits bytes at) (limits_first netlist first e) h
+    pub image_first : (image : Image) → IsImageRead first bytes image → IsImageRead netlist bytes image
+    image_first image h = read_shared first netlist shares bytes image h
+
+    pub image_fault_first : (fault : ParseFault) → IsRemarkedRefusal first bytes fault → IsImageFault netlist bytes (image_fault fault)
+    image_fault_first (NoText at) h = fault_shared first netlist shares bytes at h
     image_fault_first ParseMemory h = tt
 
     -- ---- memory texts

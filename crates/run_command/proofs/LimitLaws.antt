@@ -1,20 +1,19 @@
 -- The words of a checked netlist's code.
-use Rattle.std.proofs.Common.{◌≡◌, ℕ, zero, suc, ◌^◌, ◌<◌, ◌≤◌, List, [], ◌∷◌, length, map, refl, subst, arith}
+use Rattle.std.proofs.Common.{◌≡◌, ℕ, ◌≤◌, List, [], ◌∷◌, length, map, refl, subst, arith}
 use Rattle.std.specs.List.{AllByRecursion}
-use Rattle.std.specs.Prelude.{slice_get}
 use Rattle.net_model.specs.declared.hardware.Code.{Code}
 use Rattle.net_model.specs.declared.hardware.Netlist.{Netlist}
 use Rattle.net_model.specs.CheckedRules.{CodeKeeps, KeepsRules}
 use Rattle.net_model.specs.ModeRules.{base_at, KeepsModes}
 use Rattle.net_model.proofs.Bases.{base_of}
 use Rattle.net_model.proofs.ModeFaults.{first_keeps}
-use Rattle.net_model.specs.Nets.{code_bits}
 use Rattle.net_model.specs.Widths.{WordFits}
 use Rattle.net_model.specs.Written.{UnitsModel}
 use Rattle.net_front.specs.Fronts.{IsNetFile, taken_of}
 use Rattle.net_front.proofs.FrontLaws.{taken_keeps}
 use Rattle.code_model.specs.declared.image.Word.{Word}
 use Rattle.code_model.specs.ImageFits.{CodeFits, limits_in, limits_of}
+use Rattle.code_model.proofs.WordLimits.{word_fits}
 use Rattle.image_text.proofs.Whole.{Narrow}
 
 narrow_code : (netlist : Netlist) (codes : List Code) → AllByRecursion (CodeKeeps netlist) codes → AllByRecursion (λ (code : Code). code.words ≤ 65536) codes → length codes ≡ 1 → Narrow (limits_in codes)
@@ -35,16 +34,6 @@ narrow_moded netlist keeps =
 
 pub narrow_of : (net : List ℕ) (entries : UnitsModel) → IsNetFile net entries → Narrow (limits_of (taken_of entries))
 narrow_of net entries file = narrow_moded (taken_of entries) (taken_keeps entries file.keeps)
-
--- a word that fits the limits fits the netlist
-word_fits : (netlist : Netlist) (codes : List Code) → netlist.codes ≡ codes → length codes ≡ 1 → (word : ℕ) → word < 2 ^ (limits_in codes).bits → WordFits netlist word
-word_fits netlist [] is one word lt = absurd (omega arith)
-word_fits netlist (code ∷ d ∷ codes) is one word lt = absurd (omega arith)
-word_fits netlist (code ∷ []) is one word lt = record { fits = rw is by_code }
-  where
-    by_code : (k : ℕ) → 0 < code_bits (slice_get (code ∷ []) k) → word < 2 ^ code_bits (slice_get (code ∷ []) k)
-    by_code zero some = lt
-    by_code (suc k) some = absurd (omega arith)
 
 words_narrow : (netlist : Netlist) → length netlist.codes ≡ 1 → (words : List Word) → AllByRecursion (CodeFits (limits_of netlist).bits) words → AllByRecursion (WordFits netlist) (map (λ (w : Word). w.word) words)
 words_narrow netlist one [] fits = tt

@@ -8,11 +8,10 @@ use Rattle.net_front.specs.Taken.{IsTakenFile}
 use Rattle.net_front.proofs.FrontLaws.{taken_keeps}
 use Rattle.net_model.specs.MemoryText.{IsMemoryText, IsMemoryFault}
 use Rattle.run_command.specs.Runs.{Loaded, IsLoaded, IsImageFile, IsNoImageFile, IsNoMemoryFile, ClashedAt, Clashes, ShowsState, clocked, run_edition}
-use Rattle.run_command.proofs.ImageLaws.{one_fault, one_image}
+use Rattle.viewed_text.proofs.Once.{one_read, one_remarked_fault}
 use Rattle.run_command.proofs.LimitLaws.{narrow_of}
 use Rattle.run_command.proofs.StateLaws.{no_state_fault, one_moded_state, one_state_fault}
-use Rattle.code_model.specs.ImageFits.{limits_of}
-use Rattle.code_model.specs.ImageLines.{IsImageText, IsLineFault}
+use Rattle.viewed_text.specs.Texts.{IsImageRead, IsRemarkedFault}
 
 -- bytes say one list of items
 one_list : (net : List ℕ) (e f : UnitsModel) → IsTakenFile run_edition net e → IsTakenFile run_edition net f → f ≡ e
@@ -21,13 +20,13 @@ one_list net e f p q = q.file.says.only e p.file.says.text
 module _ (net image : List ℕ) where
   pub one_image_fault : (a b : ℕ) → IsNoImageFile net image a → IsNoImageFile net image b → a ≡ b
   one_image_fault a b p q =
-      one_fault (limits_of (taken_of p.entries)) image a b p.none
-      (subst (λ e. IsLineFault (limits_of (taken_of e)) image b) (one_list net p.entries q.entries p.net_file q.net_file) q.none)
+      one_remarked_fault (taken_of p.entries) image a b p.none
+      (subst (λ e. IsRemarkedFault (taken_of e) image b) (one_list net p.entries q.entries p.net_file q.net_file) q.none)
 
   pub no_image_fault : (at : ℕ) → IsImageFile net image → IsNoImageFile net image at → ⊥
   no_image_fault at p q =
-      let fault : IsLineFault (limits_of (taken_of p.entries)) image at = subst (λ e. IsLineFault (limits_of (taken_of e)) image at) (one_list net p.entries q.entries p.net_file q.net_file) q.none in
-      fault.whole p.said p.image_text
+      let fault : IsRemarkedFault (taken_of p.entries) image at = subst (λ e. IsRemarkedFault (taken_of e) image at) (one_list net p.entries q.entries p.net_file q.net_file) q.none in
+      fault.whole p.said p.image_text.remarks p.image_text.is
 
 pub one_memory_fault : (net memory : List ℕ) (a b : ℕ) → IsNoMemoryFile net memory a → IsNoMemoryFile net memory b → a ≡ b
 one_memory_fault net memory a b p q =
@@ -44,8 +43,8 @@ module _ (net image memory : List ℕ) where
   one_loaded : (x y : Loaded) → IsLoaded net image memory x → IsLoaded net image memory y → y ≡ x
   one_loaded x y p q =
       let e : y.entries ≡ x.entries = one_list net x.entries y.entries p.net_file q.net_file in
-      let i : y.image ≡ x.image = one_image (limits_of (taken_of x.entries)) image (narrow_of net x.entries p.net_file.file) y.image x.image
-      (subst (λ z. IsImageText (limits_of (taken_of z)) image y.image) e q.image_text) p.image_text in
+      let i : y.image ≡ x.image = one_read (taken_of x.entries) (narrow_of net x.entries p.net_file.file) image y.image x.image
+      (subst (λ z. IsImageRead (taken_of z) image y.image) e q.image_text) p.image_text in
       let s : y.start ≡ x.start = one_moded_state (taken_of x.entries) (taken_keeps x.entries p.net_file.file.keeps) None memory y.start x.start (subst (λ z. IsMemoryText (taken_of z) None memory y.start) e q.memory_text) p.memory_text in
       λ j. record { entries = e j; image = i j; start = s j }
 

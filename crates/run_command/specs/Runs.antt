@@ -11,8 +11,7 @@ use Rattle.net_front.specs.Fronts.{taken_of}
 use Rattle.net_front.specs.Taken.{BreaksTaken, IsTakenFile}
 use Rattle.code_model.specs.declared.image.Image.{Image}
 use Rattle.code_model.specs.Places.{words_of}
-use Rattle.code_model.specs.ImageFits.{limits_of}
-use Rattle.code_model.specs.ImageLines.{IsImageText, IsLineFault}
+use Rattle.viewed_text.specs.Texts.{IsImageRead, IsRemarkedFault}
 use Rattle.net_model.specs.MemoryText.{IsMemoryText, IsMemoryFault}
 use Rattle.state_text.specs.Shown.{state_text}
 use Rattle.run_command.specs.declared.machine.RunFault.{RunFault}
@@ -33,7 +32,7 @@ pub record Loaded : Type 0 where
 -- three texts say these
 pub record IsLoaded (net image memory : List ℕ) (loaded : Loaded) : Type 0 where
   pub net_file : IsTakenFile run_edition net loaded.entries
-  pub image_text : IsImageText (limits_of (taken_of loaded.entries)) image loaded.image
+  pub image_text : IsImageRead (taken_of loaded.entries) image loaded.image
   pub memory_text : IsMemoryText (taken_of loaded.entries) None memory loaded.start
 
 -- the first bytes are a netlist's, and the second an image's for it
@@ -41,7 +40,7 @@ pub record IsImageFile (net image : List ℕ) : Type 0 where
   pub entries : UnitsModel
   pub said : Image
   pub net_file : IsTakenFile run_edition net entries
-  pub image_text : IsImageText (limits_of (taken_of entries)) image said
+  pub image_text : IsImageRead (taken_of entries) image said
 
 -- this netlist, which was checked in its modes, is taken for the bytes
 pub record IsNetRead (net : List ℕ) (moded : Moded) : Type 0 where
@@ -53,7 +52,7 @@ pub record IsNetRead (net : List ℕ) (moded : Moded) : Type 0 where
 -- the words of the image that the bytes are
 pub record AreImageWords (netlist : Netlist) (image words : List ℕ) : Type 0 where
   pub said : Image
-  pub image_text : IsImageText (limits_of netlist) image said
+  pub image_text : IsImageRead netlist image said
   pub words_are : words ≡ words_of said
 
 -- ---- clocks
@@ -89,7 +88,7 @@ pub record Clashes (net image memory : List ℕ) (clocks : ℕ) (clash : Clashed
 pub record IsNoImageFile (net image : List ℕ) (at : ℕ) : Type 0 where
   pub entries : UnitsModel
   pub net_file : IsTakenFile run_edition net entries
-  pub none : IsLineFault (limits_of (taken_of entries)) image at
+  pub none : IsRemarkedFault (taken_of entries) image at
 
 -- the first bytes are a netlist's, and the second no memory text for it, which shows at this offset
 pub record IsNoMemoryFile (net memory : List ℕ) (at : ℕ) : Type 0 where

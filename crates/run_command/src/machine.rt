@@ -4,8 +4,7 @@ ghost use Rattle.std.specs.Prelude.{◌≡◌, ◌<◌, ◌^◌, IfOk, IfErr, No
 ghost use Rattle.std.specs.List.{AllByRecursion};
 ghost use Rattle.net_model.specs.NetFaults.{name_at};
 ghost use Rattle.net_model.specs.Widths.{IsState, WordFits};
-ghost use Rattle.code_model.specs.ImageFits.{limits_of};
-ghost use Rattle.code_model.specs.ImageLines.{IsImageText};
+ghost use Rattle.viewed_text.specs.Texts.{IsImageRead};
 ghost use Rattle.state_text.specs.Settings.{IsStartState};
 ghost use Rattle.net_model.specs.MemoryText.{IsMemoryText};
 ghost use Rattle.run_command.specs.Runs.{AreImageWords, IsNetRead, IsRunFault, ShowsState};
@@ -97,13 +96,13 @@ fn memory_fault(fault: ParseFault) -> RunFault
     }
 }
 
-// The image.
+// The image, whatever is remarked on it.
 fn image_of(alloc: Global, bytes: &[u8], modes: &Modes) -> Result<Image, RunFault>
     requires { length bytes.now < 2 ^ 32 }
-    ensures found { IfOk result (IsImageText (limits_of modes.now.netlist) bytes.now) }
+    ensures found { IfOk result (IsImageRead modes.now.netlist bytes.now) }
     ensures refused { IfErr result (IsImageFault modes.now.netlist bytes.now) }
 {
-    image_text::read(alloc, bytes, modes.first()).map_err(image_fault)
+    viewed_text::read_image(alloc, bytes, modes.first()).map_err(image_fault)
 }
 
 // The state that the netlist starts from.

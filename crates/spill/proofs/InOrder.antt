@@ -4,15 +4,15 @@ use Rattle.std.proofs.Common.{◌≡◌, ℕ, zero, suc, ◌+◌, ◌-◌, ◌<�
 use Rattle.std.specs.Prelude.{slice_get, remove, insert}
 use Rattle.std.specs.List.{AllZip, range_with_len}
 use Rattle.std.proofs.lemmas.List.FromFn.{length-range_with_len}
-use Rattle.rec_bits.proofs.Lists.{length_inserted}
 use Rattle.net_model.specs.Exprs.{ExprModel}
 use Rattle.form_model.specs.Forms.{FormModel, DestinationModel, temporary}
 use Rattle.form_model.specs.Matches.{LeafModel, operand, cut, MatchModel, taken}
 use Rattle.form_model.specs.CoverModels.{CoverModel, use_form, CoverOperandsModel, no_operands, operand_then, CoverCutsModel, no_cuts, cut_then}
 use Rattle.form_model.specs.Covers.{StockModel, Operand, home_destination, operands_of, cuts_of, IsOrderly, AreOrderly, AreCut}
-use Rattle.form_model.specs.Steps.{OperandCellsModel, CutCellsModel, cut_count, operands_count, cuts_count, operand_counts, cut_counts, operand_cells, cut_cells, cover_operand_cells, cover_cut_cells, operand_cells_or_none, form_or_none, match_or_none, form_at, match_at}
+use Rattle.form_model.specs.Steps.{OperandCellsModel, CutCellsModel, cut_count, operand_counts, cut_counts, operand_cells, cut_cells, cover_operand_cells, cover_cut_cells, operand_cells_or_none, form_or_none, match_or_none, form_at, match_at}
 use Rattle.spill.specs.Filled.{woven_cells, filled_cells, filled_in_operands, filled_by_cuts}
-use Rattle.form_model.proofs.Zips.{zip_put, zip_at, map-remove, get_mapped, length_out, total, total-insert}
+use Rattle.form_model.proofs.Zips.{zip_put, zip_at, map-remove, get_mapped, total}
+use Rattle.form_model.proofs.Counts.{operands_long, cuts_long, operands_total, cuts_total}
 
 pub range_joined : (a m n : ℕ) → range_with_len a m ++ range_with_len (a + m) n ≡ range_with_len a (m + n)
 range_joined a zero n = ap (λ b. range_with_len b n) (omega arith) ∙ ap (range_with_len a) (omega arith)
@@ -84,26 +84,6 @@ woven_in_order (cut shape tree ∷ leaves) ks (l ∷ ls) n xs (y ∷ ys) p q h g
     subst (λ m. woven_cells leaves xs ys ≡ range_with_len m (total ks + (total ls + length ls))) (omega arith) (woven_in_order leaves ks ls (n + l + 1) xs ys p (omega (arith, q)) h g.1) in
     ap (λ (z : List ℕ). z ++ woven_cells leaves xs ys) here ∙ ap (λ (z : List ℕ). range_with_len n (l + 1) ++ z) later
     ∙ range_joined n (l + 1) (total ks + (total ls + length ls)) ∙ ap (range_with_len n) (omega arith)
-
--- ---- counts of a cover
-
-operands_long : (stock : StockModel) (ps : CoverOperandsModel) (left : List Operand) → AreOrderly stock left ps → length (operand_counts ps) ≡ length left
-operands_long stock no_operands left c = sym (ap length c)
-operands_long stock (operand_then i p ps) left c =
-    let h = operands_long stock ps (remove left i) c.4 in
-    omega (arith, h, length_inserted (operand_counts ps) i (cut_count p), length_out left i c.0 c.1)
-
-cuts_long : (stock : StockModel) (cs : CoverCutsModel) (cuts : List ExprModel) → AreCut stock cuts cs → length (cut_counts cs) ≡ length cuts
-cuts_long stock no_cuts cuts c = sym (ap length c)
-cuts_long stock (cut_then p cs) cuts c = let h = cuts_long stock cs c.1 c.5 in omega (arith, h, ap length c.2)
-
-operands_total : (ps : CoverOperandsModel) → total (operand_counts ps) ≡ operands_count ps
-operands_total no_operands = refl
-operands_total (operand_then i p ps) = let h = operands_total ps in omega (arith, h, total-insert (operand_counts ps) i (cut_count p))
-
-cuts_total : (cs : CoverCutsModel) → total (cut_counts cs) + length (cut_counts cs) ≡ cuts_count cs
-cuts_total no_cuts = refl
-cuts_total (cut_then p cs) = let h = cuts_total cs in omega (arith, h)
 
 -- ---- the form at the root
 

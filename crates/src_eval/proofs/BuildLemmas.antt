@@ -4,6 +4,7 @@ use Rattle.std.proofs.lemmas.Option.{slice_get_past}
 use Rattle.std.proofs.lemmas.Bool.Decides.{nat_tests}
 use Rattle.std.specs.declared.alloc.Global.{Global}
 use Rattle.std.specs.declared.vec.Vec.{Vec}
+use Rattle.rec_bits.proofs.Booleans.{or_right, or_left}
 use Rattle.src_model.specs.declared.program.Var.{Var as Declared}
 use Rattle.src_model.specs.declared.program.SrcTest.{SrcTest}
 use Rattle.src_model.specs.declared.program.Stmt.{Stmt, If, While, For}
@@ -67,21 +68,13 @@ test_kept old new ext at h = by (slice_get old at) refl h
     by None is t = absurd (cc t)
     by (Some s) is t = ap is_test (ext at (within old at s is) ∙ is) ∙ t
 
-or_true : (a b : Bool) → b ≡ true → IsTrue (a || b)
-or_true true b h = refl
-or_true false b h = h
-
 -- where a run may go on, in a longer list
 pub behind_kept : (old new : List Step) → Extends old new → (end end' next : ℕ) → end' ≤ end → IsBehind old end next → IsBehind new end' next
 behind_kept old new ext end end' next le h = by (nat_le end next) (is_test (slice_get old next)) refl refl h
   where
     by : (a b : Bool) → nat_le end next ≡ a → is_test (slice_get old next) ≡ b → IsTrue (a || b) → IsBehind new end' next
-    by true b is t h = (let e : nat_le end' next ≡ true = grind (arith, nat_tests, is, le) in or_first (nat_le end' next) (is_test (slice_get new next)) e)
-      where
-        or_first : (a b : Bool) → a ≡ true → IsTrue (a || b)
-        or_first true b h = refl
-        or_first false b h = absurd (cc h)
-    by false true is t h = or_true (nat_le end' next) (is_test (slice_get new next)) (test_kept old new ext next t)
+    by true b is t h = (let e : nat_le end' next ≡ true = grind (arith, nat_tests, is, le) in or_left (nat_le end' next) (is_test (slice_get new next)) e)
+    by false true is t h = or_right (nat_le end' next) (is_test (slice_get new next)) (test_kept old new ext next t)
     by false false is t h = absurd (cc h)
 
 -- so a step before the end goes on well
@@ -89,12 +82,8 @@ goes_on : (steps : List Step) (at end next : ℕ) → at < end → IsBehind step
 goes_on steps at end next lt h = by (nat_le end next) (is_test (slice_get steps next)) refl h
   where
     by : (a b : Bool) → nat_le end next ≡ a → IsTrue (a || b) → IsTrue (nat_lt at next || b)
-    by true b is h = (let e : nat_lt at next ≡ true = grind (arith, nat_tests, is, lt) in or_first (nat_lt at next) b e)
-      where
-        or_first : (a b : Bool) → a ≡ true → IsTrue (a || b)
-        or_first true b h = refl
-        or_first false b h = absurd (cc h)
-    by false b is h = or_true (nat_lt at next) b h
+    by true b is h = (let e : nat_lt at next ≡ true = grind (arith, nat_tests, is, lt) in or_left (nat_lt at next) b e)
+    by false b is h = or_right (nat_lt at next) b h
 
 fits_kept : (word : ℕ) (old new : List Step) → Extends old new → (at : ℕ) (o : Option Step) → FitsStep word old at o → FitsStep word new at o
 fits_kept word old new ext at None f = tt
@@ -167,14 +156,10 @@ asking_one word old new question yes_to no_to p all =
 pub behind_test : (word : ℕ) (old new : List Step) (question : List ℕ → Bool) (yes_to no_to end : ℕ) → One word old new (IsAsking question yes_to no_to) → IsBehind new end (length old)
 behind_test word old new question yes_to no_to end one =
     let h = one.has new (λ i lt. refl) in
-    or_true (nat_le end (length old)) (is_test (slice_get new (length old))) (ap is_test h.there ∙ asks_test question yes_to no_to h.step h.is)
+    or_right (nat_le end (length old)) (is_test (slice_get new (length old))) (ap is_test h.there ∙ asks_test question yes_to no_to h.step h.is)
 
 pub behind_itself : (steps : List Step) (end next : ℕ) → end ≤ next → IsBehind steps end next
-behind_itself steps end next le = let e : nat_le end next ≡ true = grind (arith, nat_tests, le) in or_first (nat_le end next) (is_test (slice_get steps next)) e
-  where
-    or_first : (a b : Bool) → a ≡ true → IsTrue (a || b)
-    or_first true b h = refl
-    or_first false b h = absurd (cc h)
+behind_itself steps end next le = let e : nat_le end next ≡ true = grind (arith, nat_tests, le) in or_left (nat_le end next) (is_test (slice_get steps next)) e
 
 -- ---- statements
 

@@ -226,7 +226,7 @@ test_fits word left right h =
     (sided word left.shape right.shape left.at right.at f.0 (is_literal left.shape) (is_literal right.shape) refl refl
     (λ a w. wide_is word a left.at left.shape w) (λ a w. wide_is word a right.at right.shape w) f.1).sides
 
-not_broken : (b : Bool) (at : ℕ) → offsets_if b at ≡ [] → b ≡ false
+pub not_broken : (b : Bool) (at : ℕ) → offsets_if b at ≡ [] → b ≡ false
 not_broken false at h = refl
 not_broken true at h = absurd (cc h)
 

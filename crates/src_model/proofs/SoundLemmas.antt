@@ -1,5 +1,5 @@
 -- A program that keeps its rules: what is known of each of its statements.
-use Rattle.std.proofs.Common.{ℕ, ◌≡◌, ◌+◌, ◌^◌, Bool, true, false, not, is_some, nat_lt, nat_le, List, [], ◌∷◌, ◌++◌, Option, Some, None, refl}
+use Rattle.std.proofs.Common.{ℕ, ◌≡◌, ◌+◌, ◌^◌, false, not, is_some, nat_lt, nat_le, List, [], ◌∷◌, ◌++◌, Option, Some, None, refl}
 use Rattle.rec_bits.specs.Faults.{offsets_if, least}
 use Rattle.rec_bits.proofs.Faults.{least_none}
 use Rattle.src_model.specs.declared.program.Var.{Var as Declared}
@@ -13,14 +13,10 @@ use Rattle.src_model.specs.Loops.{Round, place_shape, breaks, breaks_in, breaks_
 use Rattle.src_model.specs.Rules.{names, indexes, first_fault}
 use Rattle.src_model.specs.Inner.Fitting.{FitsStmt, FitsStmts, FitsElse}
 use Rattle.src_model.proofs.Bounds.{rules_hold}
-use Rattle.src_model.proofs.FittingLemmas.{program_fits}
+use Rattle.src_model.proofs.FittingLemmas.{program_fits, not_broken}
 use Rattle.src_model.specs.Inside.{Known}
 use Rattle.src_model.specs.Inner.Sound.{Frees, Sound, SoundIn, SoundElse}
 use Rattle.src_model.proofs.RangeLemmas.{kept}
-
-not_broken : (b : Bool) (at : ℕ) → offsets_if b at ≡ [] → b ≡ false
-not_broken false at h = refl
-not_broken true at h = absurd (cc h)
 
 no_least : (xs : List ℕ) → is_some (least xs) ≡ false → xs ≡ []
 no_least xs h = by (least xs) refl h

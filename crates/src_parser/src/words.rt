@@ -1,11 +1,19 @@
 //! The words that tokens stand for.
 
 ghost use Rattle.std.specs.Prelude.{◌≡◌};
+ghost use Rattle.std.specs.Str.{bytes_eq};
 ghost use Rattle.src_parser.specs.Words.{call_of, compare_of, operator_of, sign_of, signed_of, symbol_of};
 
 use lexing::Vocabulary;
 use rec_bits::Op2;
 use src_model::{Call, Cmp, Key, Symbol, Word};
+
+/// Whether a text is this word.
+fn is_word(text: &[u8], word: &[u8]) -> bool
+    ensures { result ≡ bytes_eq text.now word.now }
+{
+    text == word
+}
 
 /// The signs that compare.
 fn compare_of(text: &[u8]) -> Option<Cmp>
@@ -26,13 +34,13 @@ fn compare_of(text: &[u8]) -> Option<Cmp>
 fn signed_of(text: &[u8]) -> Option<Cmp>
     ensures { result ≡ signed_of text.now }
 {
-    if text == b"slt".as_slice() {
+    if is_word(text, b"slt") {
         Some(Cmp::Slt)
-    } else if text == b"sle".as_slice() {
+    } else if is_word(text, b"sle") {
         Some(Cmp::Sle)
-    } else if text == b"sgt".as_slice() {
+    } else if is_word(text, b"sgt") {
         Some(Cmp::Sgt)
-    } else if text == b"sge".as_slice() {
+    } else if is_word(text, b"sge") {
         Some(Cmp::Sge)
     } else {
         None
@@ -61,11 +69,11 @@ fn operator_of(text: &[u8]) -> Option<Op2>
 fn call_of(text: &[u8]) -> Option<Call>
     ensures { result ≡ call_of text.now }
 {
-    if text == b"zext".as_slice() {
+    if is_word(text, b"zext") {
         Some(Call::Zext)
-    } else if text == b"sext".as_slice() {
+    } else if is_word(text, b"sext") {
         Some(Call::Sext)
-    } else if text == b"low".as_slice() {
+    } else if is_word(text, b"low") {
         Some(Call::Low)
     } else {
         None
@@ -76,17 +84,17 @@ fn call_of(text: &[u8]) -> Option<Call>
 fn symbol_of(text: &[u8]) -> Option<Symbol>
     ensures { result ≡ symbol_of text.now }
 {
-    if text == b"var".as_slice() {
+    if is_word(text, b"var") {
         Some(Symbol::Var)
-    } else if text == b"if".as_slice() {
+    } else if is_word(text, b"if") {
         Some(Symbol::If)
-    } else if text == b"else".as_slice() {
+    } else if is_word(text, b"else") {
         Some(Symbol::Else)
-    } else if text == b"while".as_slice() {
+    } else if is_word(text, b"while") {
         Some(Symbol::While)
-    } else if text == b"for".as_slice() {
+    } else if is_word(text, b"for") {
         Some(Symbol::For)
-    } else if text == b"to".as_slice() {
+    } else if is_word(text, b"to") {
         Some(Symbol::To)
     } else {
         None

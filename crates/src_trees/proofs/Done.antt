@@ -3,6 +3,7 @@ use Rattle.std.proofs.Common.{ℕ, ◌≡◌, ◌<◌, ◌+◌, ◌^◌, ◌==�
 use Rattle.std.specs.Prelude.{int_lt}
 use Rattle.std.proofs.lemmas.Bool.{ltb-true}
 use Rattle.std.proofs.lemmas.Nat.{pow_pos}
+use Rattle.std.proofs.Math.Bool.{not-not}
 use Rattle.rec_bits.proofs.Booleans.{both}
 use Rattle.rec_bits.specs.Operators.{apply2_of, bit_of, signed_of}
 use Rattle.rec_bits.specs.declared.operator.Op2.TheVariants.{Add, Sub}
@@ -26,7 +27,7 @@ use Rattle.src_model.proofs.CellLemmas.{plain_var}
 use Rattle.src_trees.proofs.Cells.{seen_below, seen_put}
 use Rattle.src_trees.proofs.Meant.{Placed, tree_width, plain_placed, plain_seen, addressed, meant}
 use Rattle.src_model.proofs.ValueLemmas.{value_fits}
-use Rattle.src_trees.proofs.Values.{lt_not_le, int_lt_not_le, not_not, difference_zero}
+use Rattle.src_trees.proofs.Values.{lt_not_le, int_lt_not_le, difference_zero}
 
 -- the trees of a comparison have its answer
 pub compared_are : (cells : List ℕ) (cmp : Cmp) (w : ℕ) (x y : ExprModel) (a b : ℕ) → tree_value cells x ≡ a → tree_value cells y ≡ b → expr_width x ≡ w → expr_width y ≡ w → a < 2 ^ w → b < 2 ^ w
@@ -34,8 +35,8 @@ pub compared_are : (cells : List ℕ) (cmp : Cmp) (w : ℕ) (x y : ExprModel) (a
 compared_are cells Eq w x y a b ea eb wx wy la lb =
     ((λ j. bit_of (ea j == eb j)), ((λ j. bit_of (apply2_of Sub (wx j) (ea j) (eb j) == 0)) ∙ ap bit_of (difference_zero w a b la lb), tt))
 compared_are cells Ne w x y a b ea eb wx wy la lb = (
-  (λ j. bit_of (ea j == eb j)) ∙ ap bit_of (sym (not_not (a == b))),
-  ((λ j. bit_of (apply2_of Sub (wx j) (ea j) (eb j) == 0)) ∙ ap bit_of (difference_zero w a b la lb) ∙ ap bit_of (sym (not_not (a == b))), tt),
+  (λ j. bit_of (ea j == eb j)) ∙ ap bit_of (sym (not-not (a == b))),
+  ((λ j. bit_of (apply2_of Sub (wx j) (ea j) (eb j) == 0)) ∙ ap bit_of (difference_zero w a b la lb) ∙ ap bit_of (sym (not-not (a == b))), tt),
 )
 compared_are cells Lt w x y a b ea eb wx wy la lb = ((λ j. bit_of (nat_lt (ea j) (eb j))), tt)
 compared_are cells Le w x y a b ea eb wx wy la lb = ((λ j. bit_of (nat_lt (eb j) (ea j))) ∙ lt_not_le a b, tt)

@@ -1,5 +1,5 @@
 -- The machine stands at each place of a flow for what the program passes from there on.
-use Rattle.std.proofs.Common.{ℕ, zero, suc, ◌≡◌, ◌≤◌, ◌<◌, ◌+◌, ◌-◌, ◌^◌, Bool, true, false, not, nat_lt, if◌then◌else◌, List, [], ◌∷◌, ◌++◌, length, Some, None, refl, sym, ◌∙◌, ap, subst, arith, slice_get, slice_index, ◌==◌, eq-eqb, ◌⊎◌, inl, inr}
+use Rattle.std.proofs.Common.{ℕ, zero, suc, ◌≡◌, ◌≤◌, ◌<◌, ◌+◌, ◌-◌, ◌^◌, Bool, true, false, not, nat_lt, if◌then◌else◌, List, [], ◌∷◌, ◌++◌, length, Some, None, refl, sym, ◌∙◌, ap, subst, arith, slice_get, slice_index, ◌==◌, eq-eqb, ◌⊎◌, inl, inr, pow_pos}
 use Rattle.std.proofs.lemmas.Bool.Decides.{nat_tests}
 use Rattle.rec_bits.specs.Operators.{bit_of}
 use Rattle.rec_bits.proofs.Booleans.{or_left, or_right, and_from}
@@ -72,7 +72,7 @@ asked_enters cmp tree yes_to no_to = by (holds_at_one cmp)
     by true = or_right (yes_to == no_to) (no_to == no_to) (eq-eqb no_to no_to refl)
     by false = or_left (no_to == no_to) (yes_to == no_to) (eq-eqb no_to no_to refl)
 
-entry_within : (o : ElseModel) (at : ℕ) → else_entry o at ≤ at + places_else o
+pub entry_within : (o : ElseModel) (at : ℕ) → else_entry o at ≤ at + places_else o
 entry_within without at = omega arith
 entry_within (otherwise list) at = omega arith
 
@@ -511,17 +511,13 @@ module _ (netlist : Netlist) (image : Image) (mem : MemoryMap) (temps : ℕ) (va
 
 -- ---- the whole program
 
-some_pow : (n : ℕ) → 0 < 2 ^ n
-some_pow zero = omega arith
-some_pow (suc n) = let h = some_pow n in omega (arith, h)
-
 pub start_fits : (netlist : Netlist) (image : Image) (m : MemoryMap) (temps : ℕ) (vars : List Declared) (s : State) → memory_width netlist.storages ≡ m.word → HoldsVars temps vars m → HasCellRoom temps m (memory_size netlist.storages) → image.places ≡ m.places
     → IsState netlist s → FitsStore m.word vars (store_in image s)
 start_fits netlist image m temps vars s wide held room places h =
     subst (λ ps. FitsStore m.word vars (cells_at ps s.cells)) (sym places)
     (record {
       all_cells = seen_length temps m.places vars s.cells held.stand (subst (λ (n : ℕ). LieWithin temps n m.places) (sym (h.cells InMemory)) room.within);
-      below = seen_below (2 ^ m.word) m.places s.cells (some_pow m.word) (λ c. subst (λ w. slice_index s.cells c < 2 ^ w) wide (h.fits.cells InMemory c));
+      below = seen_below (2 ^ m.word) m.places s.cells (pow_pos m.word) (λ c. subst (λ w. slice_index s.cells c < 2 ^ w) wide (h.fits.cells InMemory c));
     })
 
 -- at the end a clock leads to the end

@@ -14,10 +14,6 @@ lt_not_le a b = grind (arith, nat_tests)
 pub int_lt_not_le : (a b : ℤ) → bit_of (int_lt b a) ≡ bit_of (not (int_le a b))
 int_lt_not_le a b = grind (arith, ints)
 
-pub not_not : (b : Bool) → not (not b) ≡ b
-not_not true = refl
-not_not false = refl
-
 -- two numbers are one where their difference is 0
 pub difference_zero : (width a b : ℕ) → a < 2 ^ width → b < 2 ^ width → (apply2_of Sub width a b == 0) ≡ (a == b)
 difference_zero width a b la lb = by (a == b) refl

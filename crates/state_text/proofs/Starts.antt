@@ -6,15 +6,15 @@ use Rattle.std.proofs.Math.Nat.{pow-le-pow_right}
 use Rattle.std.specs.Prelude.{slice_get}
 use Rattle.rec_bits.proofs.Lists.{zeros_at}
 use Rattle.net_model.specs.declared.hardware.Netlist.{Netlist}
-use Rattle.net_model.specs.declared.hardware.Storage.{Storage}
 use Rattle.net_model.specs.declared.states.State.{State}
 use Rattle.net_model.specs.declared.hardware.Space.{Space}
 use Rattle.net_model.specs.declared.hardware.Space.TheVariants.{Memory as InMemory, File as InFile}
 use Rattle.net_model.proofs.Blanks.{blank_state}
 use Rattle.net_model.proofs.Spaces.{by_space}
 use Rattle.net_model.specs.Widths.{StateFits}
-use Rattle.net_model.specs.Nets.{counter_of, size_in, width_in, held, storage_bits, IsRegister}
+use Rattle.net_model.specs.Nets.{counter_of, size_in, width_in, held, storage_bits}
 use Rattle.net_model.specs.MemoryText.{blank, with_cell}
+use Rattle.net_model.proofs.Storages.{register_within}
 use Rattle.state_text.specs.declared.setting.Setting.{Setting}
 use Rattle.state_text.specs.declared.setting.Setting.TheVariants.{Entry, Cell}
 use Rattle.state_text.specs.Settings.{IsStartState}
@@ -77,11 +77,6 @@ keeps_start netlist still s (Cell space address value) h f = record {
   };
   counter = ap (λ (regs : List ℕ). get_or regs (counter_of netlist.codes) 0) (regs_stay s space address value) ∙ h.counter;
 }
-
-pub register_within : (storages : List Storage) (id : ℕ) → IsRegister (slice_get storages id) → id < length storages
-register_within [] id h = absurd h
-register_within (s ∷ storages) zero h = omega arith
-register_within (s ∷ storages) (suc id) h = omega (arith, register_within storages id h)
 
 pub is_within : (netlist : Netlist) (still : Option ℕ) (s : State) (setting : Setting) → IsStartState netlist s → SettingFits netlist still setting → IsWithin s setting
 is_within netlist still s (Entry id value) h f = omega (arith, register_within netlist.storages id f.0, h.state.regs)

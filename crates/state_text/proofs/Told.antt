@@ -28,11 +28,11 @@ use Rattle.net_model.specs.CheckedRules.{KeepsRules}
 use Rattle.net_model.specs.MemoryText.{IsOneWord, SetsRegister, SetsCell, SetsNothing, SetsLine}
 use Rattle.net_model.specs.Texts.{name_in, name_of, space_name}
 use Rattle.net_model.proofs.Memories.{size_found, width_found, few_sizes}
+use Rattle.net_model.proofs.Storages.{register_within}
 use Rattle.state_text.specs.declared.setting.Setting.{Setting}
 use Rattle.state_text.specs.declared.setting.Setting.TheVariants.{Entry, Cell}
 use Rattle.state_text.specs.Inner.Settings.{below, number_below, named_at, entry_of, cell_of, array_at, setting_at, setting_for, setting_of, with_setting, SettingFits, is_number}
 use Rattle.state_text.proofs.Rooms.{storage_narrow}
-use Rattle.state_text.proofs.Starts.{register_within}
 
 -- ---- words
 

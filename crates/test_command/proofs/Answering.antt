@@ -1,11 +1,9 @@
 -- From what the parts give to the text of a self-test, and to the refusals.
-use Rattle.std.proofs.Common.{◌≡◌, ℕ, zero, suc, ◌*◌, ◌-◌, ◌<◌, ◌≤◌, ◌^◌, List, [], ◌∷◌, Some, None, length, refl, sym, ◌∙◌, ap, arith, subst}
-use Rattle.std.specs.List.{AllByRecursion}
+use Rattle.std.proofs.Common.{◌≡◌, ℕ, zero, suc, ◌*◌, ◌-◌, ◌<◌, ◌≤◌, ◌^◌, List, [], Some, None, length, refl, sym, ◌∙◌, ap, arith, subst}
 use Rattle.std.proofs.Math.Nat.{mul-le-mul_left, mul-le-mul_right}
 use Rattle.rec_bits.specs.Counts.{capped}
 use Rattle.net_model.specs.CheckedRules.{KeepsRules, code_size}
 use Rattle.net_model.specs.Clock.{Reached, Run, run}
-use Rattle.net_model.specs.declared.hardware.Code.{Code}
 use Rattle.net_model.specs.declared.hardware.Netlist.{Netlist}
 use Rattle.net_model.specs.Nets.{memory_size}
 use Rattle.net_model.specs.Patterns.{Pattern}
@@ -15,6 +13,7 @@ use Rattle.form_model.specs.Forms.{FormModel}
 use Rattle.fault_sim.specs.Reports.{bits_of, faults_of}
 use Rattle.fault_sim.proofs.Counting.{faults_counted}
 use Rattle.code_gen.specs.Refusals.{IsStepless}
+use Rattle.code_gen.proofs.Fitting.{codes_small}
 use Rattle.self_test.specs.Cells.{test_need, test_jobs}
 use Rattle.test_code.specs.Codes.{IsCodeOf}
 use Rattle.test_code.specs.declared.code.TestCode.{TestCode}
@@ -68,12 +67,8 @@ module _ (netlist : Netlist) (patterns : List Pattern) (forms : List FormModel) 
 
 -- ---- how many evaluations
 
-few_words : (codes : List Code) → AllByRecursion (λ (code : Code). code.words ≤ 65536) codes → code_size codes ≤ 65536
-few_words [] h = omega arith
-few_words (code ∷ codes) h = h.0
-
 pub few_words_of : (netlist : Netlist) (order : List ℕ) → KeepsRules netlist order → code_size netlist.codes ≤ 65536
-few_words_of netlist order keeps = few_words netlist.codes keeps.formed.limits.words
+few_words_of netlist order keeps = codes_small netlist.codes keeps.formed.limits.words
 
 -- by the bits of the nets
 pub counted : (netlist : Netlist) (bits words : ℕ) → bits ≡ bits_of netlist.nets → 2 * bits * words * length netlist.nets ≡ test_count netlist words

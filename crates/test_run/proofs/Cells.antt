@@ -1,5 +1,5 @@
 -- The state in which a self-test starts fits the netlist.
-use Rattle.std.proofs.Common.{◌≡◌, ℕ, zero, suc, ◌+◌, ◌-◌, ◌^◌, ◌%◌, ◌<◌, List, [], ◌∷◌, ◌++◌, append_assoc, length, replicate, slice_index, refl, ap, arith, sym, ◌∙◌}
+use Rattle.std.proofs.Common.{◌≡◌, ℕ, zero, suc, ◌+◌, ◌-◌, ◌^◌, ◌%◌, ◌<◌, List, [], ◌∷◌, ◌++◌, append_assoc, length, slice_index, refl, ap, arith, sym, ◌∙◌}
 use Rattle.std.proofs.lemmas.Nat.{pow_pos}
 use Rattle.std.proofs.lemmas.List.{length-replicate}
 use Rattle.std.proofs.Math.Nat.{mod-lt}
@@ -8,12 +8,8 @@ use Rattle.net_model.specs.declared.hardware.Space.TheVariants.{File as InFile}
 use Rattle.net_model.proofs.Spaces.{by_space}
 use Rattle.net_model.specs.Nets.{held, memory_size, memory_width, size_in, width_in}
 use Rattle.net_model.specs.Widths.{IsState}
+use Rattle.net_model.proofs.Blanks.{zeros_below}
 use Rattle.test_run.specs.Starts.{cells_from, test_start}
-
-zeros_below : (n k w : ℕ) → slice_index (replicate n 0) k < 2 ^ w
-zeros_below zero k w = pow_pos w
-zeros_below (suc n) zero w = pow_pos w
-zeros_below (suc n) (suc k) w = zeros_below n k w
 
 cells_below : (w at n a : ℕ) → slice_index (cells_from w at n) a < 2 ^ w
 cells_below w at zero a = pow_pos w
@@ -31,10 +27,10 @@ start_fits netlist = record {
       (length-cells_from (memory_width netlist.storages) 0 (memory_size netlist.storages))
       (length-replicate (size_in InFile netlist.storages) 0);
   fits = record {
-    regs = λ id. zeros_below (length netlist.storages) id _;
+    regs = λ id. zeros_below (length netlist.storages) _ id;
     cells = by_space (λ space. (a : ℕ) → slice_index (held (test_start netlist) space) a < 2 ^ width_in space netlist.storages)
         (cells_below (memory_width netlist.storages) 0 (memory_size netlist.storages))
-        (λ a. zeros_below (size_in InFile netlist.storages) a _);
+        (λ a. zeros_below (size_in InFile netlist.storages) _ a);
   };
 }
 

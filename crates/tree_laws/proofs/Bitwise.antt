@@ -1,7 +1,7 @@
 -- and, or, xor and not: as sums, with extended operands, and of one another.
 use Rattle.std.proofs.Common.{◌≡◌, ℕ, ◌+◌, ◌-◌, ◌*◌, ◌%◌, ◌^◌, ◌<◌, ◌≤◌, ◌==◌, Bool, true, false, cond, ◌&&◌, ◌||◌, inl, inr, sym, ◌∙◌, ap, arith, subst, refl}
 use Rattle.std.proofs.Math.Nat.{mod-eq_of_lt, add-mod_right, div-eq_of_lt-le}
-use Rattle.std.proofs.lemmas.Bool.{eq-eqb, ne_eqb, cases_eq}
+use Rattle.std.proofs.lemmas.Bool.{eq-eqb, ne_eqb, cases_eq, le-leb, lt-leb}
 use Rattle.std.proofs.lemmas.Nat.{pow_pos, and_mask, and_comm, or_comm, xor_comm, and_assoc, or_lt, xor_lt, and_le_l, and_le_r, and-not, and_block, or_block, xor_block}
 use Rattle.std.specs.Prelude.{bit_and, bit_or, bit_xor}
 use Rattle.std.specs.Int.Bits.{or_add_and, xor_add_and, and_self, or_self, xor_self, and_zero_r, or_zero_r, xor_zero_r, xor_assoc}
@@ -9,7 +9,6 @@ use Rattle.rec_bits.specs.Operators.{apply1_of, apply2_of, bit_of, is_negative_o
 use Rattle.rec_bits.specs.declared.operator.Op1.TheVariants.{Not}
 use Rattle.rec_bits.specs.declared.operator.Op2.TheVariants.{Add, Sub, And, Or, Xor, Eq}
 use Rattle.rec_bits.proofs.Bits.{double_half}
-use Rattle.tree_laws.proofs.KnownTests.{le_holds, le_fails}
 use Rattle.tree_laws.proofs.Low.{pow_split}
 use Rattle.tree_laws.proofs.Signs.{sign_cases}
 
@@ -179,10 +178,10 @@ top_of w a g lt = elim (sign_cases w a) as (λ _. IsTop w a (is_negative_of w a)
 pub top_is : (w a : ℕ) (t : Bool) → IsTop w a t → is_negative_of w a ≡ t
 top_is w a true p =
     let high : 2 ^ (w - 1) ≤ a = (let e = p.is in let o : 1 * 2 ^ (w - 1) ≡ 2 ^ (w - 1) = omega arith in omega (arith, e, o)) in
-    le_holds (2 ^ (w - 1)) a high
+    le-leb (2 ^ (w - 1)) a high
 top_is w a false p =
     let low : a < 2 ^ (w - 1) = (let e = p.is in let l = p.low in let o : 0 * 2 ^ (w - 1) ≡ 0 = omega arith in omega (arith, e, l, o)) in
-    le_fails (2 ^ (w - 1)) a low
+    lt-leb (2 ^ (w - 1)) a low
 
 -- the top bit of a value is that of the operands' top bits
 pub bitwise_top : (f : ℕ → ℕ → ℕ) (g : Bool → Bool → Bool) → IsBitwise f g → (w a b : ℕ) (s t : Bool) → IsTop w a s → IsTop w b t → IsTop w (f a b) (g s t)

@@ -4,14 +4,14 @@ use Rattle.std.proofs.Common.{◌≡◌, ℕ, ◌+◌, ◌-◌, ◌*◌, ◌/◌
 use Rattle.std.specs.Prelude.{pos, ◌-ℤ◌, ◌<ℤ◌, ◌≤ℤ◌, ℤ, int_lt, bit_and, bit_xor}
 use Rattle.std.proofs.Math.Nat.{mod-eq_of_lt, add-mod_right, mod-lt}
 use Rattle.std.proofs.lemmas.Int.{ints}
-use Rattle.std.proofs.lemmas.Bool.{cases_lt, eq-eqb, ne_eqb, lt-ltb}
+use Rattle.std.proofs.lemmas.Bool.{cases_lt, eq-eqb, ne_eqb, lt-ltb, le-ltb, le-leb, lt-leb}
 use Rattle.std.proofs.lemmas.Nat.{pow_pos, and_block, xor_block, and_mask, div-mul-add, mod_below}
 use Rattle.std.specs.Int.Bits.{and_zero_r, xor_zero_r}
 use Rattle.rec_bits.specs.Operators.{apply1_of, apply2_of, bit_of, is_negative_of, sext_of, signed_of, slice_of}
 use Rattle.rec_bits.specs.declared.operator.Op1.TheVariants.{Not}
 use Rattle.rec_bits.specs.declared.operator.Op2.TheVariants.{And, Eq, Lts, Ltu, Shl, Sub, Xor}
 use Rattle.rec_bits.proofs.Bits.{double_half}
-use Rattle.tree_laws.proofs.KnownTests.{lt_fails, lt_moved, le_holds, le_fails}
+use Rattle.tree_laws.proofs.KnownTests.{lt_moved}
 use Rattle.tree_laws.proofs.Shifts.{slice_shl}
 use Rattle.tree_laws.proofs.Compared.{not_ltu, not_gtu}
 use Rattle.tree_laws.proofs.Signs.{power_up, sign_cases, sext_high, sext_small}
@@ -24,17 +24,17 @@ shifted w a = cond (is_negative_of w a) (a - 2 ^ (w - 1)) (a + 2 ^ (w - 1))
 
 pub shifted_high : (w a : ℕ) → 2 ^ (w - 1) ≤ a → shifted w a ≡ a - 2 ^ (w - 1)
 unfolding shifted
-shifted_high w a h = ap (λ t. cond t (a - 2 ^ (w - 1)) (a + 2 ^ (w - 1))) (le_holds (2 ^ (w - 1)) a h)
+shifted_high w a h = ap (λ t. cond t (a - 2 ^ (w - 1)) (a + 2 ^ (w - 1))) (le-leb (2 ^ (w - 1)) a h)
 
 pub shifted_small : (w a : ℕ) → a < 2 ^ (w - 1) → shifted w a ≡ a + 2 ^ (w - 1)
 unfolding shifted
-shifted_small w a h = ap (λ t. cond t (a - 2 ^ (w - 1)) (a + 2 ^ (w - 1))) (le_fails (2 ^ (w - 1)) a h)
+shifted_small w a h = ap (λ t. cond t (a - 2 ^ (w - 1)) (a + 2 ^ (w - 1))) (lt-leb (2 ^ (w - 1)) a h)
 
 signed_high : (w a : ℕ) → 2 ^ (w - 1) ≤ a → signed_of w a ≡ pos a -ℤ pos (2 ^ w)
-signed_high w a h = ap (λ t. cond t (pos a -ℤ pos (2 ^ w)) (pos a)) (le_holds (2 ^ (w - 1)) a h)
+signed_high w a h = ap (λ t. cond t (pos a -ℤ pos (2 ^ w)) (pos a)) (le-leb (2 ^ (w - 1)) a h)
 
 signed_small : (w a : ℕ) → a < 2 ^ (w - 1) → signed_of w a ≡ pos a
-signed_small w a h = ap (λ t. cond t (pos a -ℤ pos (2 ^ w)) (pos a)) (le_fails (2 ^ (w - 1)) a h)
+signed_small w a h = ap (λ t. cond t (pos a -ℤ pos (2 ^ w)) (pos a)) (lt-leb (2 ^ (w - 1)) a h)
 
 signed_shifted : (w a : ℕ) → 1 ≤ w → signed_of w a ≡ pos (shifted w a) -ℤ pos (2 ^ (w - 1))
 signed_shifted w a g = elim (sign_cases w a) as (λ _. signed_of w a ≡ pos (shifted w a) -ℤ pos (2 ^ (w - 1))) [
@@ -57,7 +57,7 @@ int_fails x y h = grind (arith, ints)
 lt_apart : (m n h : ℕ) → int_lt (pos m -ℤ pos h) (pos n -ℤ pos h) ≡ nat_lt m n
 lt_apart m n h = elim (cases_lt m n) as (λ _. int_lt (pos m -ℤ pos h) (pos n -ℤ pos h) ≡ nat_lt m n) [
   | inl l ↦ (let s : (pos m -ℤ pos h) <ℤ (pos n -ℤ pos h) = omega (arith, ints, l) in int_holds (pos m -ℤ pos h) (pos n -ℤ pos h) s ∙ sym (lt-ltb m n l))
-  | inr g ↦ (let s : (pos n -ℤ pos h) ≤ℤ (pos m -ℤ pos h) = omega (arith, ints, g) in int_fails (pos m -ℤ pos h) (pos n -ℤ pos h) s ∙ sym (lt_fails m n g))
+  | inr g ↦ (let s : (pos n -ℤ pos h) ≤ℤ (pos m -ℤ pos h) = omega (arith, ints, g) in int_fails (pos m -ℤ pos h) (pos n -ℤ pos h) s ∙ sym (le-ltb m n g))
 ]
 
 pub lts_shifted : (w a b : ℕ) → 1 ≤ w → apply2_of Lts w a b ≡ bit_of (nat_lt (shifted w a) (shifted w b))
@@ -78,7 +78,7 @@ lts_top w d g lt =
       | inl s ↦ (let l : shifted w d < 2 ^ (w - 1) = (let e = shifted_high w d s.1 in let p = double_half w g in omega (arith, e, p, lt, s.1)) in
           ap bit_of (lt-ltb (shifted w d) (2 ^ (w - 1)) l ∙ sym s.0))
       | inr s ↦ (let l : 2 ^ (w - 1) ≤ shifted w d = (let e = shifted_small w d s.1 in omega (arith, e)) in
-          ap bit_of (lt_fails (shifted w d) (2 ^ (w - 1)) l ∙ sym s.0))
+          ap bit_of (le-ltb (shifted w d) (2 ^ (w - 1)) l ∙ sym s.0))
     ]
 
 -- lts-sign: the top bit
@@ -111,18 +111,18 @@ module _ (x p q : ℕ) (g : 1 ≤ x) (lp : p < 2 ^ x) (lq : q < 2 ^ x) where
   pub negative_near : p < q → q - p ≤ 2 ^ (x - 1) → is_negative_of x (apply2_of Sub x p q) ≡ true
   negative_near h k =
       let l : 2 ^ (x - 1) ≤ p + 2 ^ x - q = omega (arith, double_half x g, h, k) in
-      ap (is_negative_of x) (around_from h) ∙ le_holds (2 ^ (x - 1)) (p + 2 ^ x - q) l
+      ap (is_negative_of x) (around_from h) ∙ le-leb (2 ^ (x - 1)) (p + 2 ^ x - q) l
 
   pub negative_far : q ≤ p → 2 ^ (x - 1) ≤ p - q → is_negative_of x (apply2_of Sub x p q) ≡ true
-  negative_far h k = ap (is_negative_of x) (down_from h) ∙ le_holds (2 ^ (x - 1)) (p - q) k
+  negative_far h k = ap (is_negative_of x) (down_from h) ∙ le-leb (2 ^ (x - 1)) (p - q) k
 
   pub positive_near : q ≤ p → p - q < 2 ^ (x - 1) → is_negative_of x (apply2_of Sub x p q) ≡ false
-  positive_near h k = ap (is_negative_of x) (down_from h) ∙ le_fails (2 ^ (x - 1)) (p - q) k
+  positive_near h k = ap (is_negative_of x) (down_from h) ∙ lt-leb (2 ^ (x - 1)) (p - q) k
 
   pub positive_far : p < q → 2 ^ (x - 1) < q - p → is_negative_of x (apply2_of Sub x p q) ≡ false
   positive_far h k =
       let l : p + 2 ^ x - q < 2 ^ (x - 1) = omega (arith, double_half x g, h, k, lq) in
-      ap (is_negative_of x) (around_from h) ∙ le_fails (2 ^ (x - 1)) (p + 2 ^ x - q) l
+      ap (is_negative_of x) (around_from h) ∙ lt-leb (2 ^ (x - 1)) (p + 2 ^ x - q) l
 
   difference_below : apply2_of Sub x p q < 2 ^ x
   difference_below = mod_below (p + 2 ^ x - q) (2 ^ x) (pow_pos x)
@@ -131,7 +131,7 @@ module _ (x p q : ℕ) (g : 1 ≤ x) (lp : p < 2 ^ x) (lq : q < 2 ^ x) where
   pub near_sign : q ≤ p + 2 ^ (x - 1) → p < q + 2 ^ (x - 1) → is_negative_of x (apply2_of Sub x p q) ≡ nat_lt p q
   near_sign h k = elim (cases_lt p q) as (λ _. is_negative_of x (apply2_of Sub x p q) ≡ nat_lt p q) [
     | inl l ↦ (let n : q - p ≤ 2 ^ (x - 1) = omega (arith, h) in negative_near l n ∙ sym (lt-ltb p q l))
-    | inr m ↦ (let n : p - q < 2 ^ (x - 1) = omega (arith, k, m) in positive_near m n ∙ sym (lt_fails p q m))
+    | inr m ↦ (let n : p - q < 2 ^ (x - 1) = omega (arith, k, m) in positive_near m n ∙ sym (le-ltb p q m))
   ]
 
 pub wide_room : (w x : ℕ) → 1 ≤ w → w < x → 2 ^ w ≤ 2 ^ (x - 1)
@@ -170,7 +170,7 @@ above_by_sign : (w a b : ℕ) → a < 2 ^ (w - 1) → 2 ^ (w - 1) ≤ b → 1 �
 above_by_sign w a b l h g lt =
     let e = shifted_small w a l in
     let f = shifted_high w b h in
-    lt_fails (shifted w a) (shifted w b) (omega (arith, e, f, double_half w g, lt))
+    le-ltb (shifted w a) (shifted w b) (omega (arith, e, f, double_half w g, lt))
 
 same_high : (w a b : ℕ) → 2 ^ (w - 1) ≤ a → 2 ^ (w - 1) ≤ b → nat_lt (shifted w a) (shifted w b) ≡ nat_lt a b
 same_high w a b h k =
@@ -178,7 +178,7 @@ same_high w a b h k =
     let f = shifted_high w b k in
     elim (cases_lt a b) as (λ _. nat_lt (shifted w a) (shifted w b) ≡ nat_lt a b) [
       | inl l ↦ lt-ltb (shifted w a) (shifted w b) (omega (arith, e, f, l, h, k)) ∙ sym (lt-ltb a b l)
-      | inr l ↦ lt_fails (shifted w a) (shifted w b) (omega (arith, e, f, l, h, k)) ∙ sym (lt_fails a b l)
+      | inr l ↦ le-ltb (shifted w a) (shifted w b) (omega (arith, e, f, l, h, k)) ∙ sym (le-ltb a b l)
     ]
 
 same_small : (w a b : ℕ) → a < 2 ^ (w - 1) → b < 2 ^ (w - 1) → nat_lt (shifted w a) (shifted w b) ≡ nat_lt a b
@@ -187,7 +187,7 @@ same_small w a b h k =
     let f = shifted_small w b k in
     elim (cases_lt a b) as (λ _. nat_lt (shifted w a) (shifted w b) ≡ nat_lt a b) [
       | inl l ↦ lt-ltb (shifted w a) (shifted w b) (omega (arith, e, f, l)) ∙ sym (lt-ltb a b l)
-      | inr l ↦ lt_fails (shifted w a) (shifted w b) (omega (arith, e, f, l)) ∙ sym (lt_fails a b l)
+      | inr l ↦ le-ltb (shifted w a) (shifted w b) (omega (arith, e, f, l)) ∙ sym (le-ltb a b l)
     ]
 
 -- lts-diff: the sign of a difference that has room
@@ -330,7 +330,7 @@ module _ (w a b : ℕ) (g : 1 ≤ w) (p : a < 2 ^ w) (q : b < 2 ^ w) where
           mixes true true (is_negative_of w (apply2_of Sub w a b)) true s.0 t.0 b q t.0 refl ∙ kept (is_negative_of w (apply2_of Sub w a b)) true ∙ near_gap s.1 t.1
       by (inl s) (inr t) =
           let order : b ≤ a = omega (arith, s.1, t.1) in
-          mixes true false (is_negative_of w (apply2_of Sub w a b)) false s.0 t.0 b q t.0 refl ∙ taken (is_negative_of w (apply2_of Sub w a b)) false ∙ sym (lt_fails a b order)
+          mixes true false (is_negative_of w (apply2_of Sub w a b)) false s.0 t.0 b q t.0 refl ∙ taken (is_negative_of w (apply2_of Sub w a b)) false ∙ sym (le-ltb a b order)
       by (inr s) (inl t) =
           let order : a < b = omega (arith, s.1, t.1) in
           mixes false true (is_negative_of w (apply2_of Sub w a b)) true s.0 t.0 b q t.0 refl ∙ taken (is_negative_of w (apply2_of Sub w a b)) true ∙ sym (lt-ltb a b order)
@@ -457,9 +457,9 @@ not_negative w a g lt =
     lts_top w (2 ^ w - 1 - a) g l
     ∙ elim (sign_cases w a) as (λ _. bit_of (is_negative_of w (2 ^ w - 1 - a)) ≡ 1 - bit_of (is_negative_of w a)) [
       | inl s ↦ (let low : 2 ^ w - 1 - a < 2 ^ (w - 1) = omega (arith, d, s.1, pow_pos (w - 1)) in
-          ap bit_of (le_fails (2 ^ (w - 1)) (2 ^ w - 1 - a) low) ∙ sym (ap (λ t. 1 - bit_of t) s.0))
+          ap bit_of (lt-leb (2 ^ (w - 1)) (2 ^ w - 1 - a) low) ∙ sym (ap (λ t. 1 - bit_of t) s.0))
       | inr s ↦ (let high : 2 ^ (w - 1) ≤ 2 ^ w - 1 - a = omega (arith, d, s.1) in
-          ap bit_of (le_holds (2 ^ (w - 1)) (2 ^ w - 1 - a) high) ∙ sym (ap (λ t. 1 - bit_of t) s.0))
+          ap bit_of (le-leb (2 ^ (w - 1)) (2 ^ w - 1 - a) high) ∙ sym (ap (λ t. 1 - bit_of t) s.0))
     ]
     ∙ ap (λ n. 1 - n) (sym (lts_top w a g lt))
 

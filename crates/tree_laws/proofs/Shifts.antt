@@ -1,5 +1,5 @@
 -- slice-shift, shift-slice, shift-wide, shift-shift, zext-and.
-use Rattle.std.proofs.lemmas.Bool.{cases_lt, lt-ltb}
+use Rattle.std.proofs.lemmas.Bool.{cases_lt, lt-ltb, le-leb, lt-leb}
 use Rattle.std.proofs.Common.{◌≡◌, ℕ, ◌+◌, ◌-◌, ◌*◌, ◌/◌, ◌%◌, ◌^◌, ◌<◌, ◌≤◌, sym, ◌∙◌, ap, arith, subst, Bool, true, false, cond, lit<, inl, inr}
 use Rattle.std.proofs.Math.Nat.{mod-eq_of_lt, mul_assoc, div-add-mod, mod-lt, div-eq_of_lt-le, div-le_self, mul-div_cancel, mul-le-mul_left, pow-le-pow_right}
 use Rattle.std.proofs.Math.Pow.{shr_lt, shr_mod}
@@ -7,7 +7,6 @@ use Rattle.std.proofs.lemmas.Nat.{shr-shr, and_mask, pow_pos, mul-mod_first, pow
 use Rattle.rec_bits.specs.Operators.{apply2_of, slice_of, shr_of, is_negative_of, sext_of, sar_of}
 use Rattle.rec_bits.specs.declared.operator.Op2.TheVariants.{And, Or, Xor, Shl, Shr, Sar}
 use Rattle.tree_laws.proofs.Ring.{ring_not}
-use Rattle.tree_laws.proofs.KnownTests.{le_holds, le_fails}
 use Rattle.tree_laws.proofs.Low.{slice_low, low_low, pow_split, same_slice_of}
 
 pub shr_is : (w a k : ℕ) → k < w → shr_of w a k ≡ a / 2 ^ k
@@ -192,11 +191,11 @@ sar_slice w a k h lt =
     let b : 2 ^ w - 1 - a < 2 ^ w = omega (arith, lt) in
     elim (cases_lt a (2 ^ (w - 1))) as (λ _. sar_of w a k ≡ sext_of (slice_of a (w - 1) k) (w - k) w) [
       | inl l ↦ (let low : q < 2 ^ (w - k - 1) = quotient_below m (2 ^ (w - k - 1)) q (a % m) a ea (subst (λ x. a < x) half l) in
-          ap (λ t. cond t (2 ^ w - 1 - shr_of w (2 ^ w - 1 - a) k) (shr_of w a k)) (le_fails (2 ^ (w - 1)) a l) ∙ shr_is w a k h
-          ∙ sym (ap (λ x. sext_of x (w - k) w) sl ∙ ap (λ t. cond t (q + (2 ^ w - n)) q) (le_fails (2 ^ (w - k - 1)) q low)))
+          ap (λ t. cond t (2 ^ w - 1 - shr_of w (2 ^ w - 1 - a) k) (shr_of w a k)) (lt-leb (2 ^ (w - 1)) a l) ∙ shr_is w a k h
+          ∙ sym (ap (λ x. sext_of x (w - k) w) sl ∙ ap (λ t. cond t (q + (2 ^ w - n)) q) (lt-leb (2 ^ (w - k - 1)) q low)))
       | inr l ↦ (let high : 2 ^ (w - k - 1) ≤ q = quotient_above m (2 ^ (w - k - 1)) q (a % m) a ea r (subst (λ x. x ≤ a) half l) in
           let sum : 2 ^ w - 1 - (n - 1 - q) ≡ q + (2 ^ w - n) = omega (arith, top, le) in
-          ap (λ t. cond t (2 ^ w - 1 - shr_of w (2 ^ w - 1 - a) k) (shr_of w a k)) (le_holds (2 ^ (w - 1)) a l)
+          ap (λ t. cond t (2 ^ w - 1 - shr_of w (2 ^ w - 1 - a) k) (shr_of w a k)) (le-leb (2 ^ (w - 1)) a l)
           ∙ ap (λ x. 2 ^ w - 1 - x) (shr_is w (2 ^ w - 1 - a) k h ∙ not_shr w a k h lt) ∙ sum
-          ∙ sym (ap (λ x. sext_of x (w - k) w) sl ∙ ap (λ t. cond t (q + (2 ^ w - n)) q) (le_holds (2 ^ (w - k - 1)) q high)))
+          ∙ sym (ap (λ x. sext_of x (w - k) w) sl ∙ ap (λ t. cond t (q + (2 ^ w - n)) q) (le-leb (2 ^ (w - k - 1)) q high)))
     ]

@@ -1,12 +1,11 @@
 -- Top bits: extensions with copies of the top bit and shifts to the right, by what the top bit is.
 use Rattle.std.proofs.Common.{lit<, ◌≡◌, ℕ, ◌+◌, ◌-◌, ◌*◌, ◌/◌, ◌%◌, ◌^◌, ◌<◌, ◌≤◌, true, false, cond, inl, inr, ◌⊎◌, sym, ◌∙◌, ap, arith, subst}
 use Rattle.std.proofs.Math.Nat.{mod-eq_of_lt, div-le_self, pow-le-pow_right, add-mul-mod_self_left}
-use Rattle.std.proofs.lemmas.Bool.{cases_lt}
+use Rattle.std.proofs.lemmas.Bool.{cases_lt, le-leb, lt-leb}
 use Rattle.std.proofs.lemmas.Nat.{pow_pos, shr-shr, and_mask}
 use Rattle.rec_bits.specs.Operators.{apply2_of, is_negative_of, sar_of, sext_of, shr_of, slice_of}
 use Rattle.rec_bits.specs.declared.operator.Op2.TheVariants.{And, Mul, Shr}
 use Rattle.rec_bits.proofs.Bits.{double_half}
-use Rattle.tree_laws.proofs.KnownTests.{le_holds, le_fails}
 use Rattle.tree_laws.proofs.Low.{slice_low, pow_split, sext_low}
 use Rattle.tree_laws.proofs.Shifts.{shr_is, shr_slice, slice_sar, slice_shl}
 use Rattle.tree_laws.proofs.Units.{mul_shl}
@@ -21,24 +20,24 @@ power_up i j h = pow-le-pow_right (lit< tt) h
 -- whether the top bit is 1, with what that says
 pub sign_cases : (w a : ℕ) → ((is_negative_of w a ≡ true) × (2 ^ (w - 1) ≤ a)) ⊎ ((is_negative_of w a ≡ false) × (a < 2 ^ (w - 1)))
 sign_cases w a = elim (cases_lt a (2 ^ (w - 1))) [
-  | inl l ↦ inr (le_fails (2 ^ (w - 1)) a l, l)
-  | inr g ↦ inl (le_holds (2 ^ (w - 1)) a g, g)
+  | inl l ↦ inr (lt-leb (2 ^ (w - 1)) a l, l)
+  | inr g ↦ inl (le-leb (2 ^ (w - 1)) a g, g)
 ]
 
 pub sext_high : (w x a : ℕ) → 2 ^ (w - 1) ≤ a → sext_of a w x ≡ a + (2 ^ x - 2 ^ w)
-sext_high w x a h = ap (λ t. cond t (a + (2 ^ x - 2 ^ w)) a) (le_holds (2 ^ (w - 1)) a h)
+sext_high w x a h = ap (λ t. cond t (a + (2 ^ x - 2 ^ w)) a) (le-leb (2 ^ (w - 1)) a h)
 
 pub sext_small : (w x a : ℕ) → a < 2 ^ (w - 1) → sext_of a w x ≡ a
-sext_small w x a h = ap (λ t. cond t (a + (2 ^ x - 2 ^ w)) a) (le_fails (2 ^ (w - 1)) a h)
+sext_small w x a h = ap (λ t. cond t (a + (2 ^ x - 2 ^ w)) a) (lt-leb (2 ^ (w - 1)) a h)
 
 pub sar_high : (w a k : ℕ) → k < w → 2 ^ (w - 1) ≤ a → sar_of w a k ≡ 2 ^ w - 1 - (2 ^ w - 1 - a) / 2 ^ k
 sar_high w a k h g =
-    ap (λ t. cond t (2 ^ w - 1 - shr_of w (2 ^ w - 1 - a) k) (shr_of w a k)) (le_holds (2 ^ (w - 1)) a g)
+    ap (λ t. cond t (2 ^ w - 1 - shr_of w (2 ^ w - 1 - a) k) (shr_of w a k)) (le-leb (2 ^ (w - 1)) a g)
     ∙ ap (λ n. 2 ^ w - 1 - n) (shr_is w (2 ^ w - 1 - a) k h)
 
 pub sar_small : (w a k : ℕ) → k < w → a < 2 ^ (w - 1) → sar_of w a k ≡ a / 2 ^ k
 sar_small w a k h l =
-    ap (λ t. cond t (2 ^ w - 1 - shr_of w (2 ^ w - 1 - a) k) (shr_of w a k)) (le_fails (2 ^ (w - 1)) a l) ∙ shr_is w a k h
+    ap (λ t. cond t (2 ^ w - 1 - shr_of w (2 ^ w - 1 - a) k) (shr_of w a k)) (lt-leb (2 ^ (w - 1)) a l) ∙ shr_is w a k h
 
 -- ---- slice-ext: a slice that ends past the number
 pub slice_zext_past : (a w i : ℕ) → w ≤ i → a < 2 ^ w → slice_of a i 0 ≡ a

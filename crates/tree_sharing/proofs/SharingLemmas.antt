@@ -62,7 +62,7 @@ same_root (Sext a w) = and_from (nat_eq a a) (nat_eq w w) (number_self a) (numbe
 
 -- ---- one root for equal trees, and one tree for a root
 
-one_first : (nodes : List ExprModel) (t : ExprModel) (a b : ℕ) → IsFirst nodes t a → IsFirst nodes t b → a ≡ b
+pub one_first : (nodes : List ExprModel) (t : ExprModel) (a b : ℕ) → IsFirst nodes t a → IsFirst nodes t b → a ≡ b
 one_first nodes t a b p q = let h : a ≤ b = p.least b q.at in let k : b ≤ a = q.least a p.at in omega arith
 
 one_root : (nodes : List ExprModel) (a b : Root) (t : ExprModel) → IsRootOf nodes a t → IsRootOf nodes b t → a ≡ b

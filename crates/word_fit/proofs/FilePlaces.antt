@@ -2,6 +2,7 @@
 use Rattle.std.proofs.Common.{◌≡◌, ℕ, zero, suc, ◌<◌, ◌≤◌, ◌==◌, nat_lt, if◌then◌else◌, Bool, true, false, List, [], ◌∷◌, length, Option, Some, None, refl, sym, ◌∙◌, ap, arith, subst}
 use Rattle.std.specs.List.{slice_get}
 use Rattle.std.proofs.lemmas.Bool.{eqb-true, eqb-false, ltb-true, ltb-false}
+use Rattle.rec_bits.proofs.Lists.{slice_get_past}
 use Rattle.net_model.specs.declared.hardware.Space.{Space}
 use Rattle.net_model.specs.declared.hardware.Space.TheVariants.{Memory as InMemory, File as InFile}
 use Rattle.net_model.specs.declared.hardware.Storage.{Storage}
@@ -71,14 +72,8 @@ file_at storages id = by (nat_lt (place_in InFile storages) (length storages))
     by true e = cc
     by false e = absurd (cc)
 
--- what is past the last storage keeps
-past_none : (storages : List Storage) (id : ℕ) → length storages ≤ id → slice_get storages id ≡ None
-past_none [] id ge = refl
-past_none (s ∷ storages) zero ge = absurd (omega (arith, ge))
-past_none (s ∷ storages) (suc id) ge = past_none storages id (omega (arith, ge))
-
 pub past_keeps : (netlist : Netlist) (word id : ℕ) → length netlist.storages ≤ id → transfer_at netlist word id ≡ keep
-past_keeps netlist word id ge = ap (λ (o : Option Storage). transfer_of netlist word id o) (past_none netlist.storages id ge)
+past_keeps netlist word id ge = ap (λ (o : Option Storage). transfer_of netlist word id o) (slice_get_past netlist.storages id ge)
 
 -- ---- what is told of the storage of a space's place
 

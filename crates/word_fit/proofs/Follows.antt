@@ -12,6 +12,7 @@ use Rattle.net_model.specs.Exprs.{ExprModel, TransferModel, keep, write, write_a
 use Rattle.net_model.specs.Meaning.{mean}
 use Rattle.form_model.specs.Effects.{Operation, apply_transfer, apply_operation, apply_all, group_effect, transfer_writes, writes, is_store, same_space}
 use Rattle.form_model.specs.Live.{Regs, group_writes}
+use Rattle.form_model.proofs.Spaces.{space_is}
 use Rattle.word_fit.specs.Fits.{group_stores, stores_in}
 use Rattle.word_fit.specs.Groups.{Follows}
 
@@ -40,12 +41,6 @@ put_other n InFile InFile i x e = absurd (true≢false e)
 pub put_regs : (n : State) (space : Space) (i x : ℕ) → (with_cell n space i x).regs ≡ n.regs
 put_regs n InMemory i x = refl
 put_regs n InFile i x = refl
-
-pub space_is : (space other : Space) → same_space space other ≡ true → space ≡ other
-space_is InMemory InMemory e = refl
-space_is InMemory InFile e = absurd (true≢false (sym e))
-space_is InFile InMemory e = absurd (true≢false (sym e))
-space_is InFile InFile e = refl
 
 set_again : (xs : List ℕ) (i x : ℕ) → slice_set (slice_set xs i x) i x ≡ slice_set xs i x
 set_again [] zero x = refl

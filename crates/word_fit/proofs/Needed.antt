@@ -11,7 +11,7 @@ live_from : (a l w : Bool) → a ≡ true → (a || (l && not w)) ≡ true
 live_from true l w e = refl
 live_from false l w e = absurd (true≢false (sym e))
 
-live_kept : (a l w : Bool) → l ≡ true → w ≡ false → (a || (l && not w)) ≡ true
+pub live_kept : (a l w : Bool) → l ≡ true → w ≡ false → (a || (l && not w)) ≡ true
 live_kept true l w e f = refl
 live_kept false true true e f = absurd (true≢false f)
 live_kept false true false e f = refl

@@ -80,7 +80,7 @@ module _ (netlist : Netlist) (order : List ℕ) (keeps : KeepsRules netlist orde
       record { last = r.last; is = r.is 0; state = r.state; counter = r.counter; agree = r.agree }
 
 -- one step in each group does what the steps do one after the other
-effect-singles : {A : Type 0} (m : A → Operation) (xs : List A) (s : State) → groups_effect m (singles xs) s ≡ steps_effect m xs s
+pub effect-singles : {A : Type 0} (m : A → Operation) (xs : List A) (s : State) → groups_effect m (singles xs) s ≡ steps_effect m xs s
 effect-singles m [] s = refl
 effect-singles m (x ∷ xs) s = effect-singles m xs (apply_operation (m x) s s)
 

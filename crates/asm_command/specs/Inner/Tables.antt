@@ -5,7 +5,7 @@ use Rattle.net_model.specs.declared.hardware.Netlist.{Netlist}
 use Rattle.isa_extract.specs.declared.netlists.Isa.{Isa}
 use Rattle.code_model.specs.declared.image.Image.{Image}
 use Rattle.code_model.specs.ImageFits.{limits_of}
-use Rattle.code_model.specs.ImageLines.{IsImageText, IsLineFault}
+use Rattle.viewed_text.specs.Texts.{IsImageRead, IsRemarkedFault}
 use Rattle.code_model.specs.ImageText.{image_text}
 use Rattle.code_model.specs.Places.{words_of}
 use Rattle.transfer_set.specs.Rows.{row_patterns}
@@ -101,7 +101,7 @@ pub record IsOutOf (machine : Machine) (text out : List ℕ) : Type 0 where
 
 -- why the image's bytes were not taken; nothing is said where memory ran out
 abbrev pub IsImageFault : Netlist → List ℕ → DisFault → Type 0
-IsImageFault netlist image (dis.ImageText at) = IsLineFault (limits_of netlist) image at
+IsImageFault netlist image (dis.ImageText at) = IsRemarkedFault netlist image at
 IsImageFault netlist image dis.Memory = Unit {0}
 IsImageFault netlist image _ = ⊥
 
@@ -114,5 +114,5 @@ pub record IsShownOf (machine : Machine) (image : Image) (text : List ℕ) : Typ
 -- and the image is that of the bytes
 pub record IsShownIn (machine : Machine) (bytes text : List ℕ) : Type 0 where
   pub image : Image
-  pub read : IsImageText (limits_of machine.netlist) bytes image
+  pub read : IsImageRead machine.netlist bytes image
   pub shown : IsShownOf machine image text

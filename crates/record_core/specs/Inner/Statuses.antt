@@ -1,11 +1,13 @@
 -- What the fault of a part is told as.
-use Rattle.std.specs.Prelude.{None, Some}
 use Rattle.net_front.specs.declared.front.NetRefusal.{NetRefusal}
 use Rattle.net_front.specs.declared.front.NetRefusal.TheVariants.{Text as NoNet, Fault as BrokenNet, Memory as NetMemory}
 use Rattle.compile_command.specs.declared.fault.CompileFault.{CompileFault}
 use Rattle.compile_command.specs.declared.fault.CompileFault.TheVariants.{NetText as CompileNetText, Net as CompileNet, SrcText as CompileSrcText, Src as CompileSrc, DataFull as NoRoom, NoStep as Stepless, NoJump as Jumpless, NoCover as Uncovered, NoReach as Beyond, ImageFull as Overlong, Memory as CompileMemory}
 use Rattle.dual_command.specs.declared.fault.DualFault.{DualFault}
 use Rattle.dual_command.specs.declared.fault.DualFault.TheVariants.{PartText as NoPart, Compile as NoCode}
+use Rattle.check_command.specs.declared.fault.CheckFault.{CheckFault}
+use Rattle.check_command.specs.declared.fault.CheckFault.TheVariants as checking
+use Rattle.check_command.specs.declared.fault.CheckStop.{CheckStop}
 use Rattle.asm_command.specs.declared.fault.AsmFault.{AsmFault}
 use Rattle.asm_command.specs.declared.fault.AsmFault.TheVariants as assembling
 use Rattle.asm_command.specs.declared.fault.DisFault.{DisFault}
@@ -16,9 +18,11 @@ use Rattle.run_command.specs.declared.machine.RunFault.{RunFault}
 use Rattle.run_command.specs.declared.machine.RunFault.TheVariants.{NetText as RunNetText, Net as RunNet, ImageText as NoImage, MemText as NoMemoryText, Clash as Clashed, Memory as RunMemory}
 use Rattle.rec_bits.specs.declared.fault.ParseFault.{ParseFault}
 use Rattle.rec_bits.specs.declared.fault.ParseFault.TheVariants.{Text as NoState, Memory as NoStateMemory}
+use Rattle.record_core.specs.Stages.{name_told}
 use Rattle.record_core.specs.declared.status.Status.{Status}
-use Rattle.record_core.specs.declared.status.Status.TheVariants.{NetText, Net, SrcText, Src, NoStep, NoJump, NoCover, DataFull, NoReach, ImageFull, Memory, ImageText, MemText, Clash, AsmText, AsmWord, TestLimit, PartText}
+use Rattle.record_core.specs.declared.status.Status.TheVariants.{NetText, Net, SrcText, Src, NoStep, NoJump, NoCover, DataFull, NoReach, ImageFull, Memory, ImageText, MemText, Clash, AsmText, AsmWord, TestLimit, PartText, Rule, Follow}
 use Rattle.record_core.specs.declared.stop.Stop.{Stop}
+use Rattle.record_core.specs.declared.stop.Told.TheVariants.{Nothing, Bus}
 
 -- of the compiler
 abbrev pub compile_status : CompileFault → Status
@@ -75,15 +79,30 @@ test_status (testing.ImageFull len size bound) = ImageFull len size bound
 test_status (testing.TestLimit count bound) = TestLimit count bound
 test_status testing.Memory = Memory
 
--- a status that is about no bus
-abbrev pub without_bus : Status → Stop
-without_bus status = record { status = status; bus = None }
+-- of the check of an image
+abbrev pub check_status : CheckFault → Status
+check_status (checking.NetText at) = NetText at
+check_status (checking.Net broken) = Net broken
+check_status (checking.SrcText at) = SrcText at
+check_status (checking.Src broken) = Src broken
+check_status (checking.ImageText at) = ImageText at
+check_status (checking.Rule broken) = Rule broken
+check_status (checking.Follow origin cause) = Follow origin cause
+check_status checking.Memory = Memory
+
+-- a status with nothing beside it
+abbrev pub alone : Status → Stop
+alone status = record { status = status; told = Nothing }
 
 -- of a run
 abbrev pub run_stop : RunFault → Stop
-run_stop (RunNetText at) = without_bus (NetText at)
-run_stop (RunNet fault) = without_bus (Net fault)
-run_stop (NoImage at) = without_bus (ImageText at)
-run_stop (NoMemoryText at) = without_bus (MemText at)
-run_stop (Clashed cycle bus at) = record { status = Clash cycle bus; bus = Some at }
-run_stop RunMemory = without_bus Memory
+run_stop (RunNetText at) = alone (NetText at)
+run_stop (RunNet fault) = alone (Net fault)
+run_stop (NoImage at) = alone (ImageText at)
+run_stop (NoMemoryText at) = alone (MemText at)
+run_stop (Clashed cycle bus at) = record { status = Clash cycle bus; told = Bus at }
+run_stop RunMemory = alone Memory
+
+-- of the check of an image, with the name that is told of it
+abbrev pub check_stop : CheckStop → Stop
+check_stop found = record { status = check_status found.fault; told = name_told found.name }

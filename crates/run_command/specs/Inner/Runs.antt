@@ -10,8 +10,7 @@ use Rattle.net_front.specs.declared.front.NetRefusal.{NetRefusal}
 use Rattle.net_front.specs.declared.front.NetRefusal.TheVariants.{Text as NoNet, Fault as Breaks, Memory as NetMemory}
 use Rattle.rec_bits.specs.declared.fault.ParseFault.{ParseFault}
 use Rattle.rec_bits.specs.declared.fault.ParseFault.TheVariants.{Text as NoText, Memory as ParseMemory}
-use Rattle.code_model.specs.ImageFits.{limits_of}
-use Rattle.code_model.specs.ImageLines.{IsLineFault}
+use Rattle.viewed_text.specs.Texts.{IsRemarkedFault}
 use Rattle.net_model.specs.MemoryText.{IsMemoryFault}
 use Rattle.state_text.specs.Shown.{state_text}
 use Rattle.run_command.specs.Runs.{run_edition}
@@ -43,7 +42,7 @@ IsNetFault net _ = ⊥
 
 -- why the image's and the memory's were not, for this netlist
 abbrev pub IsImageFault : Netlist → List ℕ → RunFault → Type 0
-IsImageFault netlist image (ImageText at) = IsLineFault (limits_of netlist) image at
+IsImageFault netlist image (ImageText at) = IsRemarkedFault netlist image at
 IsImageFault netlist image Memory = Unit {0}
 IsImageFault netlist image _ = ⊥
 

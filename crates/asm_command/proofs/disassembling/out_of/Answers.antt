@@ -1,6 +1,9 @@
 use Rattle.std.proofs.lemmas.Result.{err_from_is_err_and}
 use Rattle.asm_command.proofs.disassembling.out_of.Goals as goal
 
+pub shown_of-requires-clause-image : goal.shown_of-requires-clause-image
+shown_of-requires-clause-image c = c.in_ok-image.ensures.found.is.fits
+
 pub returns-in_err-image-clause-refused : goal.returns-in_err-image-clause-refused
 returns-in_err-image-clause-refused c =
     let p = err_from_is_err_and c.from_residual.result c.from_residual.ensures.1 in

@@ -1,11 +1,11 @@
 use Rattle.std.proofs.Common.{◌∙◌, List, ap, arith, length, map, refl, sym}
 use Rattle.std.proofs.lemmas.List.{length-map}
 use Rattle.std.proofs.lemmas.Result.{IfErr-weaker, IfOk-weaker, err_from_is_err_and}
+use Rattle.right_code.proofs.Covering.{planned_length}
 use Rattle.form_model.specs.declared.trees.Job.{Job}
 use Rattle.mode_set.specs.Plans.{UsableAt, model_of_plan, stock_at}
 use Rattle.src_trees.specs.Jobs.{model_of_job, models_of_jobs}
 use Rattle.code_gen.proofs.Built.{few_places, few_jobs, told_fault, told_reached}
-use Rattle.code_gen.proofs.Stepping.{plans_even}
 use Rattle.code_gen.proofs.Told.{coded_planning, uncovered}
 use Rattle.code_gen.proofs.image.planned_image.Goals as goal
 
@@ -42,7 +42,7 @@ covered_image-requires-clause-few c =
     let t = c.requires.coded in
     let few = few_jobs t.task t.is.checked in
     let jobs = ap (λ (js : List Job). length (models_of_jobs js)) c.deref.ensures.value ∙ ap length t.is.jobs in
-    let even = plans_even (stock_at c.args.modes.now.forms.now c.args.places.temps) (UsableAt c.args.modes.now.usable.now) (models_of_jobs c.deref.result.now) (map model_of_plan c.in_ok-plans.plans.items) c.in_ok-plans.ensures.planned in
+    let even = planned_length (stock_at c.args.modes.now.forms.now c.args.places.temps) (UsableAt c.args.modes.now.usable.now) (models_of_jobs c.deref.result.now) (map model_of_plan c.in_ok-plans.plans.items) c.in_ok-plans.ensures.planned in
     let plans = length-map c.in_ok-plans.plans.items model_of_plan in
     let given = ap length c.deref-3.ensures.value in
     omega (arith, few, jobs, even, plans, given)

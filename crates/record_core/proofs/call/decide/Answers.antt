@@ -5,7 +5,8 @@ use Rattle.std.specs.declared.alloc.Global.{Global}
 use Rattle.record_core.specs.declared.words.Command.{Command}
 use Rattle.record_core.specs.Inner.Fetch.{contents, FetchesPass}
 use Rattle.record_core.specs.Answers.{AreFiles}
-use Rattle.record_core.specs.Inner.Refusals.{status_of, text_of}
+use Rattle.record_core.specs.Inner.Putting.{PutsAnswer}
+use Rattle.record_core.specs.Inner.Refusals.{RefusesWords, status_of, text_of}
 use Rattle.record_core.specs.Words.{texts_of, file_count, names_of}
 use Rattle.record_core.specs.declared.status.Status.TheVariants.{Done}
 use Rattle.record_core.proofs.AnswerLemmas.{answers_fetched, answers_stopped}
@@ -30,7 +31,7 @@ returns-in-Ok-clause-done g c =
     let are : names ≡ names_of command (texts_of words) = names_are command words c.file_count.result c.file_count.ensures.count in
     let passes : FetchesPass names now = c.in-Ok.ensures.passed in
     let held : AreFiles before.files names (contents c.in-Ok.files.items) = c.in-Ok.ensures.ok in
-    IfOk-weaker c.put_for.result _ _
+    IfOk-weaker c.put_for.result _ (PutsAnswer (texts_of words) before now (g.S.Sink.state c.args.out.now) (g.S.Sink.state c.put_for.new.out))
     (λ put done. record {
       text = done.text;
       answers = answers_fetched (texts_of words) command before now (sym c.in-Some.ensures.command) (rw are at passes) (contents c.in-Ok.files.items) (rw are at held) Done done.text
@@ -49,7 +50,7 @@ returns-in-Ok-clause-refused g c =
     let are : names ≡ names_of command (texts_of words) = names_are command words c.file_count.result c.file_count.ensures.count in
     let passes : FetchesPass names now = c.in-Ok.ensures.passed in
     let held : AreFiles before.files names (contents c.in-Ok.files.items) = c.in-Ok.ensures.ok in
-    IfErr-weaker c.put_for.result _ _
+    IfErr-weaker c.put_for.result _ (RefusesWords (texts_of words) before now)
     (λ refusal why. record {
       answer = elim why [
         | inl memory ↦ inl memory

@@ -1,27 +1,37 @@
-use Rattle.std.proofs.Common.{None, subst}
-use Rattle.std.proofs.lemmas.Result.{err_from_is_err_and}
+use Rattle.std.proofs.Common.{subst}
+use Rattle.std.proofs.lemmas.Result.{IfOk-weaker}
 use Rattle.record_core.specs.Words.{CommandFits}
+use Rattle.record_core.specs.declared.stop.Told.TheVariants.{Nothing}
+use Rattle.record_core.proofs.PutLemmas.{ends_alone, ends_made, ends_put, ends_reported}
 use Rattle.record_core.proofs.commands.put_command.Goals as goal
 
-pub returns-in_err-text-in-Compile-clause-refused : goal.returns-in_err-text-in-Compile-clause-refused
-returns-in_err-text-in-Compile-clause-refused g c = λ line.
-    let p = err_from_is_err_and c.from_residual.result c.from_residual.ensures.1 in
-    rw (p.1, p.2, c.in-Compile.is) (rw (c.file.ensures, c.file-in-Compile.ensures) at (c.in_err-text-in-Compile.ensures.refused (line None)))
+pub returns-in-Compile : goal.returns-in-Compile
+returns-in-Compile g c = λ line. rw c.in-Compile.is (
+    ends_alone line _ _ _ _ c.compile_text.result c.alone.result c.put_made.result c.alone.ensures c.put_made.ensures
+    (rw (c.file-first.ensures, c.file-second.ensures) at c.compile_text.ensures.ok (line Nothing))
+    (rw (c.file-first.ensures, c.file-second.ensures) at c.compile_text.ensures.refused (line Nothing)) c.compile_text.ensures.other
+    )
 
-pub returns-in_err-text-in-Extract-clause-refused : goal.returns-in_err-text-in-Extract-clause-refused
-returns-in_err-text-in-Extract-clause-refused g c = λ line.
-    let p = err_from_is_err_and c.from_residual-in_err-text-in-Extract.result c.from_residual-in_err-text-in-Extract.ensures.1 in
-    rw (p.1, p.2, c.in-Extract.is) (rw c.file-in-Extract.ensures at (c.in_err-text-in-Extract.ensures.refused (line None)))
+pub returns-in-Extract : goal.returns-in-Extract
+returns-in-Extract g c = λ line. rw c.in-Extract.is (
+    ends_alone line _ _ _ _ c.extract_text.result c.alone-in-Extract.result c.put_made-in-Extract.result c.alone-in-Extract.ensures c.put_made-in-Extract.ensures
+    (rw c.file-first.ensures at c.extract_text.ensures.ok (line Nothing))
+    (rw c.file-first.ensures at c.extract_text.ensures.refused (line Nothing)) c.extract_text.ensures.other
+    )
 
-pub returns-in_err-text-in-Run-clause-refused : goal.returns-in_err-text-in-Run-clause-refused
-returns-in_err-text-in-Run-clause-refused g c = λ line.
-    let p = err_from_is_err_and c.from_residual-in_err-text-in-Run.result c.from_residual-in_err-text-in-Run.ensures.1 in
-    rw (p.1, p.2, c.in-Run.is) (rw (c.file-in-Run.ensures, c.file-in-Run-2.ensures, c.file-in-Run-3.ensures) at (c.in_err-text-in-Run.ensures.refused line))
+pub returns-in-Run : goal.returns-in-Run
+returns-in-Run g c = λ line. rw c.in-Run.is (
+    ends_made line _ _ _ _ c.run_text.result c.put_made-in-Run.result c.put_made-in-Run.ensures
+    (rw (c.file-first.ensures, c.file-second.ensures, c.file-third.ensures) at c.run_text.ensures.ok line)
+    (rw (c.file-first.ensures, c.file-second.ensures, c.file-third.ensures) at c.run_text.ensures.refused line) c.run_text.ensures.other
+    )
 
-pub returns-in_err-put-in-Go-clause-refused : goal.returns-in_err-put-in-Go-clause-refused
-returns-in_err-put-in-Go-clause-refused g c = λ line.
-    let p = err_from_is_err_and c.from_residual-in_err-put-in-Go.result c.from_residual-in_err-put-in-Go.ensures.1 in
-    rw (p.1, p.2, c.in-Go.is) (rw (c.file-in-Go.ensures, c.file-in-Go-2.ensures, c.file-in-Go-3.ensures) at (c.in_err-put-in-Go.ensures.refused (line None)))
+pub returns-in-Go : goal.returns-in-Go
+returns-in-Go g c = λ line. rw c.in-Go.is (
+    ends_put line _ _ _ _ c.go.result c.alone-in-Go.result c.alone-in-Go.ensures
+    (IfOk-weaker c.go.result _ _ (λ put d. record { text = d.text; answers = rw (c.file-first.ensures, c.file-second.ensures, c.file-third.ensures) at d.answers; puts = d.puts }) (c.go.ensures.done (line Nothing)))
+    (rw (c.file-first.ensures, c.file-second.ensures, c.file-third.ensures) at c.go.ensures.refused (line Nothing)) c.go.ensures.other c.go.ensures.still
+    )
 
 pub make_text-requires-clause-some : goal.make_text-requires-clause-some
 make_text-requires-clause-some g c = (subst CommandFits c.in-Make.is c.requires.fits).0
@@ -29,116 +39,58 @@ make_text-requires-clause-some g c = (subst CommandFits c.in-Make.is c.requires.
 pub make_text-requires-clause-most : goal.make_text-requires-clause-most
 make_text-requires-clause-most g c = (subst CommandFits c.in-Make.is c.requires.fits).1
 
-pub returns-in_err-text-in-Make-clause-refused : goal.returns-in_err-text-in-Make-clause-refused
-returns-in_err-text-in-Make-clause-refused g c = λ line.
-    let p = err_from_is_err_and c.from_residual-in_err-text-in-Make.result c.from_residual-in_err-text-in-Make.ensures.1 in
-    rw (p.1, p.2, c.in-Make.is) (c.in_err-text-in-Make.ensures.refused (line None))
+pub returns-in-Make : goal.returns-in-Make
+returns-in-Make g c = λ line. rw c.in-Make.is (
+    ends_alone line _ _ _ _ c.make_text.result c.alone-in-Make.result c.put_made-in-Make.result c.alone-in-Make.ensures c.put_made-in-Make.ensures
+    (c.make_text.ensures.ok (line Nothing))
+    (c.make_text.ensures.refused (line Nothing)) c.make_text.ensures.other
+    )
 
-pub returns-in_err-text-in-Asm-clause-refused : goal.returns-in_err-text-in-Asm-clause-refused
-returns-in_err-text-in-Asm-clause-refused g c = λ line.
-    let p = err_from_is_err_and c.from_residual-in_err-text-in-Asm.result c.from_residual-in_err-text-in-Asm.ensures.1 in
-    rw (p.1, p.2, c.in-Asm.is) (rw (c.file-in-Asm.ensures, c.file-in-Asm-2.ensures) at (c.in_err-text-in-Asm.ensures.refused (line None)))
+pub returns-in-Asm : goal.returns-in-Asm
+returns-in-Asm g c = λ line. rw c.in-Asm.is (
+    ends_alone line _ _ _ _ c.assembled_text.result c.alone-in-Asm.result c.put_made-in-Asm.result c.alone-in-Asm.ensures c.put_made-in-Asm.ensures
+    (rw (c.file-first.ensures, c.file-second.ensures) at c.assembled_text.ensures.ok (line Nothing))
+    (rw (c.file-first.ensures, c.file-second.ensures) at c.assembled_text.ensures.refused (line Nothing)) c.assembled_text.ensures.other
+    )
 
-pub returns-in_err-text-in-Dis-clause-refused : goal.returns-in_err-text-in-Dis-clause-refused
-returns-in_err-text-in-Dis-clause-refused g c = λ line.
-    let p = err_from_is_err_and c.from_residual-in_err-text-in-Dis.result c.from_residual-in_err-text-in-Dis.ensures.1 in
-    rw (p.1, p.2, c.in-Dis.is) (rw (c.file-in-Dis.ensures, c.file-in-Dis-2.ensures) at (c.in_err-text-in-Dis.ensures.refused (line None)))
+pub returns-in-Dis : goal.returns-in-Dis
+returns-in-Dis g c = λ line. rw c.in-Dis.is (
+    ends_alone line _ _ _ _ c.shown_text.result c.alone-in-Dis.result c.put_made-in-Dis.result c.alone-in-Dis.ensures c.put_made-in-Dis.ensures
+    (rw (c.file-first.ensures, c.file-second.ensures) at c.shown_text.ensures.ok (line Nothing))
+    (rw (c.file-first.ensures, c.file-second.ensures) at c.shown_text.ensures.refused (line Nothing)) c.shown_text.ensures.other
+    )
 
-pub returns-in_err-text-in-Test-clause-refused : goal.returns-in_err-text-in-Test-clause-refused
-returns-in_err-text-in-Test-clause-refused g c = λ line.
-    let p = err_from_is_err_and c.from_residual-in_err-text-in-Test.result c.from_residual-in_err-text-in-Test.ensures.1 in
-    rw (p.1, p.2, c.in-Test.is) (rw c.file-in-Test.ensures at (c.in_err-text-in-Test.ensures.refused (line None)))
+pub returns-in-Test : goal.returns-in-Test
+returns-in-Test g c = λ line. rw c.in-Test.is (
+    ends_reported line _ _ _ _ c.test_text.result c.alone-in-Test.result c.put_report.result c.alone-in-Test.ensures c.put_report.ensures
+    (rw c.file-first.ensures at c.test_text.ensures.ok (line Nothing))
+    (rw c.file-first.ensures at c.test_text.ensures.refused (line Nothing)) c.test_text.ensures.other
+    )
 
-pub returns-in_err-text-in-Explain-clause-refused : goal.returns-in_err-text-in-Explain-clause-refused
-returns-in_err-text-in-Explain-clause-refused g c = λ line.
-    let p = err_from_is_err_and c.from_residual-in_err-text-in-Explain.result c.from_residual-in_err-text-in-Explain.ensures.1 in
-    rw (p.1, p.2, c.in-Explain.is) (rw (c.file-in-Explain.ensures, c.file-in-Explain-2.ensures) at (c.in_err-text-in-Explain.ensures.refused (line None)))
+pub returns-in-Explain : goal.returns-in-Explain
+returns-in-Explain g c = λ line. rw c.in-Explain.is (
+    ends_alone line _ _ _ _ c.explained_text.result c.alone-in-Explain.result c.put_made-in-Explain.result c.alone-in-Explain.ensures c.put_made-in-Explain.ensures
+    (rw (c.file-first.ensures, c.file-second.ensures) at c.explained_text.ensures.ok (line Nothing))
+    (rw (c.file-first.ensures, c.file-second.ensures) at c.explained_text.ensures.refused (line Nothing)) c.explained_text.ensures.other
+    )
 
-pub returns-in_err-text-in-Tune-clause-refused : goal.returns-in_err-text-in-Tune-clause-refused
-returns-in_err-text-in-Tune-clause-refused g c = λ line.
-    let p = err_from_is_err_and c.from_residual-in_err-text-in-Tune.result c.from_residual-in_err-text-in-Tune.ensures.1 in
-    rw (p.1, p.2, c.in-Tune.is) (rw (c.file-in-Tune.ensures, c.file-in-Tune-2.ensures) at (c.in_err-text-in-Tune.ensures.refused (line None)))
+pub returns-in-Tune : goal.returns-in-Tune
+returns-in-Tune g c = λ line. rw c.in-Tune.is (
+    ends_alone line _ _ _ _ c.tuned_text.result c.alone-in-Tune.result c.put_made-in-Tune.result c.alone-in-Tune.ensures c.put_made-in-Tune.ensures
+    (rw (c.file-first.ensures, c.file-second.ensures) at c.tuned_text.ensures.ok (line Nothing))
+    (rw (c.file-first.ensures, c.file-second.ensures) at c.tuned_text.ensures.refused (line Nothing)) c.tuned_text.ensures.other
+    )
 
-pub returns-in_err-text-in-Dual-clause-refused : goal.returns-in_err-text-in-Dual-clause-refused
-returns-in_err-text-in-Dual-clause-refused g c = λ line.
-    let p = err_from_is_err_and c.from_residual-in_err-text-in-Dual.result c.from_residual-in_err-text-in-Dual.ensures.1 in
-    rw (p.1, p.2, c.in-Dual.is) (rw (c.file-in-Dual.ensures, c.file-in-Dual-2.ensures, c.file-in-Dual-3.ensures) at (c.in_err-text-in-Dual.ensures.refused (line None)))
+pub returns-in-Dual : goal.returns-in-Dual
+returns-in-Dual g c = λ line. rw c.in-Dual.is (
+    ends_alone line _ _ _ _ c.dual_text.result c.alone-in-Dual.result c.put_made-in-Dual.result c.alone-in-Dual.ensures c.put_made-in-Dual.ensures
+    (rw (c.file-first.ensures, c.file-second.ensures, c.file-third.ensures) at c.dual_text.ensures.ok (line Nothing))
+    (rw (c.file-first.ensures, c.file-second.ensures, c.file-third.ensures) at c.dual_text.ensures.refused (line Nothing)) c.dual_text.ensures.other
+    )
 
-pub returns-in_ok-text-in-Compile-clause-done : goal.returns-in_ok-text-in-Compile-clause-done
-returns-in_ok-text-in-Compile-clause-done g c = λ line. record {
-  text = c.in_ok-text-in-Compile.text.items;
-  answers = rw c.in-Compile.is (rw (c.file.ensures, c.file-in-Compile.ensures) at (c.in_ok-text-in-Compile.ensures.ok (line None)));
-  puts = rw c.deref.ensures.value at c.put.ensures;
-}
-
-pub returns-in_ok-text-in-Extract-clause-done : goal.returns-in_ok-text-in-Extract-clause-done
-returns-in_ok-text-in-Extract-clause-done g c = λ line. record {
-  text = c.in_ok-text-in-Extract.text.items;
-  answers = rw c.in-Extract.is (rw c.file-in-Extract.ensures at (c.in_ok-text-in-Extract.ensures.ok (line None)));
-  puts = rw c.deref-in-Extract.ensures.value at c.put-in-Extract.ensures;
-}
-
-pub returns-in_ok-text-in-Run-clause-done : goal.returns-in_ok-text-in-Run-clause-done
-returns-in_ok-text-in-Run-clause-done g c = λ line. record {
-  text = c.in_ok-text-in-Run.text.items;
-  answers = rw c.in-Run.is (rw (c.file-in-Run.ensures, c.file-in-Run-2.ensures, c.file-in-Run-3.ensures) at (c.in_ok-text-in-Run.ensures.ok line));
-  puts = rw c.deref-in-Run.ensures.value at c.put-in-Run.ensures;
-}
-
-pub returns-in_ok-put-in-Go-clause-done : goal.returns-in_ok-put-in-Go-clause-done
-returns-in_ok-put-in-Go-clause-done g c = λ line.
-    let d = c.in_ok-put-in-Go.ensures.done (line None) in
-    record {
-      text = d.text;
-      answers = rw c.in-Go.is (rw (c.file-in-Go.ensures, c.file-in-Go-2.ensures, c.file-in-Go-3.ensures) at d.answers);
-      puts = d.puts;
-    }
-
-pub returns-in_ok-text-in-Make-clause-done : goal.returns-in_ok-text-in-Make-clause-done
-returns-in_ok-text-in-Make-clause-done g c = λ line. record {
-  text = c.in_ok-text-in-Make.text.items;
-  answers = rw c.in-Make.is (c.in_ok-text-in-Make.ensures.ok (line None));
-  puts = rw c.deref-in-Make.ensures.value at c.put-in-Make.ensures;
-}
-
-pub returns-in_ok-text-in-Asm-clause-done : goal.returns-in_ok-text-in-Asm-clause-done
-returns-in_ok-text-in-Asm-clause-done g c = λ line. record {
-  text = c.in_ok-text-in-Asm.text.items;
-  answers = rw c.in-Asm.is (rw (c.file-in-Asm.ensures, c.file-in-Asm-2.ensures) at (c.in_ok-text-in-Asm.ensures.ok (line None)));
-  puts = rw c.deref-in-Asm.ensures.value at c.put-in-Asm.ensures;
-}
-
-pub returns-in_ok-text-in-Dis-clause-done : goal.returns-in_ok-text-in-Dis-clause-done
-returns-in_ok-text-in-Dis-clause-done g c = λ line. record {
-  text = c.in_ok-text-in-Dis.text.items;
-  answers = rw c.in-Dis.is (rw (c.file-in-Dis.ensures, c.file-in-Dis-2.ensures) at (c.in_ok-text-in-Dis.ensures.ok (line None)));
-  puts = rw c.deref-in-Dis.ensures.value at c.put-in-Dis.ensures;
-}
-
-pub returns-in_ok-text-in-Test-clause-done : goal.returns-in_ok-text-in-Test-clause-done
-returns-in_ok-text-in-Test-clause-done g c = λ line. record {
-  text = c.in_ok-text-in-Test.text;
-  answers = rw c.in-Test.is (rw c.file-in-Test.ensures at (c.in_ok-text-in-Test.ensures.ok (line None)));
-  puts = rw c.as_slice.ensures at c.put-in-Test.ensures;
-}
-
-pub returns-in_ok-text-in-Explain-clause-done : goal.returns-in_ok-text-in-Explain-clause-done
-returns-in_ok-text-in-Explain-clause-done g c = λ line. record {
-  text = c.in_ok-text-in-Explain.text.items;
-  answers = rw c.in-Explain.is (rw (c.file-in-Explain.ensures, c.file-in-Explain-2.ensures) at (c.in_ok-text-in-Explain.ensures.ok (line None)));
-  puts = rw c.deref-in-Explain.ensures.value at c.put-in-Explain.ensures;
-}
-
-pub returns-in_ok-text-in-Tune-clause-done : goal.returns-in_ok-text-in-Tune-clause-done
-returns-in_ok-text-in-Tune-clause-done g c = λ line. record {
-  text = c.in_ok-text-in-Tune.text.items;
-  answers = rw c.in-Tune.is (rw (c.file-in-Tune.ensures, c.file-in-Tune-2.ensures) at (c.in_ok-text-in-Tune.ensures.ok (line None)));
-  puts = rw c.deref-in-Tune.ensures.value at c.put-in-Tune.ensures;
-}
-
-pub returns-in_ok-text-in-Dual-clause-done : goal.returns-in_ok-text-in-Dual-clause-done
-returns-in_ok-text-in-Dual-clause-done g c = λ line. record {
-  text = c.in_ok-text-in-Dual.text.items;
-  answers = rw c.in-Dual.is (rw (c.file-in-Dual.ensures, c.file-in-Dual-2.ensures, c.file-in-Dual-3.ensures) at (c.in_ok-text-in-Dual.ensures.ok (line None)));
-  puts = rw c.deref-in-Dual.ensures.value at c.put-in-Dual.ensures;
-}
+pub returns-in-Check : goal.returns-in-Check
+returns-in-Check g c = λ line. rw c.in-Check.is (
+    ends_made line _ _ _ _ c.checked_text.result c.put_made-in-Check.result c.put_made-in-Check.ensures
+    (rw (c.file-first.ensures, c.file-second.ensures, c.file-third.ensures) at c.checked_text.ensures.ok line)
+    (rw (c.file-first.ensures, c.file-second.ensures, c.file-third.ensures) at c.checked_text.ensures.refused line) c.checked_text.ensures.other
+    )

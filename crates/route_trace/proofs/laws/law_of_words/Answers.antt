@@ -1,7 +1,7 @@
 use Rattle.net_model.specs.Symbolic.{sym_of}
 use Rattle.transfer_set.specs.Routes.{routes_at}
+use Rattle.transfer_set.proofs.Collecting.{set_at}
 use Rattle.route_trace.proofs.Exact.{every}
-use Rattle.route_trace.proofs.Merging.{set_at}
 use Rattle.route_trace.proofs.laws.law_of_words.Goals as goal
 
 pub returns : goal.returns

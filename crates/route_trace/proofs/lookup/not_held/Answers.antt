@@ -5,8 +5,8 @@ use Rattle.std.proofs.lemmas.Option.{slice_get-get_or}
 use Rattle.bit_bdd.specs.Diagrams.{has_word}
 use Rattle.bit_bdd.proofs.CallerLemmas.{extends_trans, same_words}
 use Rattle.transfer_set.specs.Routes.{exprs_under}
+use Rattle.transfer_set.proofs.Collecting.{set_at}
 use Rattle.route_trace.specs.Inner.Lookups.{is_free}
-use Rattle.route_trace.proofs.Merging.{set_at}
 use Rattle.route_trace.proofs.Products.{held_more}
 use Rattle.route_trace.proofs.Lookups.{free_more}
 use Rattle.route_trace.proofs.lookup.not_held.Goals as goal

@@ -1,7 +1,7 @@
 use Rattle.std.proofs.Common.{sym, ◌∙◌}
 use Rattle.std.specs.List.{slice_index_or}
 use Rattle.std.proofs.lemmas.Option.{slice_get-get_or}
-use Rattle.route_trace.proofs.Merging.{set_at}
+use Rattle.transfer_set.proofs.Collecting.{set_at}
 use Rattle.route_trace.proofs.Lookups.{still_none}
 use Rattle.route_trace.proofs.lookup.place_from.Goals as goal
 

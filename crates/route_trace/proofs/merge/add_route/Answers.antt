@@ -1,6 +1,7 @@
 use Rattle.std.proofs.lemmas.Result.{IfOk-from_err}
 use Rattle.std.proofs.lemmas.Option.{slice_get_within}
-use Rattle.route_trace.proofs.Merging.{found_index, not_found, set_at, merged_routes, merged_exprs, merged_held, pushed_routes, pushed_held, exprs_push}
+use Rattle.transfer_set.proofs.Collecting.{set_at}
+use Rattle.route_trace.proofs.Merging.{found_index, not_found, merged_routes, merged_exprs, merged_held, pushed_routes, pushed_held, exprs_push}
 use Rattle.bit_bdd.proofs.CallerLemmas.{extends_refl}
 use Rattle.route_trace.proofs.merge.add_route.Goals as goal
 

@@ -11,8 +11,8 @@ use Rattle.route_trace.specs.Inner.Heads.{binary_expr, head_expr}
 use Rattle.route_trace.specs.Inner.Lookups.{is_free}
 use Rattle.route_trace.specs.Inner.Routing.{each}
 use Rattle.transfer_set.specs.Routes.{models_under}
-use Rattle.route_trace.proofs.Merging.{held_later, set_at}
-use Rattle.route_trace.proofs.Products.{below_later, both_later, expr_at, table_later}
+use Rattle.transfer_set.proofs.Collecting.{held_later, set_at, expr_at}
+use Rattle.route_trace.proofs.Products.{below_later, both_later, table_later}
 use Rattle.route_trace.proofs.Loops.{all_fit_later, map-same, binary-same, binary_below, binary_fit_at}
 use Rattle.route_trace.proofs.Stopping.{many_in}
 use Rattle.route_trace.proofs.Lookups.{fewer, held_at, left_apart, left_first, left_free, left_none, left_part, left_step}

@@ -1,11 +1,11 @@
 use Rattle.std.proofs.Common.{◌≡◌, inr, ℕ, ◌<◌, ◌^◌, ◌&&◌, map, sym, ap, subst, ◌∙◌}
 use Rattle.std.proofs.lemmas.Result.{err_from_is_err_and, IfOk-from_err}
+use Rattle.transfer_set.proofs.Collecting.{held_later}
 use Rattle.bit_bdd.specs.Diagrams.{Extends, has_word}
 use Rattle.bit_bdd.proofs.CallerLemmas.{extends_trans, same_words, still_within}
 use Rattle.sym_expr.specs.Pools.{expr_of_id}
 use Rattle.sym_expr.proofs.CallerLemmas.{grows_refl}
 use Rattle.route_trace.specs.Inner.Heads.{head_expr}
-use Rattle.route_trace.proofs.Merging.{held_later}
 use Rattle.route_trace.proofs.Products.{table_later, both_later}
 use Rattle.route_trace.proofs.Stopping.{many_in}
 use Rattle.route_trace.proofs.Lookups.{same_choice}

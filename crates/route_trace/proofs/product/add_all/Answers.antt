@@ -1,5 +1,6 @@
 use Rattle.std.proofs.lemmas.Result.{IfOk-from_err}
 use Rattle.std.proofs.Common.{◌<◌, ◌^◌, ◌&&◌, not, [], ◌∷◌, map, length, refl, sym, ap, subst, ◌∙◌, arith}
+use Rattle.transfer_set.proofs.Collecting.{held_later, set_at, expr_at}
 use Rattle.rec_bits.proofs.Booleans.{and_left}
 use Rattle.bit_bdd.specs.Diagrams.{has_word}
 use Rattle.bit_bdd.proofs.CallerLemmas.{extends_refl, extends_trans, same_words}
@@ -8,8 +9,7 @@ use Rattle.sym_expr.specs.Pools.{expr_of_id}
 use Rattle.sym_expr.proofs.CallerLemmas.{grows_refl, grows_trans, same_expr}
 use Rattle.route_trace.specs.Inner.Heads.{head_expr}
 use Rattle.route_trace.specs.Inner.Lookups.{is_free}
-use Rattle.route_trace.proofs.Merging.{held_later, set_at}
-use Rattle.route_trace.proofs.Products.{both_later, fits-later, head-same, fit_at, expr_at, table_later}
+use Rattle.route_trace.proofs.Products.{both_later, fits-later, head-same, fit_at, table_later}
 use Rattle.route_trace.proofs.Lookups.{fewer, left_apart, left_first, left_free, left_none, left_part, left_step, held_at}
 use Rattle.route_trace.proofs.product.add_all.Goals as goal
 

@@ -1,8 +1,9 @@
 use Rattle.std.proofs.lemmas.Result.{IfOk-from_err}
 use Rattle.std.proofs.Common.{◌<◌, ◌^◌, ◌&&◌, sym, subst, ◌∙◌}
+use Rattle.transfer_set.proofs.Collecting.{held_later}
 use Rattle.bit_bdd.specs.Diagrams.{has_word}
 use Rattle.bit_bdd.proofs.CallerLemmas.{extends_trans, same_words, still_within}
-use Rattle.route_trace.proofs.Merging.{routes_later, held_later}
+use Rattle.route_trace.proofs.Merging.{routes_later}
 use Rattle.route_trace.proofs.Products.{added_exprs, exprs_later}
 use Rattle.route_trace.proofs.product.add_one.Goals as goal
 

@@ -6,10 +6,10 @@ use Rattle.bit_bdd.specs.Diagrams.{has_word}
 use Rattle.bit_bdd.proofs.CallerLemmas.{same_words, extends_trans, still_within}
 use Rattle.sym_expr.proofs.CallerLemmas.{grows_refl, grows_trans}
 use Rattle.transfer_set.specs.Routes.{IsSet, models_under}
+use Rattle.transfer_set.proofs.Collecting.{held_later, set_at, expr_at}
 use Rattle.route_trace.specs.Inner.Routing.{each}
 use Rattle.route_trace.specs.Inner.Selects.{under}
-use Rattle.route_trace.proofs.Merging.{set_at, held_later}
-use Rattle.route_trace.proofs.Products.{expr_at, table_later, both_later}
+use Rattle.route_trace.proofs.Products.{table_later, both_later}
 use Rattle.route_trace.proofs.Loops.{each_apart, each_step}
 use Rattle.route_trace.proofs.Choices.{binary_fit_later, select_fit_at, under_later}
 use Rattle.route_trace.specs.declared.heads.Binary.TheVariants.{Select}

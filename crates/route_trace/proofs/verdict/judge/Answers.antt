@@ -1,7 +1,7 @@
 use Rattle.std.proofs.Common.{length}
 use Rattle.std.specs.List.{slice_index_or}
 use Rattle.std.proofs.lemmas.Option.{slice_get-get_or}
-use Rattle.route_trace.proofs.Products.{expr_at}
+use Rattle.transfer_set.proofs.Collecting.{expr_at}
 use Rattle.route_trace.proofs.Judging.{capped_below}
 use Rattle.route_trace.proofs.verdict.judge.Goals as goal
 

@@ -2,11 +2,11 @@ use Rattle.std.proofs.Common.{◌≡◌, ℕ, ◌+◌, ◌<◌, ◌^◌, ◌&&�
 use Rattle.std.proofs.lemmas.Result.{err_from_is_err_and, IfOk-from_err}
 use Rattle.std.specs.List.{slice_index_or}
 use Rattle.std.proofs.lemmas.Option.{slice_get-get_or}
+use Rattle.transfer_set.proofs.Collecting.{held_later}
 use Rattle.bit_bdd.specs.Diagrams.{has_word, Extends}
 use Rattle.bit_bdd.proofs.CallerLemmas.{same_words, extends_trans, still_within}
 use Rattle.sym_expr.proofs.CallerLemmas.{grows_refl, grows_trans}
 use Rattle.route_trace.specs.Inner.Routing.{AreTables}
-use Rattle.route_trace.proofs.Merging.{held_later}
 use Rattle.route_trace.proofs.Products.{table_later, both_later}
 use Rattle.route_trace.proofs.Firsts.{all_fit_same, test_at, first_apart, first_step, left_more, tables_later}
 use Rattle.route_trace.proofs.Stopping.{many_in, part_tested}

@@ -5,8 +5,8 @@ use Rattle.bit_bdd.proofs.CallerLemmas.{extends_trans, still_within}
 use Rattle.sym_expr.specs.Pools.{Grows}
 use Rattle.sym_expr.proofs.CallerLemmas.{grows_trans}
 use Rattle.transfer_set.specs.Routes.{routes_at}
+use Rattle.transfer_set.proofs.Collecting.{held_later}
 use Rattle.route_trace.specs.Inner.Routing.{AreTables}
-use Rattle.route_trace.proofs.Merging.{held_later}
 use Rattle.route_trace.proofs.Products.{table_later}
 use Rattle.route_trace.proofs.Firsts.{tables_later}
 use Rattle.route_trace.proofs.Selecting.{wide_later, target_wide_later, select_fit_wide}

@@ -1,0 +1,8 @@
+-- What no public contract cites: what the functions of the crate tell one another, and what only
+-- proofs speak of.
+pub mod Faults
+pub mod Marked
+pub mod Moves
+pub mod Readings
+pub mod Sizes
+pub mod Stops

@@ -1,0 +1,9 @@
+pub mod Places
+pub mod Views
+pub mod WorkedViews
+pub mod EndWords
+pub mod Tasks
+pub mod Rules
+pub mod Reports
+pub mod Checked
+pub mod Inner

@@ -1,0 +1,16 @@
+pub mod Apart
+pub mod Crossing
+pub mod MarkFaultLemmas
+pub mod MarkLemmas
+pub mod OnePath
+pub mod Passing
+pub mod Safety
+pub mod Showing
+pub mod TrailLemmas
+pub mod Unhidden
+pub mod Whole
+pub mod WorkedClocks
+pub mod WorkedHeld
+pub mod WorkedHidden
+pub mod WorkedRight
+pub mod WorkedStates

@@ -1,0 +1,249 @@
+-- A loop that keeps its variable in a register is right code by views: each of its marks follows the
+-- program.
+use Rattle.std.proofs.Common.{ℕ, zero, suc, ◌≡◌, ◌+◌, ◌==◌, Bool, true, false, if◌then◌else◌, List, [], ◌∷◌, Some, None, refl, sym, ◌∙◌, ap, subst, arith, eqb-true, slice_get, slice_index, slice_set}
+use Rattle.std.proofs.lemmas.Nat.{mod_below, pow_pos}
+use Rattle.rec_bits.specs.Operators.{apply2_of}
+use Rattle.rec_bits.specs.declared.operator.Op2.TheVariants.{Sub}
+use Rattle.net_model.specs.declared.hardware.Space.TheVariants.{Memory as InMemory}
+use Rattle.net_model.specs.declared.states.State.{State}
+use Rattle.net_model.specs.Clock.{clock, Next}
+use Rattle.net_model.specs.Exprs.{const, read, bin}
+use Rattle.net_model.specs.Worked.{a16}
+use Rattle.src_model.specs.declared.checkpoint.Checkpoint.TheVariants.{At, End as TheEnd}
+use Rattle.code_model.specs.Flow.{GoesTo}
+use Rattle.code_model.specs.Machine.{IsCalm}
+use Rattle.code_model.specs.Places.{label_at, words_of}
+use Rattle.code_model.specs.WorkedViews.{kept_counter, plain}
+use Rattle.form_model.specs.declared.flow.Flow.TheVariants.{Test}
+use Rattle.src_trees.specs.Doing.{AllAre}
+use Rattle.src_trees.specs.Flows.{program_flow, program_jobs}
+use Rattle.src_trees.specs.Held.{HoldsCells}
+use Rattle.src_trees.specs.Lowered.{JobModel, job_of_test}
+use Rattle.form_model.specs.Forms.{cell}
+use Rattle.src_model.specs.Written.{plain as plain_of, num}
+use Rattle.src_model.specs.declared.program.Cmp.TheVariants.{Ne}
+use Rattle.std.specs.Prelude.{codes}
+use Rattle.rec_bits.proofs.Options.{same_Some}
+use Rattle.follow.specs.Followed.{Arrives, Crosses, IsSegment, IsStart, IsFollowed}
+use Rattle.follow.specs.Paths.{Path, path_from}
+use Rattle.follow.specs.Relations.{Relation, IsRelated}
+use Rattle.follow.specs.RightByViews.{HasMarksOf, IsLaidFor, IsRightByViews}
+use Rattle.follow.specs.Worked.{counted, map}
+use Rattle.follow.proofs.OnePath.{one_path}
+use Rattle.follow.proofs.Whole.{followed_right}
+use Rattle.follow.proofs.WorkedStates.{Fits, Parts, bit_false, bit_true, calm_at, fits_in, parts, set_same, three_kept, with_acc, with_cell, zero_kept}
+use Rattle.follow.proofs.WorkedClocks.{at, first, second, third, taken, passed, less, back, put, rest}
+
+-- the temporary cell 0 is 1
+abbrev one_kept : ℕ → Relation
+one_kept address = record { holdings = record { place = read InMemory (const 8 0) 16; tree = const 16 1 } ∷ []; known = [] }
+
+-- ---- the start
+
+start_crosses : (s : State) → IsCalm a16 0 s → Arrives a16 kept_counter one_kept map 7 (Some (At 0)) s.cells s
+start_crosses s h = by (parts 0 s h)
+  where
+    module_at : (acc none : ℕ) (cells file : List ℕ) → Fits acc none cells file → Arrives a16 kept_counter one_kept map 7 (Some (At 0)) cells (at acc none cells file 0)
+    module_at acc none cells file f =
+        let one : Fits 1 none cells file = with_acc acc none cells file 1 (omega arith) f in
+        let two : Fits 1 none (slice_set cells 0 1) file = with_cell 1 none cells file 0 1 (omega arith) one in
+        let new : List ℕ = slice_set cells 0 1 in
+        let read : Fits (slice_index new 3) none new file = with_acc 1 none new file (slice_index new 3) (two.words 3) two in
+        record {
+          taken = 3;
+          last = at (slice_index new 3) none new file 3;
+          address = 3;
+          within = omega arith;
+          reaches = (at 1 none cells file 1, refl, first acc none cells file, (at 1 none new file 2, refl, second 1 none cells file, (at (slice_index new 3) none new file 3, refl, third 1 none new file, refl)));
+          here = calm_at (slice_index new 3) none new file 3 (omega arith) read;
+          marked = refl;
+          related = record {
+            seen = ((refl, three_kept 1 cells), tt);
+            holds = (set_same 0 1 cells (let l = f.long in omega (arith, l)), tt);
+            known = tt;
+          };
+        }
+
+    by : Parts 0 s → Arrives a16 kept_counter one_kept map 7 (Some (At 0)) s.cells s
+    by p =
+        subst (λ (u : State). Arrives a16 kept_counter one_kept map 7 (Some (At 0)) s.cells u) (sym p.is)
+        (module_at p.acc p.none s.cells s.file (fits_in p.acc p.none s.cells s.file 0 (subst (λ (u : State). IsCalm a16 0 u) p.is h)))
+
+-- ---- the test
+
+module _ (acc none : ℕ) (cells file program : List ℕ) (f : Fits acc none cells file) (h : HoldsCells 3 map program) (r : IsRelated kept_counter map one_kept 3 (at acc none cells file 3) program) where
+  -- to the end, where the accumulator is put back
+  goes_out : (slice_index program 3 == 0) ≡ true → Crosses a16 kept_counter one_kept map 7 (Some TheEnd) program (at acc none cells file 3)
+  goes_out e =
+      let same : acc ≡ slice_index program 3 = r.seen.0.1 in
+      let done : Fits acc none (slice_set cells 3 acc) file = with_cell acc none cells file 3 acc f.acc_fits f in
+      record {
+        next = at acc none cells file 6;
+        clocked = taken acc none cells file (ap (λ v. v == 0) same ∙ e);
+        arrives = record {
+          taken = 1;
+          last = at acc none (slice_set cells 3 acc) file 7;
+          address = 7;
+          within = omega arith;
+          reaches = (at acc none (slice_set cells 3 acc) file 7, refl, put acc none cells file, refl);
+          here = calm_at acc none (slice_set cells 3 acc) file 7 (omega arith) done;
+          marked = refl;
+          related = record {
+            seen = ((λ k lt. (let z : 3 + k ≡ 3 = omega arith in ap (slice_index (slice_set cells 3 acc)) z ∙ set_same 3 acc cells (let l = f.long in omega (arith, l)) ∙ same ∙ ap (slice_index program) (sym z))), tt);
+            holds = (zero_kept acc cells ∙ r.holds.0, tt);
+            known = tt;
+          };
+        };
+      }
+
+  -- round the loop, where 1 is taken off the accumulator
+  goes_round : (slice_index program 3 == 0) ≡ false → Crosses a16 kept_counter one_kept map 7 (Some (At 0)) (slice_set program 3 (apply2_of Sub 16 (slice_index program 3) 1)) (at acc none cells file 3)
+  goes_round e =
+      let same : acc ≡ slice_index program 3 = r.seen.0.1 in
+      let new : ℕ = apply2_of Sub 16 acc (slice_index cells 0) in
+      let done : Fits new none cells file = with_acc acc none cells file new (mod_below _ _ (pow_pos 16)) f in
+      record {
+        next = at acc none cells file 4;
+        clocked = passed acc none cells file (ap (λ v. v == 0) same ∙ e);
+        arrives = record {
+          taken = 2;
+          last = at new none cells file 3;
+          address = 3;
+          within = omega arith;
+          reaches = (at new none cells file 5, refl, less acc none cells file, (at new none cells file 3, refl, back new none cells file, refl));
+          here = calm_at new none cells file 3 (omega arith) done;
+          marked = refl;
+          related = record {
+            seen = ((refl, (λ i. apply2_of Sub 16 (same i) (r.holds.0 i)) ∙ sym (set_same 3 (apply2_of Sub 16 (slice_index program 3) 1) program (let l = h.room.within.1 in omega (arith, l)))), tt);
+            holds = (r.holds.0, tt);
+            known = tt;
+          };
+        };
+      }
+
+-- ---- all marks
+
+at_three : (address tree : ℕ) → label_at kept_counter.image.marks address ≡ Some (At tree) → (address ≡ 3) × (tree ≡ 0)
+at_three address tree e = by (3 == address) (7 == address) refl e
+  where
+    by : (x y : Bool) → (3 == address) ≡ x → (if x then Some (At 0) else if y then Some TheEnd else None) ≡ Some (At tree) → (address ≡ 3) × (tree ≡ 0)
+    by true y f g = (sym (eqb-true 3 address f), cc)
+    by false true f g = absurd (cc)
+    by false false f g = absurd (cc)
+
+one_test : (place tree one zer : ℕ) → slice_get (program_flow counted) place ≡ Some (Test tree one zer) → (one ≡ 3) × (zer ≡ 1)
+one_test zero tree one zer e = (cc, cc)
+one_test (suc zero) tree one zer e = absurd (cc)
+one_test (suc (suc zero)) tree one zer e = absurd (cc)
+one_test (suc (suc (suc zero))) tree one zer e = absurd (cc)
+one_test (suc (suc (suc (suc place)))) tree one zer e = absurd (cc)
+
+abbrev Segment : ℕ → ℕ → Bool → Path → Type 0
+Segment address tree answer path = IsSegment a16 kept_counter one_kept map 3 counted 7 address tree answer path
+
+abbrev test_job : JobModel
+test_job = job_of_test map (record {
+  cmp = Ne;
+  left = record { at = 0; shape = plain_of (codes "a") 0 };
+  right = record { at = 0; shape = num 0 };
+})
+
+out_segment : Segment 3 0 true (record { jobs = []; to = 3 })
+out_segment job is s cells calm related holds safe are later asks =
+    let p = parts 3 s calm in
+    let value : AllAre 1 cells test_job.trees = subst (λ (x : JobModel). AllAre 1 cells x.trees) (sym (same_Some test_job job is)) are in
+    subst (λ (u : State). Crosses a16 kept_counter one_kept map 7 (Some TheEnd) cells u) (sym p.is)
+    (goes_out p.acc p.none s.cells s.file cells (fits_in p.acc p.none s.cells s.file 3 (subst (λ (u : State). IsCalm a16 3 u) p.is calm)) holds
+    (subst (λ (u : State). IsRelated kept_counter map one_kept 3 u cells) p.is related) (bit_true _ value.0))
+
+abbrev less_job : JobModel
+less_job = record { destination = cell 3; trees = bin Sub (read InMemory (const 8 3) 16) (const 16 1) ∷ [] }
+
+round_segment : Segment 3 0 false (record { jobs = less_job ∷ []; to = 0 })
+round_segment job is s cells calm related holds safe are later asks =
+    let p = parts 3 s calm in
+    let value : AllAre 0 cells test_job.trees = subst (λ (x : JobModel). AllAre 0 cells x.trees) (sym (same_Some test_job job is)) are in
+    subst (λ (u : State). Crosses a16 kept_counter one_kept map 7 (Some (At 0)) (slice_set cells 3 (apply2_of Sub 16 (slice_index cells 3) 1)) u) (sym p.is)
+    (goes_round p.acc p.none s.cells s.file cells (fits_in p.acc p.none s.cells s.file 3 (subst (λ (u : State). IsCalm a16 3 u) p.is calm)) holds
+    (subst (λ (u : State). IsRelated kept_counter map one_kept 3 u cells) p.is related) (bit_false _ value.0))
+
+flow_at : (n : ℕ) (to : ℕ) (path wanted : Path) → path_from (program_flow counted) (program_jobs map counted) 4 to ≡ Some wanted → path_from (program_flow counted) (program_jobs map counted) n to ≡ Some path → path ≡ wanted
+flow_at n to path wanted e f = one_path (program_flow counted) (program_jobs map counted) n 4 to path wanted f e
+
+each_test : (address tree place one zer : ℕ) → label_at kept_counter.image.marks address ≡ Some (At tree) → slice_get (program_flow counted) place ≡ Some (Test tree one zer) → (answer : Bool) → (n : ℕ) (path : Path)
+    → path_from (program_flow counted) (program_jobs map counted) n (if answer then one else zer) ≡ Some path → Segment address tree answer path
+each_test address tree place one zer label is answer n path e = by answer e
+  where
+    a : (address ≡ 3) × (tree ≡ 0)
+    a = at_three address tree label
+
+    t : (one ≡ 3) × (zer ≡ 1)
+    t = one_test place tree one zer is
+
+    moved : (answer : Bool) (wanted : Path) → path ≡ wanted → Segment 3 0 answer wanted → Segment address tree answer path
+    moved answer wanted p h =
+        subst (λ (x : ℕ). Segment x tree answer path) (sym a.0)
+        (subst (λ (x : ℕ). Segment 3 x answer path) (sym a.1) (subst (λ (x : Path). Segment 3 0 answer x) (sym p) h))
+
+    by : (answer : Bool) → path_from (program_flow counted) (program_jobs map counted) n (if answer then one else zer) ≡ Some path → Segment address tree answer path
+    by true e =
+        moved true (record { jobs = []; to = 3 })
+        (flow_at n 3 path (record { jobs = []; to = 3 }) refl (subst (λ (x : ℕ). path_from (program_flow counted) (program_jobs map counted) n x ≡ Some path) t.0 e)) out_segment
+    by false e =
+        moved false (record { jobs = less_job ∷ []; to = 0 })
+        (flow_at n 1 path (record { jobs = less_job ∷ []; to = 0 }) refl (subst (λ (x : ℕ). path_from (program_flow counted) (program_jobs map counted) n x ≡ Some path) t.1 e)) round_segment
+
+first_segment : (n : ℕ) (path : Path) → path_from (program_flow counted) (program_jobs map counted) n 0 ≡ Some path → IsStart a16 kept_counter one_kept map 3 counted 7 path
+first_segment n path e =
+    subst (λ (x : Path). IsStart a16 kept_counter one_kept map 3 counted 7 x) (sym (flow_at n 0 path (record { jobs = []; to = 0 }) refl e)) (λ s calm safe asks. start_crosses s calm)
+
+last_word : GoesTo a16 kept_counter.image 7 7
+last_word = record {
+  goes = λ s h.
+      (let p = parts 7 s h in
+      record {
+        next = s;
+        clocked = ap (λ u. clock a16 (words_of kept_counter.image) u) p.is ∙ rest p.acc p.none s.cells s.file ∙ ap Next (sym p.is);
+        here = h;
+        same = refl;
+      });
+}
+
+pub kept_followed : IsFollowed a16 kept_counter one_kept map 3 counted
+kept_followed = record { last = 7; long = refl; end_word = last_word; start = first_segment; tests = each_test }
+
+-- ---- the marks
+
+kept_marks : HasMarksOf (program_flow counted) kept_counter.image
+kept_marks = record {
+  all = λ tree t. record { address = 3; marked = ap (λ n. Some (At n)) (first_tree t.at tree t.when_one t.when_zero t.is) };
+  only = λ address tree e. record { at = 0; when_one = 3; when_zero = 1; is = ap (λ n. Some (Test n 3 1)) (sym (at_three address tree e).1) };
+  end = λ address e. (let f : address ≡ 7 = (let long : address + 1 ≡ 8 = e in omega (arith, long)) in ap (label_at kept_counter.image.marks) f);
+  end_only = λ address e. (let f : 7 ≡ address = at_seven address e in (let g : address + 1 ≡ 8 = omega (arith, f) in g));
+}
+  where
+    first_tree : (place tree one zer : ℕ) → slice_get (program_flow counted) place ≡ Some (Test tree one zer) → 0 ≡ tree
+    first_tree zero tree one zer e = cc
+    first_tree (suc zero) tree one zer e = absurd (cc)
+    first_tree (suc (suc zero)) tree one zer e = absurd (cc)
+    first_tree (suc (suc (suc zero))) tree one zer e = absurd (cc)
+    first_tree (suc (suc (suc (suc place)))) tree one zer e = absurd (cc)
+
+    at_seven : (address : ℕ) → label_at kept_counter.image.marks address ≡ Some TheEnd → 7 ≡ address
+    at_seven address e = by (3 == address) (7 == address) refl refl e
+      where
+        by : (x y : Bool) → (3 == address) ≡ x → (7 == address) ≡ y → (if x then Some (At 0) else if y then Some TheEnd else None) ≡ Some TheEnd → 7 ≡ address
+        by true y f g h = absurd (cc)
+        by false true f g h = eqb-true 7 address g
+        by false false f g h = absurd (cc)
+
+-- ---- right code
+
+kept_laid : IsLaidFor a16 16 counted kept_counter.image
+kept_laid = record {
+  held = record { some = omega arith; narrow = omega arith; stand = (refl, refl, tt); within = (omega arith, omega arith, tt); alone = (tt, tt) };
+  room = record { below = omega arith; within = (omega arith, omega arith, tt) };
+}
+
+pub kept_right : IsRightByViews a16 16 counted kept_counter
+kept_right = followed_right a16 16 counted kept_counter one_kept (record { program = refl; words = refl; laid = kept_laid; views = plain; start = refl; marks = kept_marks; followed = kept_followed })

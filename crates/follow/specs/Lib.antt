@@ -1,0 +1,10 @@
+pub mod Paths
+pub mod Safe
+pub mod Relations
+pub mod Followed
+pub mod RightByViews
+pub mod MarkFaults
+pub mod Checked
+pub mod Trails
+pub mod Inner
+pub mod Worked

@@ -1,0 +1,5 @@
+pub mod Ascending
+pub mod Leads
+pub mod Words
+pub mod Following
+pub mod Laying

@@ -1,0 +1,4 @@
+pub mod Said
+pub mod Turned
+pub mod Passing
+pub mod Inner

@@ -1,5 +1,0 @@
-use Rattle.respell.proofs.rules.+uses.Given as goal
-
--- parts come before their wholes
-abbrev pub decreases-uses : goal.decreases-uses
-decreases-uses l = l.top

@@ -1,6 +1,0 @@
-use Rattle.std.proofs.Common.{◌≡◌}
-use Rattle.tree_laws.specs.Classes.{cell_bits}
-use Rattle.respell.proofs.search.Search.apply_all.Given as goal
-
-abbrev pub invariant-loop-rule : goal.invariant-loop-rule
-invariant-loop-rule l = cell_bits l.self.table ≡ cell_bits l.fn.self.table

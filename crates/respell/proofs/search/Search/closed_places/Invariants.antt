@@ -1,6 +1,0 @@
-use Rattle.std.proofs.Common.{◌≡◌}
-use Rattle.tree_laws.specs.Classes.{cell_bits}
-use Rattle.respell.proofs.search.Search.closed_places.Given as goal
-
-abbrev pub invariant-loop-index : goal.invariant-loop-index
-invariant-loop-index l = cell_bits l.self.table ≡ cell_bits l.fn.self.table

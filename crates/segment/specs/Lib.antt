@@ -1,0 +1,5 @@
+pub mod Marked
+pub mod Runs
+pub mod Proved
+pub mod Asked
+pub mod Timed

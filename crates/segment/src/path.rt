@@ -1,0 +1,163 @@
+//! The jobs of a path, and the test at its end.
+
+ghost use Rattle.std.specs.Prelude.{◌≡◌, IfOk, IfSome, OnOk, option_copied, slice_get};
+ghost use Rattle.tree_laws.specs.Classes.{Grows};
+ghost use Rattle.src_trees.specs.Jobs.{model_of_job, models_of_jobs};
+ghost use Rattle.segment.specs.Runs.{AreDone, IsDone, IsGathered, IsOverPath, IsPut, IsPutIn, TestReads};
+
+use crate::run::{Run, Segment};
+use form_model::{Aim, Job};
+use rec_bits::{Items, NoMemory};
+use std::alloc::Global;
+use sym_run::{Cell, Fact, Known, Put, Store, number_of, written};
+use tree_laws::Classes;
+
+// The job of a number.
+pub(crate) fn job_at(jobs: &[Job], number: u32) -> Option<&Job>
+    ensures { option_copied result ≡ slice_get jobs.now number }
+{
+    jobs.get(number as usize)
+}
+
+// What is known of the cells behind a job, or None where it goes to an address that isn't known or
+// is an array's.
+fn put(
+    alloc: Global,
+    table: &mut Classes,
+    facts: &[Fact],
+    known: &Known,
+    job: &Job,
+) -> Result<Option<Items<Cell>>, NoMemory>
+    ensures { IfOk result (λ found. IfSome found (IsPut (model_of_job job.now) table.old table.new facts.now known.now)) }
+{
+    let Some(tree) = job.trees.first() else {
+        return Ok(None);
+    };
+    let store = Store { facts, known };
+    match &job.aim {
+        Aim::Cell(address) => {
+            let value = store.tree(table, tree)?;
+            written(alloc, known, u64::from(*address), value)
+        }
+        Aim::Store(addr) => {
+            let at = store.tree(table, addr)?;
+            let value = store.tree(table, tree)?;
+            let Some(at) = at else {
+                return Ok(None);
+            };
+            let Some(address) = number_of(table, facts, at) else {
+                return Ok(None);
+            };
+            written(alloc, known, address, value)
+        }
+        Aim::Test | Aim::Temp => Ok(None),
+    }
+}
+
+// What was written to arrays behind a job that goes to an element, or None where it goes elsewhere.
+fn put_in_array(
+    alloc: Global,
+    table: &mut Classes,
+    facts: &[Fact],
+    known: &Known,
+    width: u8,
+    job: &Job,
+) -> Result<Option<Items<Put>>, NoMemory>
+    ensures grows { OnOk result (Grows table.old table.new) }
+    ensures is { IfOk result (λ found. IfSome found (IsPutIn (model_of_job job.now) table.old table.new facts.now known.now)) }
+{
+    let Some(tree) = job.trees.first() else {
+        return Ok(None);
+    };
+    let store = Store { facts, known };
+    match &job.aim {
+        Aim::Store(addr) => store.put(alloc, table, addr, tree),
+        Aim::Cell(address) => store.put_at(alloc, table, width, u64::from(*address), tree),
+        Aim::Test | Aim::Temp => Ok(None),
+    }
+}
+
+impl Segment<'_> {
+    // What is known behind a job.
+    fn after(
+        &self,
+        alloc: Global,
+        table: &mut Classes,
+        run: Run,
+        job: &Job,
+    ) -> Result<Option<Run>, NoMemory>
+        ensures { IfOk result (λ found. IfSome found (IsDone self.now (model_of_job job.now) table.old table.new run)) }
+    {
+        let mut run = run;
+        self.all_elements(table, &mut run, job.trees.as_slice())?;
+        self.aim_elements(table, &mut run, &job.aim)?;
+        let elements = put_in_array(
+            alloc,
+            table,
+            run.facts.as_slice(),
+            &run.vars,
+            self.addr,
+            job,
+        )?;
+        if let Some(puts) = elements {
+            run.vars.puts = puts;
+            return Ok(Some(run));
+        }
+        let Some(cells) = put(alloc, table, run.facts.as_slice(), &run.vars, job)? else {
+            return Ok(None);
+        };
+        run.vars.cells = cells;
+        Ok(Some(run))
+    }
+
+    // What is known behind the jobs of these numbers.
+    fn behind(
+        &self,
+        alloc: Global,
+        table: &mut Classes,
+        run: Run,
+        path: &[u32],
+    ) -> Result<Option<Run>, NoMemory>
+        ensures { IfOk result (λ found. IfSome found (AreDone self.now path.now table.old table.new run)) }
+    {
+        let Some((number, rest)) = path.split_first() else {
+            return Ok(Some(run));
+        };
+        let Some(job) = job_at(self.jobs, *number) else {
+            return Ok(None);
+        };
+        let Some(next) = self.after(alloc, table, run, job)? else {
+            return Ok(None);
+        };
+        self.behind(alloc, table, next, rest)
+    }
+    // The addresses of arrays in the test at the path's end.
+    fn test_elements(&self, table: &mut Classes, run: &mut Run) -> Result<(), NoMemory>
+        ensures { OnOk result (IsGathered self.now (TestReads self.now.from.now.spots (models_of_jobs self.now.jobs.now) self.now.label)
+            table.old table.new run.old run.new) }
+    {
+        let Some(number) = self.label else {
+            return Ok(());
+        };
+        let Some(job) = job_at(self.jobs, number) else {
+            return Ok(());
+        };
+        self.all_elements(table, run, job.trees.as_slice())
+    }
+
+    // What is known behind the path, where the test at its end can be computed.
+    pub(crate) fn over_path(
+        &self,
+        alloc: Global,
+        table: &mut Classes,
+        run: Run,
+    ) -> Result<Option<Run>, NoMemory>
+        ensures { IfOk result (λ found. IfSome found (IsOverPath self.now table.old table.new run)) }
+    {
+        let Some(mut run) = self.behind(alloc, table, run, self.path)? else {
+            return Ok(None);
+        };
+        self.test_elements(table, &mut run)?;
+        Ok(Some(run))
+    }
+}

@@ -1,0 +1,15 @@
+pub mod Grown
+pub mod Keeping
+pub mod Made
+pub mod Cells
+pub mod Evaluated
+pub mod Moving
+pub mod Writing
+pub mod Passing
+pub mod Walking
+pub mod Agreeing
+pub mod Summing
+pub mod Numbering
+pub mod PutLemmas
+pub mod SamePuts
+pub mod LowBits

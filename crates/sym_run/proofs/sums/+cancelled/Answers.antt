@@ -1,0 +1,23 @@
+use Rattle.rec_bits.specs.declared.operator.Op2.TheVariants.{Add}
+use Rattle.sym_run.specs.Inner.Sums.{Makes}
+use Rattle.sym_run.proofs.Keeping.{grows_on}
+use Rattle.sym_run.proofs.Made.{if_found, some_of}
+use Rattle.sym_run.proofs.Summing.{inserted, makes_kept, opposite_cancelled}
+use Rattle.sym_run.proofs.sums.+cancelled.Goals as goal
+
+pub returns-then-are_opposite-2-clause-is : goal.returns-then-are_opposite-2-clause-is
+returns-then-are_opposite-2-clause-is t c =
+    opposite_cancelled c.args.table.now c.args.a c.args.b c.in-Some.terms.first c.in-Some.terms.last c.in-Some.ensures.makes (c.are_opposite-2.ensures c.if-are_opposite-2.true)
+
+pub returns-clause-is : goal.returns-clause-is
+returns-clause-is t c =
+    let t0 = c.args.table.now in
+    let t1 = c.cancelled.new.table in
+    let t2 = c.ended.new.table in
+    let g = c.ended.ensures.grows in
+    let p = c.in-Some.terms.first in
+    let l = c.in-Some.terms.last in
+    let r = c.in-Some-2.first in
+    let first = some_of (Makes t1 Add p c.args.b) c.in_ok-first.field-0 r c.in-Some-2.is c.in_ok-first.ensures.is in
+    let terms = makes_kept t0 t2 (grows_on t0 t1 t2 c.in_ok-first.ensures.grows g) Add p l c.args.a c.in-Some.ensures.makes in
+    if_found c.ended.result _ _ (λ k h. inserted t2 c.args.a c.args.b p l r k terms (makes_kept t1 t2 g Add p c.args.b r first) h) c.ended.ensures.is

@@ -1,0 +1,67 @@
+-- What arrays' cells hold behind writes, by classes.
+use Rattle.std.specs.Prelude.{ℕ, ◌+◌, ◌%◌, ◌^◌, ◌<◌, ◌≤◌, ◌≡◌, ◌≢◌, ◌==◌, if◌then◌else◌, List, slice_index}
+use Rattle.net_model.specs.declared.states.State.{State}
+use Rattle.tree_laws.specs.declared.classes.Classes.{Classes}
+use Rattle.tree_laws.specs.Classes.{TableMeans, cell_bits}
+use Rattle.tree_laws.specs.Equal.{CellsFit}
+use Rattle.sym_run.specs.declared.known.Cell.{Cell}
+use Rattle.sym_run.specs.declared.known.Cell.TheVariants.{Array}
+use Rattle.sym_run.specs.declared.known.Element.{Element}
+use Rattle.sym_run.specs.declared.known.Fact.{Fact}
+use Rattle.sym_run.specs.declared.known.Known.{Known}
+use Rattle.sym_run.specs.declared.known.Put.{Put}
+use Rattle.sym_run.specs.Known.{AreFacts, AreInside, HaveWritten, Holds, HoldsWide, StandsFor, Wrote, cell_at, value_after}
+
+-- ---- addresses that differ
+
+-- the class has one of these numbers
+abbrev pub IsRange : Classes → List Fact → List Element → ℕ → ℕ → ℕ → Type 0
+IsRange table facts elements class first end =
+    (memory : List ℕ) (cells : List Cell) (n : ℕ) → CellsFit (cell_bits table) memory → AreFacts table memory facts →
+    AreInside table memory cells elements → Holds table memory class n → (first ≤ n) × (n < end)
+
+-- the class is the sum of a base and a number
+pub record IsOffset (table : Classes) (facts : List Fact) (class w base n : ℕ) : Type 0 where
+  pub small : n < 2 ^ w
+  pub value : (memory regs : List ℕ) → AreFacts table memory facts → TableMeans table memory regs →
+      slice_index regs class ≡ (slice_index regs base + n) % 2 ^ w
+
+-- the classes never have one value
+abbrev pub AreApart : Classes → List Fact → List Element → ℕ → ℕ → Type 0
+AreApart table facts elements a b =
+    (memory : List ℕ) (cells : List Cell) (n k : ℕ) → CellsFit (cell_bits table) memory → AreFacts table memory facts →
+    AreInside table memory cells elements → Holds table memory a n → Holds table memory b k → n ≢ k
+
+-- ---- cells behind writes
+
+-- the class has one value or another, by a bit
+abbrev pub IsChosen : Classes → Classes → List Fact → ℕ → ℕ → ℕ → ℕ → ℕ → Type 0
+IsChosen old new facts bit width value was c =
+    (memory : List ℕ) (v x : ℕ) → CellsFit (cell_bits old) memory → AreFacts old memory facts →
+    HoldsWide old memory value width v → HoldsWide old memory was width x →
+    ((Holds old memory bit 1 → HoldsWide new memory c width v)
+    × (Holds old memory bit 0 → HoldsWide new memory c width x))
+
+-- the class has what a cell holds behind a write
+abbrev pub IsPassed : Classes → Classes → List Fact → List Element → Put → ℕ → ℕ → ℕ → ℕ → Type 0
+IsPassed old new facts elements put at width was c =
+    (memory : List ℕ) (cells : List Cell) (one : Wrote) (a x : ℕ) → CellsFit (cell_bits old) memory →
+    AreFacts old memory facts → AreInside old memory cells elements →
+    Holds old memory put.address one.address → Holds old memory put.value one.value →
+    Holds old memory at a → HoldsWide old memory was width x →
+    HoldsWide new memory c width (if one.address == a then one.value else x)
+
+-- and behind some
+abbrev pub ArePassed : Classes → Classes → List Fact → List Element → List Put → ℕ → ℕ → ℕ → ℕ → Type 0
+ArePassed old new facts elements puts at width was c =
+    (memory : List ℕ) (cells : List Cell) (log : List Wrote) (a x : ℕ) → CellsFit (cell_bits old) memory →
+    AreFacts old memory facts → AreInside old memory cells elements → HaveWritten old memory puts log →
+    Holds old memory at a → HoldsWide old memory was width x →
+    HoldsWide new memory c width (value_after log a x)
+
+-- the class has what an array's cell holds
+abbrev pub IsElementAt : Classes → Classes → List Fact → Known → ℕ → ℕ → ℕ → Type 0
+IsElementAt old new facts known at width c =
+    (memory : List ℕ) (s : State) (a : ℕ) → AreFacts old memory facts → StandsFor old memory known s →
+    Holds old memory at a →
+    cell_at known.cells a ≡ Array → HoldsWide new memory c width (slice_index s.cells a)

@@ -1,0 +1,7 @@
+pub mod Known
+pub mod Values
+pub mod Reading
+pub mod Moves
+pub mod Walks
+pub mod Arrivals
+pub mod Inner

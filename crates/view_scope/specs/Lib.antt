@@ -1,0 +1,4 @@
+pub mod Widths
+pub mod Turns
+pub mod Fits
+pub mod Worked

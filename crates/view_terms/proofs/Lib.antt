@@ -1,0 +1,3 @@
+mod Words
+pub mod Laws
+pub mod Giving
