@@ -3,13 +3,13 @@
 
 Usage: checking.py BINARY [--table] FOLDER..
        checking.py BINARY --changed FOLDER [COUNT] [SEED]
-       checking.py BINARY --compiled [--files] [COUNT] [SEED]
+       checking.py BINARY --compiled [--files | --indexed] [COUNT] [SEED]
 
-An image of a FOLDER is a file PROGRAM.PROCESSOR.img, for a program and a processor of that folder
-or of examples/, beside which a memory text PROGRAM.PROCESSOR.mem may say a start state; or it is
-the file `img` of a folder in it, with the memory text `mem`, beside `net.rtn` and `prog.src`. There
-a file `why` says that the image is to be refused, but where the folder's name ends in `-right`. All
-others are to be accepted.
+An image of a FOLDER is a file PROGRAM.PROCESSOR.img, for a processor and a program of that folder
+or of examples/; a program of its own is PROGRAM.PROCESSOR.src. A memory text of either name may say
+a start state. Or the image is the file `img` of a folder in it, with the memory text `mem`, beside
+`net.rtn` and `prog.src`. There a file `why` says that the image is to be refused, but where the
+folder's name ends in `-right`. All others are to be accepted.
 
 With --changed one bit of one word is changed in an image of the FOLDER that is accepted, COUNT
 times (10,000 where none are given). Such an image may be right or wrong.
@@ -17,7 +17,9 @@ times (10,000 where none are given). Such an image may be right or wrong.
 With --compiled what `record compile` writes for the pairs of examples/, and for COUNT random pairs
 (1,000 where none are given) as tools/programs.py makes them, has to be accepted as it stands. With
 --files these are the pairs whose processors have a register file, and otherwise those whose
-processors have one memory beside their registers.
+processors have one memory beside their registers. With --indexed COUNT random programs are taken
+alone, for the processors of examples/ in turn: programs with loops, and with elements of two arrays
+at computed places.
 
 Each image that is accepted is clocked by tools/rtn/clock.py from ten random states, and from its
 start state where it has one, beside a run of the program's text: at its marks it has to show the
@@ -47,9 +49,10 @@ from rtn.clock import Netlist, State
 from rtn.following import Follower, read_viewed
 from rtn.images import Image
 from rtn.random_processors import Kind
+from rtn.random_programs import COUNTERS, OPERATORS, PLAIN, Indexing, program_text
 from rtn.random_states import random_state
 from rtn.reading import Fault
-from rtn.runs import EXAMPLES, started
+from rtn.runs import EXAMPLES, started, texts_of
 from rtn.sources import read_source
 
 CYCLES = 2000
@@ -58,6 +61,8 @@ STATES = 10
 CHANGES, PAIRS = 10_000, 1000
 EDITION = re.compile(r'(?:\s|//.*\n)*version (\d);')
 FILES = '2'   # the edition of netlist texts with register files
+CHECKED_EDITIONS = (None, FILES)
+DECLARED = (*PLAIN, *COUNTERS, *(f'{name}[{size}]' for name, size in Indexing.ARRAYS.items()))
 ACCEPTED, REFUSED, WRONG, NO_CODE = 'accepted', 'refused', 'otherwise', 'without code'
 
 
@@ -101,13 +106,8 @@ def case_of_folder(folder: pathlib.Path) -> Case:
 
 def case_of_image(path: pathlib.Path) -> Case:
     """An image that is named by its program and its processor."""
-    program, processor, *_ = path.name.split('.')
-
-    def beside(name: str) -> pathlib.Path:
-        return existing(path.with_name(name)) or EXAMPLES / name
-
-    return Case(path.stem, beside(f'{processor}.rtn'), beside(f'{program}.src'), path.read_text(),
-                existing(path.with_suffix('.mem')))
+    texts = texts_of(path)
+    return Case(path.stem, texts.netlist, texts.source, path.read_text(), texts.memory)
 
 
 def existing(path: pathlib.Path) -> pathlib.Path | None:
@@ -119,6 +119,16 @@ def edition_of(netlist: pathlib.Path) -> str | None:
     """The edition that a netlist text tells, if it tells one."""
     found = EDITION.match(netlist.read_text())
     return found and found[1]
+
+
+@dataclasses.dataclass(frozen=True)
+class Processor:
+    """A processor of examples/, with the operators that programs on it can have, by their signs,
+    and whether their elements can stand at computed places."""
+
+    netlist: pathlib.Path
+    operators: tuple[str, ...]
+    has_computed_places: bool
 
 
 def changed(pick: random.Random, case: Case) -> Case:
@@ -192,6 +202,37 @@ class Trial:
             made = programs.Run(self.record, self.folder, random.Random(number), kind)
             yield self.compiled(f'seed {number}', made.netlist, made.source)
 
+    def all_indexed(self, count: int, seed: int) -> Iterator[Case | None]:
+        """That for random programs with arrays and loops, on the processors of examples/ in
+        turn."""
+        processors = list(self.processors())
+        if not processors:
+            raise Fault('no processor of examples/ has code for an operator')
+        for number in range(seed, seed + count):
+            of, pick = processors[number % len(processors)], random.Random(number)
+            program = Indexing(pick, of.operators, of.has_computed_places).program()
+            source = self.source(program_text(DECLARED, program))
+            yield self.compiled(f'seed {number}, {of.netlist.stem}', of.netlist, source)
+
+    def source(self, text: str) -> pathlib.Path:
+        """A file with this program."""
+        path = self.folder / 'p.src'
+        path.write_text(text)
+        return path
+
+    def processors(self) -> Iterator[Processor]:
+        """Those that have code for some operator."""
+        def has_code(netlist: pathlib.Path, text: str) -> bool:
+            return self.record('compile', netlist, self.source(text)).status == 0
+
+        for netlist in sorted(EXAMPLES.glob('*.rtn')):
+            if edition_of(netlist) in CHECKED_EDITIONS:
+                operators = tuple(sign for sign in OPERATORS
+                                  if has_code(netlist, f'var a; a = a {sign} a;'))
+                if operators:
+                    computes = has_code(netlist, 'var i, x[2]; for i = 0 to 1 { x[i] = x[i]; }')
+                    yield Processor(netlist, operators, computes)
+
     # the table
 
     def rows(self, cases: Iterable[Case]) -> Iterator[str]:
@@ -234,11 +275,13 @@ def read_words() -> tuple[argparse.Namespace, list[pathlib.Path], list[int]]:
     ways = words.add_mutually_exclusive_group()
     for option in ('--table', '--changed', '--compiled'):
         ways.add_argument(option, action='store_true')
-    words.add_argument('--files', action='store_true')
+    pairs = words.add_mutually_exclusive_group()
+    for option in ('--files', '--indexed'):
+        pairs.add_argument(option, action='store_true')
     words.add_argument('rest', nargs='*')
     given = words.words()
-    if given.files and not given.compiled:
-        words.error('--files goes with --compiled alone')
+    if (given.files or given.indexed) and not given.compiled:
+        words.error('--files and --indexed go with --compiled alone')
     if given.compiled:
         return given, [], words.numbers(given.rest, PAIRS, 0)
     if not given.rest:
@@ -252,7 +295,8 @@ def try_all(trial: Trial, given: argparse.Namespace, cases: list[Case], count: i
             seed: int) -> None:
     """Tries the images that are asked for."""
     if given.compiled:
-        for case in trial.all_compiled(count, seed, given.files):
+        for case in (trial.all_indexed(count, seed) if given.indexed else
+                     trial.all_compiled(count, seed, given.files)):
             if case:
                 trial.judge(case)
             else:

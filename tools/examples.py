@@ -8,9 +8,10 @@ Usage: examples.py BINARY [--table]
 Each program is compiled for each processor and run by `record go` from its memory text. What the
 variables hold at the end has to be what the algorithm gives, as it is written below in Python;
 where the processor lacks something that the program needs, the answer has to be the expected `error
-no cover`. The images examples/PROGRAM.PROCESSOR.hand.img are code for the same cells that was
-written by hand; they are run by `record run` and held against the same results. Their words are
-those that `record asm` makes of examples/PROGRAM.PROCESSOR.hand.asm. A line is printed for each:
+no cover`. The images examples/hand/PROGRAM.PROCESSOR.img are code for the same cells that was
+written by hand; they are run by `record run` and held against the same results. Each is what
+tools/kernel.py makes of the kernel beside it, and is accepted by `record check`. A line is printed
+for each:
 
     dot xy: 18 words, 23 unpacked, 104 cycles
     dot xy by hand: 6 words, 19 cycles
@@ -50,14 +51,16 @@ import tempfile
 from collections.abc import Callable, Iterator, Sequence
 
 import command_line
+from kernel import kernel_at, text_of
 from listing import listed
 from report import write_report
 from reporting.tasks import Task
 from rtn.calls import Program
-from rtn.images import read_image, read_words
+from rtn.checks import check
+from rtn.images import read_image
 from rtn.operators import mask, signed
-from rtn.runs import (EXAMPLES, TWIN, End, Variables, on_two, one_memory, ran, start_of, unpacked,
-                      went)
+from rtn.runs import (EXAMPLES, TWIN, End, Variables, on_two, one_memory, ran, start_of, texts_of,
+                      unpacked, went)
 
 PROCESSORS = ('a16', 'f16', 'xy', 'dsp', 'r16', 'c10w', 'c10i', 'adsp', 'rr4', 'rrf', 'm16')
 REPORTED = ('a16', 'dsp', 'xy')
@@ -191,7 +194,7 @@ class Files:
 
     @property
     def hand(self) -> pathlib.Path:
-        return EXAMPLES / f'{self.program}.{self.processor}.hand.img'
+        return EXAMPLES / 'hand' / f'{self.program}.{self.processor}.img'
 
     def due(self, start: Variables) -> Variables:
         """What the program has to leave of this start."""
@@ -254,9 +257,12 @@ def hand_example(record: Program, files: Files, places: Sequence,
     text = files.hand.read_text()
     image, end = read_image(text), ran(record, files.netlist, files.hand, files.memory)
     fault = wrong(due, end) if image.places == places else ', but its variables have other places'
-    assembled = record.text('asm', files.netlist, files.hand.with_suffix('.asm'))
-    if [word.digits for word in read_words(assembled)] != [word.digits for word in image.words]:
-        fault += ', but its assembler text has other words'
+    kernel = kernel_at(record, files.netlist, files.hand.with_suffix('.kernel'))
+    if text_of(kernel.image(record, files.netlist)) != text:
+        fault += ', but its kernel has another image'
+    answer = check(record, files.netlist, texts_of(files.hand).source, text)
+    if answer.status:
+        fault += f', but {answer.line}'
     words = len(image.words)
     told = Told(f'{files} by hand: {words} words, {end.cycles} cycles', fault)
     return told, [words, end.cycles]

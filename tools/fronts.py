@@ -1,19 +1,20 @@
 #!/usr/bin/env python3
-"""Gives `record asm` the fronts of the assembler texts of examples/.
+"""Gives `record asm` the fronts of assembler texts.
 
 Usage: fronts.py BINARY
 
-A front that ends with a line has to be taken, and of any other the answer has to be `error asm
-text` with the offset at which its last line begins. Every front is tried of a text of up to 1,200
-bytes, and every seventh of up to 2,500 bytes of a longer one. What is wrong is printed; the exit
-status is 1 where there is any.
+The texts are what `record dis` writes of the images of examples/checked and examples/hand. A front
+that ends with a line has to be taken, and of any other the answer has to be `error asm text` with
+the offset at which its last line begins. Every front is tried of a text of up to 1,200 bytes, and
+every seventh of up to 2,500 bytes of a longer one. What is wrong is printed; the exit status is 1
+where there is any.
 """
 import pathlib
 import tempfile
 
 import command_line
 from rtn.calls import Program
-from rtn.runs import EXAMPLES
+from rtn.runs import EXAMPLES, texts_of
 
 SHORT, LONGEST, STEP = 1200, 2500, 7
 NO_ASSEMBLER_TEXT = 16
@@ -42,8 +43,9 @@ def main():
     tried = failed = 0
     with tempfile.TemporaryDirectory() as folder:
         front = pathlib.Path(folder) / 'front.asm'
-        for path in sorted(EXAMPLES.glob('*.hand.asm')):
-            text, netlist = path.read_bytes(), EXAMPLES / f'{path.name.split(".")[1]}.rtn'
+        for path in sorted(EXAMPLES.glob('*/*.img')):
+            netlist = texts_of(path).netlist
+            text = record.done('dis', netlist, path).encode()
             for length in lengths(text):
                 front.write_bytes(text[:length])
                 tried += 1

@@ -20,7 +20,7 @@ import tempfile
 import command_line
 from rtn.calls import Program, Slow
 from rtn.operators import OPERATORS, WIRING
-from rtn.runs import EXAMPLES
+from rtn.runs import EXAMPLES, texts_of
 
 SECONDS = 1
 STATUSES = frozenset({0, 2, 3, 5, 6, 7, 8, 9, 10, 11, 12, 13, 16, 17, 19, 20, 21})
@@ -89,36 +89,31 @@ def replace(pick: random.Random, tokens: list[str], at: int, words: list[str]) -
 
 
 class Good:
-    """The texts of examples/ by their kinds."""
+    """The texts of examples/ by their kinds. Their assembler texts are also what `dis` writes of
+    their images."""
 
-    def __init__(self):
-        self.texts = {kind: [path.read_text() for path in sorted(EXAMPLES.glob(f'*.{kind}'))]
+    def __init__(self, record: Program):
+        self.texts = {kind: [path.read_text() for path in sorted(EXAMPLES.rglob(f'*.{kind}'))]
                       for kind in KINDS}
         self.parts = sorted(EXAMPLES.glob('*.part'))
-        self.images = sorted(EXAMPLES.glob('*.hand.img'))
-        self.checked = sorted((EXAMPLES / 'checked').glob('*.img'))
+        self.images = {}
+        for image in sorted(EXAMPLES.glob('*/*.img')):
+            texts = texts_of(image)
+            self.images[image] = texts, record.done('dis', texts.netlist, image)
 
     def some(self, pick: random.Random) -> dict[str, str]:
         """A text of each kind; often such that go together."""
         texts = {kind: pick.choice(good) for kind, good in self.texts.items()}
+        files = {}
         if pick.random() < 0.3:
             # a netlist with two memories, and a part of the program
             part = pick.choice(self.parts)
             files = {'rtn': EXAMPLES / 'twin.rtn', 'src': part.with_suffix('.src'), 'part': part}
-        elif pick.random() < 0.3:
-            # an image with remarks, for the netlist and the program
-            image = pick.choice(self.checked)
-            program, processor, _ = image.name.split('.')
-            source = next(path for path in (image.with_name(f'{program}.src'),
-                                            EXAMPLES / f'{program}.src') if path.exists())
-            files = {'rtn': EXAMPLES / f'{processor}.rtn', 'src': source, 'img': image}
         elif pick.random() < 0.5:
-            # an image and an assembler text of the netlist
-            image = pick.choice(self.images)
-            files = {'rtn': EXAMPLES / f'{image.name.split(".")[1]}.rtn', 'img': image,
-                     'asm': image.with_suffix('.asm')}
-        else:
-            files = {}
+            # an image with remarks, for the netlist and the program
+            image = pick.choice(list(self.images))
+            own, texts['asm'] = self.images[image]
+            files = {'rtn': own.netlist, 'src': own.source, 'img': image}
         return texts | {kind: path.read_text() for kind, path in files.items()}
 
 
@@ -139,7 +134,7 @@ def main():
     words.add_runs(2000, seed=1)
     given = words.words()
     record, pick = dataclasses.replace(given.binary, seconds=SECONDS), random.Random(given.seed)
-    good, wrong, seen = Good(), 0, collections.Counter()
+    good, wrong, seen = Good(record), 0, collections.Counter()
     with tempfile.TemporaryDirectory() as name:
         folder = pathlib.Path(name)
         for number in range(given.count):

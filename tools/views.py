@@ -16,12 +16,14 @@ for in the registers, the cells of the register file and what transfers compute 
 cut or widened, added to a number, or subtracted from one. With `--hide i` the variable i may be
 hidden where it isn't found, at tests and at the end, as fast code wants it of a counter that nobody
 reads any more; no other is. What registers and temporary cells hold is guessed as well, from the
-variables and from what the statements of the program compute.
+variables and from what the statements of the program compute, in this turn of a loop, in the last
+one or in the next; but not that of registers that a view has several of.
 
 `check` is asked at most COUNT times, 60 unless it is told; a view or a hint that it refuses gets
-another term, or is left out. What it accepts is printed as a kernel, to look at: the views and
-what is hidden are part of what is promised. If nothing is accepted, the first segment that isn't is
-told, of the guess that hides least, and with -o that guess is written to FILE.
+another term, or is left out, and guesses with a mark from which words weren't followed come last.
+What it accepts is printed as a kernel, without the hints that it doesn't need, to look at: the
+views and what is hidden are part of what is promised. If nothing is accepted, the first segment
+that isn't is told, of the guess that hides least, and with -o that guess is written to FILE.
 
 This tool proves nothing and owes nothing: `check` does. The exit status is 0 where it accepted a
 guess, 1 where it didn't or a text is refused, or 2 where the words are none of these.

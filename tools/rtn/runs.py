@@ -33,6 +33,35 @@ class End:
     cycles: int | None
 
 
+@dataclasses.dataclass(frozen=True)
+class Texts:
+    """The texts that go with an image: its netlist, its program, and a start state if there is
+    one."""
+
+    netlist: pathlib.Path
+    source: pathlib.Path
+    memory: pathlib.Path | None
+
+
+def texts_of(image: pathlib.Path) -> Texts:
+    """The texts of an image PROGRAM.PROCESSOR.img, each beside it or else in examples/. The program
+    and the start state may be its own, with all of its name, or are those of PROGRAM."""
+    program, processor, *_ = image.name.split('.')
+
+    def found(*names: str) -> pathlib.Path | None:
+        paths = (folder / name for name in names for folder in (image.parent, EXAMPLES))
+        return next((path for path in paths if path.exists()), None)
+
+    def needed(*names: str) -> pathlib.Path:
+        path = found(*names)
+        if path is None:
+            raise Fault(f'{image}: there is no {names[-1]}')
+        return path
+
+    return Texts(needed(f'{processor}.rtn'), needed(f'{image.stem}.src', f'{program}.src'),
+                 found(f'{image.stem}.mem', f'{program}.mem'))
+
+
 def variables(image: Image, cells: Mapping[int, int]) -> Variables:
     """What the variables of an image hold in a memory with these cells."""
     return {place.name: [cells.get(place.address + k, 0) for k in range(place.length)]

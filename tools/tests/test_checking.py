@@ -2,11 +2,16 @@
 from __future__ import annotations
 
 import pathlib
+import re
+import textwrap
 import unittest
 
 from rtn.checks import check
-from rtn.images import read_image
-from tests.support import EXAMPLES, InFolder, blocks_of, needs_record, record, run_here
+from rtn.images import read_cells, read_image
+from rtn.runs import texts_of
+from rtn.sources import Run, read_source
+from tests.support import (DOCS, EXAMPLES, TOP, InFolder, blocks_of, example, needs_record, record,
+                           run_here)
 from tests.test_checks import ANSWER
 from tests.test_following import IMAGE, SOURCE
 
@@ -50,6 +55,20 @@ class Answers(InFolder):
         for name in ('down.src', 'down.a16.img'):
             (self.images / name).write_text((EXAMPLES / 'checked' / name).read_text())
         self.check(self.program(ANSWER), '1 accepted\n')
+
+    def test_a_program_of_its_own(self):
+        for name in ('down.src', 'down.a16.img'):
+            (self.images / name).write_text((EXAMPLES / 'checked' / name).read_text())
+        (self.images / 'down.a16.src').write_text('var a; while a != 0 { a = a - 2; }\n')
+        run = run_here('checking.py', self.program(ANSWER), self.images)
+        self.assertEqual(run.returncode, 1)
+        self.assertRegex(run.stdout, r'^down\.a16: clock 6, mark 3: a is ')
+
+    def test_no_program(self):
+        (self.images / 'nothing.a16.img').write_text(IMAGE)
+        run = run_here('checking.py', self.program(ANSWER), self.images)
+        self.assertEqual((run.returncode, run.stdout), (2, ''))
+        self.assertRegex(run.stderr, r'^checking: .*nothing\.a16\.img: there is no nothing\.src$')
 
     def test_refused(self):
         self.put()
@@ -101,6 +120,9 @@ class Answers(InFolder):
             run = run_here('checking.py', self.refusing(), '--compiled', *words, 2)
             self.assertEqual((run.returncode, run.stderr), (0, ''))
             self.assertRegex(run.stdout, r'^\d+ without code\n$')
+        run = run_here('checking.py', self.refusing(), '--compiled', '--indexed', 2)
+        self.assertEqual((run.returncode, run.stdout), (2, ''))
+        self.assertRegex(run.stderr, '^checking: no processor of examples/ has code')
 
     def test_table(self):
         """Where `compile` refuses a program the cells for it are empty."""
@@ -139,6 +161,67 @@ class Page(unittest.TestCase):
         for old, new in self.WITHOUT_STORE:
             hidden = hidden.replace(old, new)
         self.check(hidden)
+
+    def test_a_loop_of_two_words(self):
+        """The kernel, its program, and what `check` and `compile` come to."""
+        page, netlist = (DOCS / 'CHECKING.md').read_text(), EXAMPLES / 'xy.rtn'
+        kernel, source = (EXAMPLES / 'hand' / f'dot.xy.{kind}' for kind in ('kernel', 'src'))
+        for path in (kernel, source):
+            self.assertIn(textwrap.indent(path.read_text(), '    '), page)
+        run = run_here('kernel.py', record().path, netlist, kernel, '--check', source)
+        self.assertIn(run.stdout, blocks_of('CHECKING.md'))
+        dot = EXAMPLES / 'dot.src'
+        answer = check(record(), netlist, dot, record().done('compile', netlist, dot))
+        self.assertIn(answer.text, blocks_of('CHECKING.md'))
+
+
+class OwnPrograms(unittest.TestCase):
+    """The programs that code by hand has of its own show other checkpoints than those of examples/,
+    from the starts of which examples/README.md tells."""
+
+    CHANGED = {'crc': {6: 16384}, 'crc8': {8: 384}}   # cells of the memory texts
+
+    def checkpoints(self, source: pathlib.Path, cells: dict[str, int]) -> list:
+        """The tests of a program with the cells before each, and those at its end."""
+        run = Run(read_source(source.read_text()), 16, dict(cells))
+        return [*((test.tree, dict(run.cells)) for test, _ in run.tests()), run.cells]
+
+    def test_other_checkpoints(self):
+        for own in sorted((EXAMPLES / 'hand').glob('*.src')):
+            program = own.name.split('.')[0]
+            image = read_image(own.with_suffix('.img').read_text())
+            held = read_cells(example(f'{program}.mem')) | self.CHANGED.get(program, {})
+            cells = {cell: held.get(at, 0) for at, cell in image.cells().items()}
+            with self.subTest(program=own.name):
+                self.assertNotEqual(self.checkpoints(own, cells),
+                                    self.checkpoints(EXAMPLES / f'{program}.src', cells))
+
+
+@needs_record
+class Kernels(unittest.TestCase):
+    """The code by hand in examples/hand."""
+
+    def test_images(self):
+        """Each image is what its kernel makes, and is accepted."""
+        kernels = sorted((EXAMPLES / 'hand').glob('*.kernel'))
+        images = sorted((EXAMPLES / 'hand').glob('*.img'))
+        self.assertEqual([path.stem for path in kernels], [path.stem for path in images])
+        for kernel, image in zip(kernels, images):
+            with self.subTest(kernel=kernel.name):
+                texts = texts_of(image)
+                run = run_here('kernel.py', record().path, texts.netlist, kernel)
+                self.assertEqual((run.returncode, run.stdout), (0, image.read_text()))
+                answer = check(record(), texts.netlist, texts.source, run.stdout)
+                self.assertEqual(answer.status, 0, answer.line)
+
+    def test_tables(self):
+        """The words and cycles that the pages tell of the images of a folder."""
+        for page, folder in (('docs/CHECKING.md', 'checked'), ('examples/README.md', 'hand')):
+            with self.subTest(page=page):
+                told = re.search(rf'<!-- tools/checking.py BINARY --table examples/{folder} -->\n\n'
+                                 r'((?:\|.*\n)+)', (TOP / page).read_text())
+                run = run_here('checking.py', record().path, '--table', EXAMPLES / folder)
+                self.assertEqual(run.stdout, told[1])
 
 
 if __name__ == '__main__':

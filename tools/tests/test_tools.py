@@ -27,11 +27,12 @@ class Tries(unittest.TestCase):
                 self.check('programs.py', *words, last=r'(?m)^ +\d+ as it should be$')
 
     def test_checking(self):
-        checked = EXAMPLES / 'checked'
-        self.check('checking.py', checked, last=r'^\d+ accepted$')
-        self.check('checking.py', '--changed', checked, 40, last=r'^\d+ refused(, \d+ accepted)?$')
-        self.check('checking.py', '--table', checked,
-                   last=r'(?m)^\| `down\.a16` \| 8 \| 9 \| 32 \| 74 \|$')
+        checked, hand = EXAMPLES / 'checked', EXAMPLES / 'hand'
+        self.check('checking.py', checked, hand, last=r'^\d+ accepted$')
+        for folder in (checked, hand):
+            self.check('checking.py', '--changed', folder, 20, last=r'^\d+ \w+(, \d+ \w+)?$')
+        self.check('checking.py', '--compiled', '--indexed', 20,
+                   last=r'^\d+ accepted(, \d+ without code)?$')
 
     def test_banks(self):
         self.check('banks.py', 4, last='as it should be|with an empty part|error no')

@@ -5,6 +5,7 @@ import unittest
 
 from rtn.images import Place
 from rtn.operators import mask
+from rtn.runs import texts_of
 from rtn.sources import read_source
 from tests.support import EXAMPLES, RECORD, InFolder, blocks_of, needs_record, run_here
 from viewing.relations import Term, plus, terms_for, variables
@@ -93,6 +94,13 @@ class OfStatements(unittest.TestCase):
         self.assertEqual(found['mul(read(x,sub(i,1#16)),read(y,2#16))'], (6,))
         self.assertEqual(found['mul(read(x,add(i,1#16)),read(y,2#16))'], (14,))
         self.assertEqual(found['add(s,mul(read(x,i),read(y,2#16)))'], (11,))
+        self.assertEqual(found['read(x,i)'], (5,))
+        self.assertNotIn('read(y,2#16)', found)
+
+    def test_elements_at_computed_places(self):
+        found = {text: term.values for text, term in self.terms('s = x[2 - i] * 3;').items()}
+        self.assertEqual(found['read(x,sub(2#16,i))'], (5,))
+        self.assertEqual(found['read(x,sub(2#16,sub(i,1#16)))'], (7,))
 
     def test_outside_an_array(self):
         found = self.terms(i=0)
@@ -138,6 +146,21 @@ class Guesses(InFolder):
         due = next(block for block in blocks if block.startswith('test0:'))
         bare = re.sub(r'(?m)^\.(mark|view|hold) .*\n', '', text)
         self.assertIn(due, self.accepted(A16, SOURCE, bare))
+
+    def test_code_by_hand(self):
+        """Registers of which a view has several, places that keep something else behind a mark, and
+        no hint that isn't needed."""
+        for name, *hidden in (('dot.xy', 'i'), ('dot.c10w', 'i'), ('crc.xy', 'i', 'j')):
+            with self.subTest(name=name):
+                path = EXAMPLES / 'hand' / f'{name}.kernel'
+                texts = texts_of(path)
+                hiding = [word for variable in hidden for word in ('--hide', variable)]
+                kernel = self.accepted(texts.netlist, texts.source, path.read_text(), *hiding)
+                for hint in re.findall(r'(?m)^\.(?:hold|know) .*\n', kernel):
+                    self.file('less.kernel', kernel.replace(hint, '', 1))
+                    run = run_here('kernel.py', RECORD, texts.netlist, self.folder / 'less.kernel',
+                                   '--check', texts.source)
+                    self.assertEqual(run.returncode, 1, hint)
 
     def test_a_test_before_the_loop(self):
         """The first test of a loop is at another word, and the counter isn't stored."""

@@ -9,16 +9,17 @@ from typing import NamedTuple
 
 from rtn.clock import State
 from rtn.images import END, Place
-from viewing.relations import Registers, terms_for
+from viewing.relations import Registers, names_in, terms_for
 from viewing.runs import Run, Test, held
 
 Sample = tuple[State, Test]
 WORDS = 4         # that a test may have
 SAMPLES = 40      # of a run, for each test
-KEPT = 8          # guesses for each test
+KEPT = 24         # guesses for each test
 COUNTED = 200_000  # sets of words whose runs are counted, for each test
 TRIED = 5_000     # of these, sets that are looked at
-JOINED = 500      # how many guesses for all tests are looked at
+JOINED = 2_000    # how many guesses for all tests are looked at
+PRODUCTS = 50_000  # of which these are
 
 
 class Meeting(NamedTuple):
@@ -136,7 +137,8 @@ class Marks:
             if place.length == 1 and values != [state[self.memory][place.address]
                                                 for state, _ in samples]:
                 terms = terms or list(self.registers.terms([state for state, _ in samples]))
-                found[place.name] = terms_for(values, self.width, terms)
+                found[place.name] = sorted(terms_for(values, self.width, terms),
+                                           key=lambda term: len(names_in(term)) > 1)
         return found
 
     def guesses(self, label: str) -> list[Guess]:
@@ -160,11 +162,15 @@ class Marks:
 
     def joined(self) -> Iterator[list[Guess]]:
         """Guesses for all tests that go together, the best ones first."""
-        several = [self.guesses(label) for label in self.labels]
-        joined = sorted(itertools.islice(itertools.product(*several), 100 * JOINED),
-                        key=lambda guesses: [sum(costs) for costs in zip(
-                            *(guess.cost(self.branches) for guess in guesses))])
-        return (list(guesses) for guesses in joined[:JOINED] if self.go_together(guesses))
+        several = [[(guess.cost(self.branches), guess) for guess in self.guesses(label)]
+                   for label in self.labels]
+        products = itertools.islice(itertools.product(*several), PRODUCTS)
+        joined = sorted(products, key=lambda pairs: [
+            sum(parts) for parts in zip(*(cost for cost, _ in pairs))])
+        for pairs in joined[:JOINED]:
+            guesses = [guess for _, guess in pairs]
+            if self.go_together(guesses):
+                yield guesses
 
     def go_together(self, guesses: Sequence[Guess]) -> bool:
         """Whether the words of each run come to the tests in the program's turns."""

@@ -3,6 +3,7 @@ differences of one with a number."""
 from __future__ import annotations
 
 import dataclasses
+import re
 from collections.abc import Iterable, Iterator, Sequence
 
 from rtn.clock import State
@@ -57,6 +58,11 @@ def terms_for(values: Sequence[int], width: int, terms: Iterable[Term]) -> list[
                      for value, other in zip(values, own.values)):
                 differences.append(f'sub({second}#{width},{own.text})')
     return [*equal, *sums, *differences]
+
+
+def names_in(text: str) -> frozenset[str]:
+    """The names in a term that are no operators."""
+    return frozenset(re.findall(r'\b[a-zA-Z_]\w*\b(?!\()', text))
 
 
 def plus(text: str, number: int, width: int) -> str:

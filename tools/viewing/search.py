@@ -11,7 +11,7 @@ from rtn.checks import read_unfollowed
 from rtn.images import END, Image
 from rtn.remarks import Kind, Order, Remark, remarked
 from viewing.marks import Guess, Marks
-from viewing.relations import Term, terms_for, variables
+from viewing.relations import Term, names_in, terms_for, variables
 from viewing.trees import Trees
 
 ALTERNATIVES = 4   # terms that are tried for one hint
@@ -64,6 +64,17 @@ class Choices:
             del self.terms[kind, at, subject]
         return True
 
+    def free(self, at: int) -> bool:
+        """Leaves out what those registers hold from which a view computes that has several: `check`
+        learns of them from the view, if no hint tells of any. Whether there was such a hint."""
+        views = [names_in(terms[0]) for (kind, mark, _), terms in self.terms.items()
+                 if (kind, mark) == (Kind.VIEW, at)]
+        names = set().union(*(names for names in views if len(names) > 1))
+        held = [key for key in self.terms if key[:2] == (Kind.HOLD, at) and key[2] in names]
+        for key in held:
+            del self.terms[key]
+        return bool(held)
+
 
 class Search:
     """Guesses for the marks of an image that has none. `ask` has what `check` says of a text."""
@@ -75,17 +86,40 @@ class Search:
 
     def found(self, asked: int) -> Found | None:
         """What is accepted, or else the best of the first guess, of which most is followed; None
-        without a guess. At most so many texts are asked."""
-        first = None
-        for guesses in self.marks.joined():
-            tried = []
-            for found in itertools.islice(self.refined(guesses), asked):
-                if found.is_accepted:
-                    return found
-                tried.append(found)
+        without a guess. At most so many texts are asked, and then one for each hint of what is
+        accepted."""
+        first, blamed = None, set()
+        for guesses in self.guesses(blamed):
+            tried = list(itertools.islice(self.refined(guesses), asked))
+            if not tried:
+                break
+            if tried[-1].is_accepted:
+                return self.spared(tried[-1])
             asked -= len(tried)
-            first = first or max(tried, key=lambda found: found.reached, default=None)
+            first = first or max(tried, key=lambda found: found.reached)
+            blamed.add(tried[-1].reached[0])
         return first
+
+    def guesses(self, blamed: set[int]) -> Iterator[list[Guess]]:
+        """Guesses for the marks, the best ones first; but those with a mark from which the words of
+        another guess aren't followed stand behind all others."""
+        later = []
+        for guesses in self.marks.joined():
+            if blamed.isdisjoint(at for guess in guesses for at in guess.views):
+                yield guesses
+            else:
+                later.append(guesses)
+        yield from later
+
+    def spared(self, found: Found) -> Found:
+        """An accepted guess without the hints that `check` doesn't need."""
+        for hint in found.remarks:
+            if hint.kind in (Kind.HOLD, Kind.KNOW):
+                rest = tuple(remark for remark in found.remarks if remark != hint)
+                answer = self.ask(remarked(found.image, rest))
+                if not answer.status:
+                    found = Found(found.image, rest, answer)
+        return found
 
     def refined(self, guesses: Sequence[Guess]) -> Iterator[Found]:
         """What `check` says of guesses, as long as what it refuses can be dropped."""
@@ -143,6 +177,8 @@ class Search:
         if found := re.fullmatch(r'error view (\d+) (\S+)', refusal):
             return choices.drop(Kind.VIEW, int(found[1]), found[2])
         found = read_unfollowed(refusal)
+        if found and found.mark is not None and choices.free(found.mark):
+            return True
         if not found or found.why not in KINDS:
             return False
         behind = followers.get(found.mark, set())

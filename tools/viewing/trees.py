@@ -15,9 +15,9 @@ TURNS = (None, 'sub', 'add')   # by 1
 
 @dataclasses.dataclass(frozen=True)
 class Part:
-    """An operator in a tree of a program, with the width of its place."""
+    """An operator or an element in a tree of a program, with the width of its place."""
 
-    of: Operation
+    of: Operation | Cell
     width: int
 
 
@@ -37,9 +37,10 @@ class Trees:
             yield from self.parts_of(of, self.sizes.common(of))
 
     def parts_of(self, of: Value, width: int) -> Iterator[Part]:
-        """The operators in a value whose place has this width."""
+        """The operators and the elements in a value whose place has this width."""
         match of:
             case Cell(_, index) if index is not None:
+                yield Part(of, width)
                 yield from self.parts_of(index, self.width)
             case Sized(_, inner):
                 yield from self.parts_of(inner, self.sizes.common(inner))
@@ -63,9 +64,8 @@ class Trees:
 
     def term(self, part: Part, stores: Sequence[dict[str, int]]) -> Term:
         """A part as a term; a KeyError where it reads outside an array."""
-        widths = [part.width] * len(part.of.operands)
         runs = [sources.Run(self.source, self.width, store) for store in stores]
-        return Term(self.text(part.of, part.width), OPERATORS[part.of.word].width(widths),
+        return Term(self.text(part.of, part.width), width_of(part),
                     tuple(run.value(part.of, part.width) for run in runs))
 
     def text(self, of: Value, width: int) -> str:
@@ -83,6 +83,13 @@ class Trees:
                         else f'{word}({inside},{wide})')
             case Operation(word, operands):
                 return f'{word}({",".join(self.text(operand, width) for operand in operands)})'
+
+
+def width_of(part: Part) -> int:
+    """How wide the value of a part is."""
+    if isinstance(part.of, Cell):
+        return part.width
+    return OPERATORS[part.of.word].width([part.width] * len(part.of.operands))
 
 
 def has(of: Value, name: str) -> bool:

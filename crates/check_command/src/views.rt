@@ -6,7 +6,7 @@ ghost use Rattle.net_model.specs.Nets.{memory_width};
 ghost use Rattle.rec_bits.specs.Faults.{same_name};
 ghost use Rattle.rec_bits.specs.Operators.{result_width};
 ghost use Rattle.code_model.specs.Places.{label_at};
-ghost use Rattle.code_model.specs.Views.{IsPlainView, is_of_registers, place_named};
+ghost use Rattle.code_model.specs.Views.{IsPlainView, is_literal, is_of_registers, place_named};
 ghost use Rattle.check_command.specs.Views.{AreViewsRight, IsLastAt, IsRightView, IsViewFault};
 ghost use Rattle.check_command.specs.Inner.Marked.{is_test};
 
@@ -46,12 +46,21 @@ fn place_named<'a>(places: &'a [Place], name: &Name) -> Option<&'a Place>
     place_named(rest, name)
 }
 
-// Whether an expression is over registers and numbers alone.
+// Whether an expression is a number.
+fn is_literal(expr: &Expr) -> bool
+    ensures { result ≡ is_literal (model_of_expr expr.now) }
+{
+    matches!(expr, Expr::Const { .. })
+}
+
+// Whether an expression is over registers, cells of the register file at literal addresses and numbers
+// alone.
 fn is_of_registers(expr: &Expr) -> bool
     ensures { result ≡ is_of_registers (model_of_expr expr.now) }
 {
     match expr {
-        Expr::Word(_) | Expr::Read(_, _) | Expr::Cell(_, _) => false,
+        Expr::Word(_) | Expr::Read(_, _) => false,
+        Expr::Cell(addr, _) => is_literal(addr),
         Expr::Reg(_, _) | Expr::Const { .. } => true,
         Expr::Un(_, a) | Expr::Slice(a, _, _) | Expr::Zext(a, _) | Expr::Sext(a, _) => {
             is_of_registers(a)

@@ -1,14 +1,17 @@
 -- Variables that are seen through views, and variables that are hidden. A view says that at a mark
--- a variable is the value of an expression over registers, whatever its place holds. The store that
+-- a variable is the value of an expression over registers, cells of a register file among them,
+-- whatever its place holds. The store that
 -- is *seen* in a state: of each variable with a view at the program counter's address the view's
 -- value, of all others the cells at their places. Views are *plain* where each is one of a variable
--- of one cell, over registers and numbers alone and as wide as a cell, at the mark of a test that
+-- of one cell, over registers, cells of the register file at literal addresses and numbers alone,
+-- and as wide as a cell, at the mark of a test that
 -- isn't at address 0, and no variable has two at one mark; so at the start and at the end all is
 -- seen in the places. A variable may be *hidden* at all marks of a label. The store that is *shown*
 -- in a state is the one that is seen, with zeros in place of each variable that is hidden at the
 -- mark; and the checkpoints of a source are masked by the same zeros at the same labels.
 use Rattle.std.specs.Prelude.{ℕ, ◌≡◌, ◌<◌, ◌==◌, ◌&&◌, Bool, true, false, if◌then◌else◌, List, [], ◌∷◌, ◌++◌, take, drop, Option, Some, None, map, replicate}
 use Rattle.net_model.specs.declared.hardware.Netlist.{Netlist}
+use Rattle.net_model.specs.declared.hardware.Space.TheVariants.{Memory as InMemory, File as InFile}
 use Rattle.net_model.specs.declared.states.State.{State}
 use Rattle.net_model.specs.Clock.{counter_in}
 use Rattle.net_model.specs.Exprs.{ExprModel, word, reg, const, read, un, bin, slice, cat, zext, sext, select, expr_width, model_of_expr}
@@ -119,12 +122,19 @@ shown_store netlist viewed s =
 
 -- ---- plain views
 
--- an expression over registers and numbers, without memory and without instruction bits
+-- a number
+abbrev pub is_literal : ExprModel → Bool
+is_literal (const w v) = true
+is_literal _ = false
+
+-- an expression over registers, cells of the register file at literal addresses and numbers, without
+-- memory and without instruction bits
 abbrev pub is_of_registers : ExprModel → Bool
 is_of_registers (word w) = false
 is_of_registers (reg r w) = true
 is_of_registers (const w v) = true
-is_of_registers (read space a w) = false
+is_of_registers (read InMemory a w) = false
+is_of_registers (read InFile a w) = is_literal a
 is_of_registers (un o a) = is_of_registers a
 is_of_registers (bin o a b) = is_of_registers a && is_of_registers b
 is_of_registers (slice a hi lo) = is_of_registers a

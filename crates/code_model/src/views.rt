@@ -6,7 +6,7 @@ use net_model::Expr;
 use rec_bits::{Items, Name};
 
 /// At the mark of this address, the variable of this name is the value of the expression, which is
-/// one over registers and numbers.
+/// one over registers, cells of the register file and numbers.
 #[derive(Drop)]
 pub struct View {
     pub address: u32,

@@ -12,5 +12,6 @@ pub mod Whole
 pub mod WorkedClocks
 pub mod WorkedHeld
 pub mod WorkedHidden
+pub mod WorkedLoop
 pub mod WorkedRight
 pub mod WorkedStates

@@ -18,7 +18,8 @@ use Rattle.follow.specs.Relations.{AllHold, AreShownAs, Holding, Relation, IsRel
 use Rattle.follow.specs.RightByViews.{IsRightByViews}
 use Rattle.follow.specs.Worked.{counted, map}
 use Rattle.follow.proofs.Whole.{followed_right}
-use Rattle.follow.proofs.WorkedHidden.{at_three, hidden_followed, hidden_laid, hidden_marks, one_kept}
+use Rattle.follow.proofs.WorkedHidden.{hidden_followed, hidden_laid, hidden_marks}
+use Rattle.follow.proofs.WorkedLoop.{at_three, one_kept}
 
 abbrev held_counter : Viewed
 held_counter = record {
@@ -83,8 +84,8 @@ crosses clocks label cells s c = record { next = c.next; clocked = c.clocked; ar
 
 shown_at : (address tree : ℕ) (s : State) (cells : List ℕ) → label_at hidden_counter.image.marks address ≡ Some (At tree) → IsRelated held_counter map acc_kept address s cells → IsRelated hidden_counter map one_kept address s cells
 shown_at address tree s cells label r =
-    subst (λ (a : ℕ). IsRelated hidden_counter map one_kept a s cells) (sym (at_three address tree label).0)
-    (show s cells (subst (λ (a : ℕ). IsRelated held_counter map acc_kept a s cells) (at_three address tree label).0 r))
+    subst (λ (a : ℕ). IsRelated hidden_counter map one_kept a s cells) (sym (at_three hidden_counter 6 refl address tree label).0)
+    (show s cells (subst (λ (a : ℕ). IsRelated held_counter map acc_kept a s cells) (at_three hidden_counter 6 refl address tree label).0 r))
 
 held_followed : IsFollowed a16 held_counter acc_kept map 3 counted
 held_followed = record {

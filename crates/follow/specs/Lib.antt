@@ -4,6 +4,7 @@ pub mod Relations
 pub mod Followed
 pub mod RightByViews
 pub mod MarkFaults
+pub mod Later
 pub mod Checked
 pub mod Trails
 pub mod Inner

@@ -1,14 +1,43 @@
-//! Whether the marks of an image are those of a program's flow.
+//! The labels of an image's marks, and whether they are those of a program's flow.
 
-ghost use Rattle.std.specs.Prelude.{ℕ, ◌≡◌, ◌<◌, ◌↔◌, length, IsTrue, None, Some, slice_get};
+ghost use Rattle.std.specs.Prelude.{ℕ, ◌≡◌, ◌≤◌, ◌<◌, ◌↔◌, length, IsTrue, None, Some, slice_get};
+ghost use Rattle.std.specs.Option.{option_map};
 ghost use Rattle.code_model.specs.ImageFits.{AreMarksAfter};
+ghost use Rattle.code_model.specs.Places.{checkpoint_of, label_at};
 ghost use Rattle.follow.specs.Inner.Marked.{HasLabel, IsMarkOf, tested_tree};
 ghost use Rattle.code_model.specs.declared.image.Mark.{Mark};
+ghost use Rattle.follow.specs.Later.{marks_from};
 ghost use Rattle.follow.specs.RightByViews.{HasMarksOf, IsTestOf};
 
 use crate::trail::item_at;
 use code_model::{Image, Mark};
 use form_model::Flow;
+
+/// The label of the first mark of an address, if it has one.
+pub fn label_at(marks: &[Mark], address: u32) -> Option<Option<u32>>
+    ensures { option_map checkpoint_of result ≡ label_at marks.now address }
+{
+    let (mark, rest) = marks.split_first()?;
+    if mark.address == address {
+        return Some(mark.label);
+    }
+    label_at(rest, address)
+}
+
+/// The marks from the first on that isn't below an address. A walk that goes up the addresses passes
+/// each mark but once, where marks ascend.
+pub fn marks_from(marks: &[Mark], low: u32) -> &[Mark]
+    ensures is { result.now ≡ marks_from marks.now low }
+    ensures same { (address : ℕ) → low ≤ address → label_at result.now address ≡ label_at marks.now address }
+{
+    let Some((mark, rest)) = marks.split_first() else {
+        return marks;
+    };
+    if mark.address < low {
+        return marks_from(rest, low);
+    }
+    marks
+}
 
 // The tree of a test.
 pub(crate) fn tested_tree(item: Option<Flow>) -> Option<u32>

@@ -76,7 +76,9 @@ segment_of front from test answer path label = record {
   marks = front.marks;
   counter = front.counter;
   memory = front.memory;
+  file = front.file;
   storages = front.storages;
+  file_cells = front.file_cells;
   counter_width = front.counter_width;
   word = front.word;
   addr = front.addr;
@@ -103,7 +105,7 @@ module _ (front : Front) (from : Bor Hint) (test : ℕ) (answer : Bool) (path : 
       ∙ ap (λ ts. path_to trail.to (all_jobs (program_jobs m l) ts)) (sym trees) ∙ ap (path_to trail.to) now in
       let same : p ≡ record { jobs = jobs.0; to = trail.to } = one_path (program_flow l) (program_jobs m l) n (length front.flow.now) at p (record { jobs = jobs.0; to = trail.to }) e other in
       record {
-        code = record { sound = r.sound; counter = r.counter; memory = r.memory; code = r.code };
+        code = record { sound = r.sound; counter = r.counter; memory = r.memory; file = r.file; file_cells = r.file_cells; code = r.code };
         modeless = r.modeless;
         word = r.word;
         temps_are = r.temps_are;

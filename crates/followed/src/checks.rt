@@ -21,51 +21,16 @@ use crate::claim::Claim;
 use crate::code::code_of;
 use crate::fault::CheckFault;
 use crate::laid::{addr_width, is_laid, misplaced};
-use crate::later::label_at;
 use crate::passed::Passed;
 use crate::plain::first_odd;
 use crate::said::hides_none;
 use crate::whole::ways_of;
-use code_model::{Image, Place, Places, words_of};
-use follow::has_marks_of;
+use code_model::words_of;
+use follow::{has_marks_of, label_at, places_of};
 use form_model::Blocks;
-use rec_bits::{Items, NoMemory};
 use src_trees::lower;
 use std::alloc::Global;
 use sym_expr::Pool;
-
-// A place of its own.
-fn place_of(alloc: Global, place: &Place) -> Result<Place, NoMemory>
-    ensures { IfOk result (λ made. made ≡ place.now) }
-{
-    let name = Items::from_slice(alloc, place.name.as_slice())?;
-    Ok(Place {
-        name,
-        address: place.address,
-        len: place.len,
-    })
-}
-
-// Places of their own.
-fn list_of(alloc: Global, places: &[Place]) -> Result<Items<Place>, NoMemory>
-    ensures { IfOk result (λ made. made ≡ places.now) }
-{
-    let mut made = Items::new(alloc);
-    for place in places {
-        made.push(place_of(alloc, place)?)?;
-    }
-    Ok(made)
-}
-
-fn places_of(alloc: Global, image: &Image) -> Result<Places, NoMemory>
-    ensures { IfOk result (λ made. made ≡ record { temps = image.now.temps; list = image.now.places }) }
-{
-    let list = list_of(alloc, image.places.as_slice())?;
-    Ok(Places {
-        temps: image.temps,
-        list,
-    })
-}
 
 // The ways of an image's words, where all that is asked of its places, marks and views is found.
 fn ways(

@@ -98,8 +98,8 @@ fn addr_bits(storage: Option<&Storage>) -> u8
     }
 }
 
-// The number of bits of an address of the data memory.
-pub(crate) fn addr_width(checked: &Checked) -> u8
+/// The number of bits of an address of the data memory.
+pub fn addr_width(checked: &Checked) -> u8
     ensures width { result ≡ addr_width_in InMemory checked.now.netlist.storages }
     ensures rules { KeepsRules checked.now.netlist checked.now.order }
 {

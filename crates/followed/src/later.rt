@@ -5,24 +5,14 @@ ghost use Rattle.std.specs.Prelude.{◌≡◌, ◌≤◌, ◌==◌, ◌&&◌, �
 ghost use Rattle.std.specs.Option.{option_map};
 ghost use Rattle.rec_bits.specs.Faults.{same_name};
 ghost use Rattle.net_model.specs.Exprs.{model_of_expr};
-ghost use Rattle.code_model.specs.Places.{checkpoint_of, label_at};
+ghost use Rattle.code_model.specs.Places.{label_at};
 ghost use Rattle.code_model.specs.Views.{view_at};
 ghost use Rattle.followed.specs.Inner.Ascending.{ComeFrom, IsLater};
 
 use code_model::{Mark, View, Viewed};
+use follow::marks_from;
 use net_model::Expr;
 use rec_bits::Name;
-
-// The label of an address, if it has a mark.
-pub(crate) fn label_at(marks: &[Mark], address: u32) -> Option<Option<u32>>
-    ensures { option_map checkpoint_of result ≡ label_at marks.now address }
-{
-    let (mark, rest) = marks.split_first()?;
-    if mark.address == address {
-        return Some(mark.label);
-    }
-    label_at(rest, address)
-}
 
 pub(crate) fn same_name(a: &Name, b: &Name) -> bool
     ensures { result ≡ same_name a.now b.now }
@@ -50,19 +40,6 @@ pub(crate) fn view_at<'a>(views: &'a [View], address: u32, name: &Name) -> Optio
         return Some(&view.value);
     }
     view_at(rest, address, name)
-}
-
-// The marks from the first on that isn't below an address.
-pub(crate) fn marks_from(marks: &[Mark], low: u32) -> &[Mark]
-    ensures { (address : ℕ) → low ≤ address → label_at result.now address ≡ label_at marks.now address }
-{
-    let Some((mark, rest)) = marks.split_first() else {
-        return marks;
-    };
-    if mark.address < low {
-        return marks_from(rest, low);
-    }
-    marks
 }
 
 // The views from the first on that isn't below an address.

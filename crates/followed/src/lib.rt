@@ -42,4 +42,5 @@ mod whole;
 pub use checks::passes;
 pub use claim::Claim;
 pub use fault::CheckFault;
+pub use laid::addr_width;
 pub use passed::{Passed, Turn};

@@ -7,10 +7,11 @@ ghost use Rattle.net_model.specs.Nets.{memory_width};
 ghost use Rattle.code_model.specs.Places.{label_at};
 ghost use Rattle.src_model.specs.declared.checkpoint.Checkpoint.{Checkpoint};
 ghost use Rattle.followed.specs.Inner.Ascending.{ComeFrom};
-ghost use Rattle.code_model.specs.Views.{ArePlainViews, IsOnly, IsPlainView, is_of_registers, place_named};
+ghost use Rattle.code_model.specs.Views.{ArePlainViews, IsOnly, IsPlainView, is_literal, is_of_registers, place_named};
 
-use crate::later::{is_view, label_at, marks_from, same_name};
+use crate::later::{is_view, same_name};
 use code_model::{Image, Mark, Place, View};
+use follow::{label_at, marks_from};
 use net_model::Expr;
 use rec_bits::{Name, result_width};
 
@@ -25,7 +26,21 @@ fn place_named<'a>(places: &'a [Place], name: &Name) -> Option<&'a Place>
     place_named(rest, name)
 }
 
-// Whether an expression is over registers and numbers alone.
+// Whether an expression is a number.
+fn is_literal(expr: &Expr) -> bool
+    ensures { result ≡ is_literal (model_of_expr expr.now) }
+{
+    match expr {
+        Expr::Const {
+            width: _width,
+            value: _value,
+        } => true,
+        _ => false,
+    }
+}
+
+// Whether an expression is over registers, cells of the register file at literal addresses and numbers
+// alone.
 fn is_of_registers(expr: &Expr) -> bool
     ensures { result ≡ is_of_registers (model_of_expr expr.now) }
 {
@@ -37,7 +52,7 @@ fn is_of_registers(expr: &Expr) -> bool
             value: _value,
         } => true,
         Expr::Read(_addr, _width) => false,
-        Expr::Cell(_addr, _width) => false,
+        Expr::Cell(addr, _width) => is_literal(addr),
         Expr::Un(_op, a) => is_of_registers(a),
         Expr::Bin(_op, a, b) => is_of_registers(a) && is_of_registers(b),
         Expr::Slice(a, _hi, _lo) => is_of_registers(a),

@@ -11,8 +11,9 @@ ghost use Rattle.segment.specs.Asked.{AreArrays, AreSpots};
 ghost use Rattle.followed.specs.Inner.Ascending.{AscendFrom, ComeFrom, IsLater};
 ghost use Rattle.followed.specs.Inner.Hinted.{AreHere, IsHere};
 
-use crate::later::{Later, label_at, later_from, same_name, view_at};
+use crate::later::{Later, later_from, same_name, view_at};
 use code_model::{Hidden, Place, View, Viewed};
+use follow::label_at;
 use net_model::Expr;
 use rec_bits::Name;
 use segment::{Hint, Spot};
@@ -93,6 +94,10 @@ fn is_expr(pool: &Pool, id: ExprId, expr: &Expr) -> bool
                     value: *value,
                 }
         }
+        Expr::Cell(a, w) => match pool.node(id) {
+            Node::Cell(x, v) => v == *w && is_expr(pool, x, a),
+            _ => false,
+        },
         Expr::Un(op, a) => match pool.node(id) {
             Node::Un(o, x) => o == *op && is_expr(pool, x, a),
             _ => false,

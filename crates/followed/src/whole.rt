@@ -25,7 +25,7 @@ use crate::passed::Passed;
 use crate::said::{Seen, are_arrays, are_bare, first_low};
 use code_model::{Mark, Place};
 use form_model::Blocks;
-use net_model::{Netlist, Storage};
+use net_model::{Netlist, Space, Storage};
 use rec_bits::{Items, NoMemory};
 use segment::{Hint, Spot};
 use src_model::Var;
@@ -148,6 +148,8 @@ pub(crate) fn ways_of(
     let clocks = count - 1;
     let counter = u64::from(checked.pc());
     let memory = u64::from(checked.memory());
+    let file = u64::from(checked.place(Space::File));
+    let file_cells = u64::from(checked.size(Space::File));
     let Some(coded) = coded_at(code, clocks) else {
         return Err(CheckFault::EndWord);
     };
@@ -166,7 +168,9 @@ pub(crate) fn ways_of(
         marks: marks.as_slice(),
         counter,
         memory,
+        file,
         storages: netlist.storages.len() as u64,
+        file_cells,
         counter_width: counter_width(netlist, checked.pc()),
         word: checked.memory_width(),
         addr: addr_width(netlist, checked.memory()),

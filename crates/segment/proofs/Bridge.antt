@@ -3,13 +3,14 @@ use Rattle.std.proofs.Common.{◌≡◌, ℕ, zero, suc, ◌+◌, ◌-◌, ◌^�
 use Rattle.std.specs.Option.{option_map}
 use Rattle.rec_bits.specs.Operators.{bit_of}
 use Rattle.net_model.specs.declared.hardware.Netlist.{Netlist}
-use Rattle.net_model.specs.declared.hardware.Space.TheVariants.{Memory as InMemory}
+use Rattle.net_model.specs.declared.hardware.Space.TheVariants.{Memory as InMemory, File as InFile}
 use Rattle.form_model.specs.Forms.{DestinationModel, into, cell, filed, stored, temporary, tested}
 use Rattle.net_model.specs.declared.states.State.{State}
 use Rattle.net_model.specs.Clock.{counter_in}
 use Rattle.net_model.specs.Exprs.{ExprModel, word, reg, const, read, un, bin, slice, cat, zext, sext, select}
 use Rattle.net_model.specs.Fixed.{mode_in}
-use Rattle.net_model.specs.Nets.{memory_size, memory_width}
+use Rattle.net_model.specs.Nets.{memory_size, memory_width, size_in}
+use Rattle.net_model.specs.Widths.{IsState}
 use Rattle.rec_bits.specs.Faults.{same_name}
 use Rattle.src_model.specs.declared.program.Var.{Var as Declared}
 use Rattle.src_model.specs.Names.{declared, is_array}
@@ -46,7 +47,7 @@ use Rattle.segment.specs.declared.way.Way.{Way}
 use Rattle.segment.specs.declared.way.Way.TheVariants.{Never, Takes, Unknown}
 use Rattle.segment.specs.Marked.{GoesIn, AllHeld, AllNumbered, AllReadArrays, AreReads, IsAddress, IsAsHinted, IsFirst, IsInArrayAt, ReadsArrays, SeenBy, SpotsSeen, SpotsWithin}
 use Rattle.segment.specs.Runs.{HasAnswer, IsAtMark, PathReads, TestReads}
-use Rattle.segment.specs.Proved.{ComesAt, IfFound, IsAtOne, IsBegun, IsDenied, IsProved, IsTaken}
+use Rattle.segment.specs.Proved.{ComesAt, IfFound, IsAtOne, IsBegun, IsDenied, IsProved, IsTaken, IsFoundWay}
 use Rattle.segment.specs.Timed.{ArrivesIn, CrossesIn, IsAnswered, IsFirstWay, IsWay}
 use Rattle.segment.specs.Asked.{ArePlaces, AreArrays, AreHintsOf, AreSpots, IsAskedOf, IsHintOf, holding_of, known_of}
 
@@ -258,6 +259,13 @@ arrives_in segment netlist viewed relation m temps l path asked now s address le
       there = refl;
     }
 
+file_long : (segment : Segment) (netlist : Netlist) (viewed : Viewed) (relation : ℕ → Relation) (m : MemoryMap) (temps : ℕ) (l : ProgramModel) (path : Path) → IsAskedOf netlist viewed relation m temps l path segment
+    → (s : State) → IsState netlist s → segment.file_cells ≤ length s.file
+file_long segment netlist viewed relation m temps l path asked s state =
+    let long : length s.file ≡ size_in InFile netlist.storages = state.cells InFile in
+    let count = asked.code.file_cells in
+    omega (arith, long, count)
+
 one_job : (jobs : List JobModel) (k : ℕ) (a b : JobModel) → slice_get jobs k ≡ Some a → slice_get jobs k ≡ Some b → a ≡ b
 one_job jobs k a b e f = cc
 
@@ -276,6 +284,7 @@ module _ (segment : Segment) (netlist : Netlist) (viewed : Viewed) (relation : �
         within = spots_within (hidden_in viewed segment.from.now.address) (view_at viewed.views segment.from.now.address) segment.pool.now temps (length cells) m.places segment.from.now.spots from.spots h.holds.room.within;
         machine_within = spots_within (hidden_in viewed segment.from.now.address) (view_at viewed.views segment.from.now.address) segment.pool.now temps (length s.cells) m.places segment.from.now.spots from.spots
             (subst (λ n. LieWithin temps n m.places) (sym long) asked.room.within);
+        file_there = file_long segment netlist viewed relation m temps l path asked s h.calm.here.state;
         hinted = hinted segment.pool.now s cells viewed relation m l.vars segment.from.now from h.related;
       }
 
@@ -286,7 +295,7 @@ module _ (segment : Segment) (netlist : Netlist) (viewed : Viewed) (relation : �
       (all_reads (hidden_in viewed segment.from.now.address) (view_at viewed.views segment.from.now.address) segment.pool.now m l.vars segment.from.now.spots from.spots from.arrays asked.stand cells h.job.trees h.safe.reads, h.answers)
 
   denied_way : IsDenied segment → ⊥
-  denied_way denied = denied s cells marked answered
+  denied_way denied = denied netlist (words_of viewed.image) s cells asked.code h.calm.here.state marked answered
 
   crosses_in : (address left : ℕ) → IsProved segment address left → AreSafe m temps l.vars cells path.jobs
       → IsTestSafe m temps l.vars (program_jobs m l) (label_of l path) (all_done path.jobs cells)
@@ -303,22 +312,21 @@ module _ (segment : Segment) (netlist : Netlist) (viewed : Viewed) (relation : �
       }
 
 -- the way, by what is found of it
-pub way_is : (segment : Segment) (end : End) (way : Way) → IsTaken segment.clocks 1 end way → IfFound end (IsProved segment)
+pub found_way : (segment : Segment) (end : End) (way : Way) → IsTaken segment.clocks 1 end way → IfFound end (IsProved segment) → IsFoundWay segment way
+found_way segment end (Unknown why) t p = tt
+found_way segment end Never t p = absurd t
+found_way segment (Lost why) (Takes clocks to) t p = absurd t
+found_way segment (Mark address left) (Takes clocks to) t p = (left, t.1, subst (λ a. IsProved segment a left) (sym t.0) p)
+
+pub way_is : (segment : Segment) (way : Way) → IsFoundWay segment way
     → (netlist : Netlist) (viewed : Viewed) (relation : ℕ → Relation) (m : MemoryMap) (temps : ℕ) (l : ProgramModel) (path : Path)
     → IsAskedOf netlist viewed relation m temps l path segment → IsHintOf viewed relation m l.vars segment.pool.now segment.from.now
     → IsWay netlist viewed relation m temps l segment.clocks segment.from.now.address segment.test segment.answer path way
-way_is segment end (Unknown why) t p netlist viewed relation m temps l path asked from = tt
-way_is segment end Never t p netlist viewed relation m temps l path asked from = absurd t
-way_is segment (Lost why) (Takes clocks to) t p netlist viewed relation m temps l path asked from = absurd t
-way_is segment (Mark address left) (Takes clocks to) t p netlist viewed relation m temps l path asked from = λ s cells h safe asks.
-    subst (λ a. CrossesIn netlist viewed relation m segment.clocks (label_of l path) (all_done path.jobs cells) clocks a s) (sym t.0)
-    (subst (λ n. CrossesIn netlist viewed relation m segment.clocks (label_of l path) (all_done path.jobs cells) n address s) (sym t.1)
-    (crosses_in segment netlist viewed relation m temps l path asked from s cells h address left p safe asks))
-
-pub never_is : (segment : Segment) → IsDenied segment → (netlist : Netlist) (viewed : Viewed) (relation : ℕ → Relation) (m : MemoryMap) (temps : ℕ) (l : ProgramModel) (path : Path)
-    → IsAskedOf netlist viewed relation m temps l path segment → IsHintOf viewed relation m l.vars segment.pool.now segment.from.now
-    → IsWay netlist viewed relation m temps l segment.clocks segment.from.now.address segment.test segment.answer path Never
-never_is segment denied netlist viewed relation m temps l path asked from s cells h = denied_way segment netlist viewed relation m temps l path asked from s cells h denied
+way_is segment (Unknown why) p netlist viewed relation m temps l path asked from = tt
+way_is segment Never p netlist viewed relation m temps l path asked from = λ s cells h. denied_way segment netlist viewed relation m temps l path asked from s cells h p
+way_is segment (Takes clocks to) p netlist viewed relation m temps l path asked from = λ s cells h safe asks.
+    subst (λ n. CrossesIn netlist viewed relation m segment.clocks (label_of l path) (all_done path.jobs cells) n to s) (sym p.1)
+    (crosses_in segment netlist viewed relation m temps l path asked from s cells h to p.0 p.2 safe asks)
 
 -- the start
 
@@ -344,6 +352,7 @@ arrives_first segment address left begun first netlist viewed relation m temps l
       machine_temps = omega (arith, t, b, long);
       within = within;
       machine_within = within;
+      file_there = file_long segment netlist viewed relation m temps l path asked s calm.here.state;
       hinted = record {
         seen = spots_seen pool s s.cells [] (λ name. None) m.places spots places.spots_are (none_seen s m.places);
         holds = subst (λ (xs : List Held). AllHeld pool xs s s.cells) (sym first.holdings) tt;

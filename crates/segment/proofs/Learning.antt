@@ -21,7 +21,7 @@ use Rattle.form_model.specs.declared.trees.Tree.TheVariants.{Lit, Read', Un', Bi
 use Rattle.segment.specs.Marked.{IsAddress, IsComputed, IsInArrayAt, IsInArrays}
 use Rattle.segment.specs.declared.hints.Spot.{Spot}
 use Rattle.follow.specs.Safe.{base_in}
-use Rattle.segment.specs.Runs.{ArraysIn, IsAtMark, IsGathered, IsLearnt, IsToldReg, IsTreeOf, Stands}
+use Rattle.segment.specs.Runs.{ArraysIn, IsGathered, IsLearnt, IsStore, IsToldReg, IsTreeOf, Stands}
 
 module _ (old new : Classes) (g : Grows old new) where
   pub stands_kept : (run : Run) (memory : List ℕ) (s : State) (now : List ℕ) → Stands old run memory s now → Stands new run memory s now
@@ -33,31 +33,61 @@ module _ (old new : Classes) (g : Grows old new) where
 
 module _ (segment : Segment) where
   pub learnt_same : (Here : State → List ℕ → Type 0) (t : Classes) (run : Run) → IsLearnt segment Here t t run run
-  learnt_same Here t run = record { grows = grows_same t; arrays = λ k. k; stands = λ s cells m h a k. k }
+  learnt_same Here t run = record { grows = grows_same t; arrays = λ k. k; stands = λ s cells memory m h a k. k }
 
   -- nothing is
   pub learnt_none : (Here : State → List ℕ → Type 0) (old new : Classes) (run : Run) → Grows old new → IsLearnt segment Here old new run run
-  learnt_none Here old new run g = record { grows = g; arrays = λ k. k; stands = λ s cells m h a k. stands_kept old new g run cells s cells k }
+  learnt_none Here old new run g = record { grows = g; arrays = λ k. k; stands = λ s cells memory m h a k. stands_kept old new g run memory s cells k }
 
   pub learnt_on : (P Q : State → List ℕ → Type 0) (a b d : Classes) (first middle last : Run) → IsLearnt segment P a b first middle → IsLearnt segment Q b d middle last
       → IsLearnt segment (λ s cells. P s cells × Q s cells) a d first last
   learnt_on P Q a b d first middle last f h = record {
     grows = grows_on a b d f.grows h.grows;
     arrays = λ k. h.arrays (f.arrays k);
-    stands = λ s cells m p a k. h.stands s cells m p.1 (f.arrays a) (f.stands s cells m p.0 a k);
+    stands = λ s cells memory m p a k. h.stands s cells memory m p.1 (f.arrays a) (f.stands s cells memory m p.0 a k);
   }
+
+  -- in a table that grew before
+  pub learnt_after : (P : State → List ℕ → Type 0) (a b d : Classes) (run next : Run) → Grows a b → IsLearnt segment P b d run next → IsLearnt segment P a d run next
+  learnt_after P a b d run next g h = record {
+    grows = grows_on a b d g h.grows;
+    arrays = h.arrays;
+    stands = λ s cells memory m p k w. h.stands s cells memory m p k (stands_kept a b g run memory s cells w);
+  }
+
+  -- what holds there, by something else
+  pub learnt_as : (P Q : State → List ℕ → Type 0) (old new : Classes) (run next : Run) → ((s : State) (cells : List ℕ) → Q s cells → P s cells) → IsLearnt segment P old new run next → IsLearnt segment Q old new run next
+  learnt_as P Q old new run next f h = record { grows = h.grows; arrays = h.arrays; stands = λ s cells memory m q a k. h.stands s cells memory m (f s cells q) a k }
+
+  pub nothing_on : (a b d : Classes) (first middle last : Run) → IsLearnt segment (λ s cells. Unit {0}) a b first middle → IsLearnt segment (λ s cells. Unit {0}) b d middle last → IsLearnt segment (λ s cells. Unit {0}) a d first last
+  nothing_on a b d first middle last f h =
+      learnt_as (λ s cells. Unit {0} × Unit {0}) (λ s cells. Unit {0}) a d first last (λ s cells u. (tt, tt))
+      (learnt_on (λ s cells. Unit {0}) (λ s cells. Unit {0}) a b d first middle last f h)
 
   -- of the machine
   pub machine_learnt : (Here : State → List ℕ → Type 0) (old new : Classes) (g : Grows old new) (run : Run) (machine : Known)
       → (ArraysIn segment.from.now.spots run.machine.cells → ArraysIn segment.from.now.spots machine.cells)
-      → ((s : State) (cells : List ℕ) → IsAtMark segment s cells → Here s cells → Stands old run cells s cells → StandsFor new cells run.machine s → StandsFor new cells machine s)
+      → ((s : State) (cells memory : List ℕ) → IsStore segment s cells memory → Here s cells → Stands old run memory s cells → StandsFor new memory run.machine s → StandsFor new memory machine s)
       → IsLearnt segment Here old new run (record { facts = run.facts; machine = machine; vars = run.vars })
   machine_learnt Here old new g run machine arrays told = record {
     grows = g;
     arrays = λ k. record { machine = arrays k.machine; vars = k.vars };
-    stands = λ s cells m h a k.
-        (let n = stands_kept old new g run cells s cells k in
-        record { facts = n.facts; machine = told s cells m h k n.machine; vars = n.vars });
+    stands = λ s cells memory m h a k.
+        (let n = stands_kept old new g run memory s cells k in
+        record { facts = n.facts; machine = told s cells memory m h k n.machine; vars = n.vars });
+  }
+
+  -- of the program's cells
+  pub vars_learnt : (Here : State → List ℕ → Type 0) (old new : Classes) (g : Grows old new) (run : Run) (vars : Known)
+      → (ArraysIn segment.from.now.spots run.vars.cells → ArraysIn segment.from.now.spots vars.cells)
+      → ((s : State) (cells memory : List ℕ) → IsStore segment s cells memory → Here s cells → Stands old run memory s cells → StandsFor new memory run.vars (memory_alone cells) → StandsFor new memory vars (memory_alone cells))
+      → IsLearnt segment Here old new run (record { facts = run.facts; machine = run.machine; vars = vars })
+  vars_learnt Here old new g run vars arrays told = record {
+    grows = g;
+    arrays = λ k. record { machine = k.machine; vars = arrays k.vars };
+    stands = λ s cells memory m h a k.
+        (let n = stands_kept old new g run memory s cells k in
+        record { facts = n.facts; machine = n.machine; vars = told s cells memory m h k n.vars });
   }
 
   -- a fact
@@ -66,15 +96,15 @@ module _ (segment : Segment) where
   facts_on t memory (f ∷ facts) fact h k = (h.0, facts_on t memory facts fact h.1 k)
 
   pub fact_learnt : (Here : State → List ℕ → Type 0) (old new : Classes) (g : Grows old new) (run : Run) (fact : Fact) (facts : List Fact) → facts ≡ run.facts ++ fact ∷ []
-      → ((s : State) (cells : List ℕ) → IsAtMark segment s cells → Here s cells → Stands old run cells s cells → Holds new cells fact.class fact.number)
+      → ((s : State) (cells memory : List ℕ) → IsStore segment s cells memory → Here s cells → Stands old run memory s cells → Holds new memory fact.class fact.number)
       → IsLearnt segment Here old new run (record { facts = facts; machine = run.machine; vars = run.vars })
   fact_learnt Here old new g run fact facts e holds = record {
     grows = g;
     arrays = λ k. record { machine = k.machine; vars = k.vars };
-    stands = λ s cells m h a k.
-        (let n = stands_kept old new g run cells s cells k in
+    stands = λ s cells memory m h a k.
+        (let n = stands_kept old new g run memory s cells k in
         record {
-          facts = subst (AreFacts new cells) (sym e) (facts_on new cells run.facts fact n.facts (holds s cells m h k));
+          facts = subst (AreFacts new memory) (sym e) (facts_on new memory run.facts fact n.facts (holds s cells memory m h k));
           machine = n.machine;
           vars = n.vars;
         });
@@ -87,7 +117,7 @@ module _ (segment : Segment) where
   counter_learnt old new g run machine width class is same told =
       machine_learnt (λ s cells. Unit {0}) old new g run machine
       (λ k. subst (ArraysIn segment.from.now.spots) (sym same) k)
-      (λ s cells m h k n. told new cells s n (subst (Holds new cells class) (sym m.counter) (is cells).holds))
+      (λ s cells memory m h k n. told new memory s n (subst (Holds new memory class) (sym m.mark.counter) (is memory).holds))
 
   -- ---- elements
 
@@ -110,20 +140,21 @@ module _ (segment : Segment) where
 
   -- at the mark
   pub learnt_elements : (P : List ℕ → Type 0) (old new : Classes) (run next : Run) → IsGathered segment P old new run next → IsLearnt segment (λ s cells. P cells) old new run next
-  learnt_elements P old new run next h = record { grows = h.grows; arrays = h.arrays; stands = λ s cells m p k w. h.stands cells s cells p k w }
+  learnt_elements P old new run next h = record { grows = h.grows; arrays = h.arrays; stands = λ s cells memory m p k w. h.stands memory s cells p k w }
 
   inside_on : (t : Classes) (memory : List ℕ) (cells : List Cell) (elements : List Element) (one : Element) → AreInside t memory cells elements → IsInside t memory cells one → AreInside t memory cells (elements ++ one ∷ [])
   inside_on t memory cells [] one h i = (i, tt)
   inside_on t memory cells (e ∷ elements) one h i = (h.0, inside_on t memory cells elements one h.1 i)
 
   with_inside : (t : Classes) (memory : List ℕ) (known : Known) (s : State) (inside : List Element) (class first end address : ℕ) → inside ≡ known.inside ++ record { class = class; like = class; first = first; end = end } ∷ [] → cell_at known.cells address ≡ Array
-      → (first ≤ address) × (address < end) → Holds t memory class address → StandsFor t memory known s → StandsFor t memory (record { regs = known.regs; cells = known.cells; inside = inside; puts = known.puts }) s
+      → (first ≤ address) × (address < end) → Holds t memory class address → StandsFor t memory known s → StandsFor t memory (record { regs = known.regs; cells = known.cells; inside = inside; puts = known.puts; file = known.file }) s
   with_inside t memory known s inside class first end address e array within holds h = record {
     fits = h.fits;
     room = h.room;
     regs = h.regs;
     cells = h.cells;
     arrays = h.arrays;
+    file = h.file;
     inside = subst (AreInside t memory known.cells) (sym e)
         (inside_on t memory known.cells known.inside (record { class = class; like = class; first = first; end = end }) h.inside
         (record { address = address; holds = holds; alike = holds; array = array; behind = within.0; within = within.1 }));
@@ -147,7 +178,7 @@ module _ (segment : Segment) where
       → first ≡ base_in (model_of_tree addr) → ((a : ℕ) → IsInArrayAt segment.from.now.spots first a → (first ≤ a) × (a < end))
       → near ≡ run.machine.inside ++ record { class = class; like = class; first = first; end = end } ∷ [] → far ≡ run.vars.inside ++ record { class = class; like = class; first = first; end = end } ∷ []
       → IsGathered segment (λ now. IsAddress segment.from.now.spots now (model_of_tree addr)) old new run
-      (record { facts = run.facts; machine = record { regs = run.machine.regs; cells = run.machine.cells; inside = near; puts = run.machine.puts }; vars = record { regs = run.vars.regs; cells = run.vars.cells; inside = far; puts = run.vars.puts } })
+      (record { facts = run.facts; machine = record { regs = run.machine.regs; cells = run.machine.cells; inside = near; puts = run.machine.puts; file = run.machine.file }; vars = record { regs = run.vars.regs; cells = run.vars.cells; inside = far; puts = run.vars.puts; file = run.vars.file } })
   element_gathered addr computed old new g run class first end near far is at until e f = record {
     grows = g;
     arrays = λ k. record { machine = k.machine; vars = k.vars };

@@ -1,22 +1,24 @@
 -- What is known of cells and registers at a mark.
 use Rattle.std.proofs.Common.{◌≡◌, ◌≢◌, ℕ, ◌+◌, ◌-◌, ◌<◌, ◌≤◌, zero, suc, inl, inr, Bool, true, false, not, is_some, List, [], ◌∷◌, ◌++◌, length, length-append, Option, Some, None, ◌∙◌, sym, ap, refl, subst, slice_get, slice_index, slice_set, arith}
 use Rattle.std.proofs.lemmas.Bool.{cases_lt}
+use Rattle.std.proofs.lemmas.List.{length-set}
 use Rattle.std.proofs.lemmas.Option.{slice_get_past}
 use Rattle.rec_bits.proofs.Lists.{get_left, get_seam}
 use Rattle.net_model.specs.declared.hardware.Space.TheVariants.{Memory as InMemory}
-use Rattle.net_model.specs.Exprs.{ExprModel, const, read, reg}
+use Rattle.net_model.specs.Exprs.{ExprModel, cell, const, read, reg}
 use Rattle.net_model.specs.Meaning.{mean}
+use Rattle.tree_laws.specs.Equal.{memory_alone}
 use Rattle.sym_expr.specs.declared.pool.Node.{Node}
 use Rattle.sym_expr.specs.Pools.{expr_of_id}
 use Rattle.sym_run.specs.declared.known.Cell.{Cell}
-use Rattle.sym_run.specs.declared.known.Cell.TheVariants.{Unknown, Array, Is}
+use Rattle.sym_run.specs.declared.known.Cell.TheVariants.{Unknown, Kept, Array, Is}
 use Rattle.sym_run.specs.declared.known.Known.{Known}
 use Rattle.sym_run.specs.Known.{Holds, HoldsOf, cell_at, cell_of, entry}
 use Rattle.sym_run.specs.Moves.{IsWritten, NextCells, cell_for}
 use Rattle.sym_run.proofs.Writing.{set_cells, set_elsewhere}
 use Rattle.segment.specs.declared.hints.Spot.{Spot}
 use Rattle.segment.specs.Marked.{AreViewless, IsInArrays, IsKeptBy, SeenBy}
-use Rattle.segment.specs.Runs.{AreStartCells, ArraysIn, IsStartCell, IsToldCell, IsToldOf, IsToldReg}
+use Rattle.segment.specs.Runs.{AreStartCells, ArraysIn, IsStartCell, IsToldCell, IsToldFile, IsToldOf, IsToldReg, IsToldVar}
 
 -- ---- registers
 
@@ -28,7 +30,7 @@ entry_set P (x ∷ xs) (suc i) zero o lt f g = g (λ e. omega (arith, e))
 entry_set P (x ∷ xs) (suc i) (suc r) o lt f g = entry_set P xs i r o (omega arith) (λ e. f (ap suc e)) (λ n. g (λ e. n (omega (arith, e))))
 
 pub reg_told : (old : Known) (register class : ℕ) (regs : List (Option ℕ)) → register < length old.regs → regs ≡ slice_set old.regs register (Some class)
-    → IsToldReg register class old (record { regs = regs; cells = old.cells; inside = old.inside; puts = old.puts })
+    → IsToldReg register class old (record { regs = regs; cells = old.cells; inside = old.inside; puts = old.puts; file = old.file })
 reg_told old register class regs lt e table memory s h k = record {
   fits = h.fits;
   room = h.room;
@@ -38,6 +40,24 @@ reg_told old register class regs lt e table memory s h k = record {
   cells = h.cells;
   inside = h.inside;
   arrays = h.arrays;
+  file = h.file;
+}
+
+pub file_told : (old : Known) (address class : ℕ) (file : List (Option ℕ)) → address < length old.file → file ≡ slice_set old.file address (Some class)
+    → IsToldFile address class old (record { regs = old.regs; cells = old.cells; inside = old.inside; puts = old.puts; file = file })
+file_told old address class file lt e table memory s h k = record {
+  fits = h.fits;
+  room = h.room;
+  regs = h.regs;
+  cells = h.cells;
+  inside = h.inside;
+  arrays = h.arrays;
+  file = record {
+    there = (let l = h.file.there in subst (λ (xs : List (Option ℕ)). length xs ≤ length s.file) (sym e) (omega (arith, l, length-set old.file address (Some class))));
+    are = λ a. subst (λ (xs : List (Option ℕ)). HoldsOf table memory (entry xs a) (slice_index s.file a)) (sym e)
+        (entry_set (λ o. HoldsOf table memory o (slice_index s.file a)) old.file address a (Some class) lt
+        (λ is. subst (λ n. Holds table memory class (slice_index s.file n)) (sym is) k) (λ ne. h.file.are a));
+  };
 }
 
 -- ---- cells
@@ -51,13 +71,29 @@ unknown_plain : (o : Option Cell) → o ≡ Some Unknown → cell_of o ≢ Array
 unknown_plain o e f = (let g : Unknown ≡ Array = sym (ap cell_of e) ∙ f in absurd (cc))
 
 pub cell_told : (old : Known) (address class : ℕ) (cells : List Cell) → slice_get old.cells address ≡ Some Unknown → cells ≡ slice_set old.cells address (Is class)
-    → IsToldCell address class old (record { regs = old.regs; cells = cells; inside = old.inside; puts = old.puts })
+    → IsToldCell address class old (record { regs = old.regs; cells = cells; inside = old.inside; puts = old.puts; file = old.file })
 cell_told old address class cells there e table memory s h k =
     let n : NextCells table memory cells old.inside old.puts s.cells =
     subst (λ (xs : List Cell). NextCells table memory xs old.inside old.puts s.cells) (sym e)
     (subst (NextCells table memory (slice_set old.cells address (Is class)) old.inside old.puts) (set_same s.cells address)
     (set_cells table memory old s h address (slice_index s.cells address) (Some class) (unknown_plain (slice_get old.cells address) there) k)) in
-    record { fits = h.fits; room = n.room; regs = h.regs; cells = n.cells_are; inside = n.are_inside; arrays = n.arrays }
+    record { fits = h.fits; room = n.room; regs = h.regs; cells = n.cells_are; inside = n.are_inside; arrays = n.arrays; file = h.file }
+
+kept_plain : (o : Option Cell) → o ≡ Some Kept → cell_of o ≢ Array
+kept_plain o e f = (let g : Kept ≡ Array = sym (ap cell_of e) ∙ f in absurd (cc))
+
+pub var_told : (old : Known) (address class : ℕ) (cells : List Cell) → slice_get old.cells address ≡ Some Kept → cells ≡ slice_set old.cells address (Is class)
+    → IsToldVar address class old (record { regs = old.regs; cells = cells; inside = old.inside; puts = old.puts; file = old.file })
+var_told old address class cells there e table memory now h k =
+    let n : NextCells table memory cells old.inside old.puts now =
+    subst (λ (xs : List Cell). NextCells table memory xs old.inside old.puts now) (sym e)
+    (subst (NextCells table memory (slice_set old.cells address (Is class)) old.inside old.puts) (set_same now address)
+    (set_cells table memory old (memory_alone now) h address (slice_index now address) (Some class) (kept_plain (slice_get old.cells address) there) k)) in
+    record { fits = h.fits; room = n.room; regs = h.regs; cells = n.cells_are; inside = n.are_inside; arrays = n.arrays; file = h.file }
+
+pub var_arrays : (old cells : List Cell) (address class : ℕ) → slice_get old address ≡ Some Kept → cells ≡ slice_set old address (Is class) → (spots : List Spot) → ArraysIn spots old → ArraysIn spots cells
+var_arrays old cells address class there e spots h a i =
+    ap (λ (xs : List Cell). cell_at xs a) e ∙ ap cell_of (set_elsewhere old address a (Is class) (λ same. kept_plain (slice_get old address) there (ap (cell_at old) (sym same) ∙ h a i))) ∙ h a i
 
 pub cell_arrays : (old cells : List Cell) (address class : ℕ) → slice_get old address ≡ Some Unknown → cells ≡ slice_set old address (Is class) → (spots : List Spot) → ArraysIn spots old → ArraysIn spots cells
 cell_arrays old cells address class there e spots h a i =
@@ -71,6 +107,10 @@ reg_place pool place register width class old new e told table memory s h k =
 
 pub cell_place : (pool : List Node) (place address bits width class : ℕ) (old new : Known) → expr_of_id pool place ≡ read InMemory (const bits address) width → IsToldCell address class old new → IsToldOf pool place class old new
 cell_place pool place address bits width class old new e told table memory s h k =
+    told table memory s h (subst (λ (x : ExprModel). Holds table memory class (mean x s 0)) e k)
+
+pub file_place : (pool : List Node) (place address bits width class : ℕ) (old new : Known) → expr_of_id pool place ≡ cell (const bits address) width → IsToldFile address class old new → IsToldOf pool place class old new
+file_place pool place address bits width class old new e told table memory s h k =
     told table memory s h (subst (λ (x : ExprModel). Holds table memory class (mean x s 0)) e k)
 
 -- ---- the start

@@ -93,7 +93,7 @@ module _ (segment : Segment) where
   -- the addresses of a job's trees, and then its value
   pub after_put : (job : JobModel) (trees : List ExprModel) → trees ≡ job.trees → (a b d : Classes) (run next : Run) (facts : List Fact) (cells : List Cell)
       → IsGathered segment (λ now. AllReadArrays segment.from.now.spots now trees × GoesIn segment.from.now.spots now job.destination) a b run next → facts ≡ next.facts → IsPut job b d facts next.vars cells
-      → IsDone segment job a d run (record { facts = next.facts; machine = next.machine; vars = record { regs = next.vars.regs; cells = cells; inside = next.vars.inside; puts = next.vars.puts } })
+      → IsDone segment job a d run (record { facts = next.facts; machine = next.machine; vars = record { regs = next.vars.regs; cells = cells; inside = next.vars.inside; puts = next.vars.puts; file = next.vars.file } })
   after_put job trees same a b d run next facts cells gathered own p = record {
     grows = grows_on a b d gathered.grows p.grows;
     arrays = λ k. (let n = gathered.arrays k in record { machine = n.machine; vars = p.arrays segment.from.now.spots n.vars });
@@ -104,13 +104,13 @@ module _ (segment : Segment) where
         record {
           facts = y.facts;
           machine = y.machine;
-          vars = record { fits = y.vars.fits; room = n.room; regs = y.vars.regs; cells = n.cells_are; inside = n.are_inside; arrays = n.arrays };
+          vars = record { fits = y.vars.fits; room = n.room; regs = y.vars.regs; cells = n.cells_are; inside = n.are_inside; arrays = n.arrays; file = y.vars.file };
         });
   }
 
   pub after_element : (job : JobModel) (trees : List ExprModel) → trees ≡ job.trees → (a b d : Classes) (run next : Run) (facts : List Fact) (puts : List Put)
       → IsGathered segment (λ now. AllReadArrays segment.from.now.spots now trees × GoesIn segment.from.now.spots now job.destination) a b run next → facts ≡ next.facts → Grows b d → IsPutIn job b d facts next.vars puts
-      → IsDone segment job a d run (record { facts = next.facts; machine = next.machine; vars = record { regs = next.vars.regs; cells = next.vars.cells; inside = next.vars.inside; puts = puts } })
+      → IsDone segment job a d run (record { facts = next.facts; machine = next.machine; vars = record { regs = next.vars.regs; cells = next.vars.cells; inside = next.vars.inside; puts = puts; file = next.vars.file } })
   after_element job trees same a b d run next facts puts gathered own g p = record {
     grows = grows_on a b d gathered.grows g;
     arrays = λ k. (let n = gathered.arrays k in record { machine = n.machine; vars = n.vars });
@@ -121,7 +121,7 @@ module _ (segment : Segment) where
         record {
           facts = y.facts;
           machine = y.machine;
-          vars = record { fits = y.vars.fits; room = n.room; regs = y.vars.regs; cells = n.cells_are; inside = n.are_inside; arrays = n.arrays };
+          vars = record { fits = y.vars.fits; room = n.room; regs = y.vars.regs; cells = n.cells_are; inside = n.are_inside; arrays = n.arrays; file = y.vars.file };
         });
   }
 

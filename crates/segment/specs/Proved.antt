@@ -2,11 +2,11 @@
 -- past no mark to one whose hint the state and the program's cells after the path's jobs are as.
 use Rattle.std.specs.Prelude.{ℕ, ◌+◌, ◌-◌, ◌≡◌, ◌⊎◌, true, List, [], ◌∷◌, Option, Some, slice_get, slice_index}
 use Rattle.net_model.specs.declared.hardware.Netlist.{Netlist}
-use Rattle.net_model.specs.declared.hardware.Space.TheVariants.{Memory as InMemory}
+use Rattle.net_model.specs.declared.hardware.Space.TheVariants.{Memory as InMemory, File as InFile}
 use Rattle.net_model.specs.declared.states.State.{State}
 use Rattle.net_model.specs.Clock.{clock, Next, counter_in}
 use Rattle.net_model.specs.Control.{IsSound}
-use Rattle.net_model.specs.Nets.{counter_of, place_in}
+use Rattle.net_model.specs.Nets.{counter_of, place_in, size_in}
 use Rattle.net_model.specs.Widths.{IsState}
 use Rattle.src_trees.specs.Doing.{all_done}
 use Rattle.src_trees.specs.Jobs.{models_of_jobs}
@@ -31,11 +31,14 @@ use Rattle.segment.specs.declared.way.Way.TheVariants.{Never, Takes, Unknown}
 use Rattle.segment.specs.Marked.{IsAsHinted}
 use Rattle.segment.specs.Runs.{HasAnswer, IsAgreed, IsAtMark, KnowsArrays, PathReads, Stands}
 
--- the code is of these words of the netlist, whose program counter and memory have these numbers
+-- the code is of these words of the netlist, whose program counter, memory and register file have these
+-- numbers, and the file so many cells
 pub record IsCode (netlist : Netlist) (words : List ℕ) (segment : Segment) : Type 0 where
   pub sound : IsSound netlist
   pub counter : segment.counter ≡ counter_of netlist.codes
   pub memory : segment.memory ≡ place_in InMemory netlist.storages
+  pub file : segment.file ≡ place_in InFile netlist.storages
+  pub file_cells : segment.file_cells ≡ size_in InFile netlist.storages
   pub code : (a : ℕ) (coded : Coded) → slice_get segment.code.now a ≡ Some coded → IsCodedAt netlist segment.pool.now (slice_index words a) coded
 
 -- one of the hints has this address and label, and all is as it says
@@ -79,14 +82,14 @@ HasEnded segment facts vars _ address left old new = ⊥
 -- from each state for which what is known stands
 abbrev pub ComesFrom : Segment → Classes → Run → ℕ → ℕ → Type 0
 ComesFrom segment table run address left =
-    (netlist : Netlist) (words : List ℕ) (s : State) (cells : List ℕ) (later : List JobModel) → IsCode netlist words segment → IsState netlist s →
-    KnowsArrays segment run → PathReads segment cells later → Stands table run cells s cells → all_jobs (models_of_jobs segment.jobs.now) segment.path.now ≡ Some later → Comes netlist words segment address left (all_done later cells) s
+    (netlist : Netlist) (words : List ℕ) (s : State) (cells memory : List ℕ) (later : List JobModel) → IsCode netlist words segment → IsState netlist s →
+    KnowsArrays segment run → PathReads segment cells later → Stands table run memory s cells → all_jobs (models_of_jobs segment.jobs.now) segment.path.now ≡ Some later → Comes netlist words segment address left (all_done later cells) s
 
 -- without a first clock
 abbrev pub ComesHere : Segment → Classes → Run → ℕ → ℕ → Type 0
 ComesHere segment table run address left =
-    (netlist : Netlist) (words : List ℕ) (s : State) (cells : List ℕ) (later : List JobModel) → IsCode netlist words segment → IsState netlist s →
-    KnowsArrays segment run → PathReads segment cells later → Stands table run cells s cells → all_jobs (models_of_jobs segment.jobs.now) segment.path.now ≡ Some later → ComesAt netlist words segment address left (all_done later cells) s
+    (netlist : Netlist) (words : List ℕ) (s : State) (cells memory : List ℕ) (later : List JobModel) → IsCode netlist words segment → IsState netlist s →
+    KnowsArrays segment run → PathReads segment cells later → Stands table run memory s cells → all_jobs (models_of_jobs segment.jobs.now) segment.path.now ≡ Some later → ComesAt netlist words segment address left (all_done later cells) s
 
 -- from each state at the mark
 abbrev pub IsBegun : Segment → ℕ → ℕ → Type 0
@@ -104,7 +107,16 @@ IsProved segment address left =
 
 -- no state at the mark has the answer
 abbrev pub IsDenied : Segment → Type 0
-IsDenied segment = (s : State) (cells : List ℕ) → IsAtMark segment s cells → HasAnswer segment cells → ⊥
+IsDenied segment =
+    (netlist : Netlist) (words : List ℕ) (s : State) (cells : List ℕ) → IsCode netlist words segment → IsState netlist s →
+    IsAtMark segment s cells → HasAnswer segment cells → ⊥
+
+-- a way from the mark: where the test has the answer, so many clocks, the mark's own included, lead to
+-- an address; or no state has the answer
+abbrev pub IsFoundWay : Segment → Way → Type 0
+IsFoundWay segment (Takes clocks to) = (left : ℕ) × (clocks ≡ segment.clocks - left + 1) × IsProved segment to left
+IsFoundWay segment Never = IsDenied segment
+IsFoundWay segment (Unknown why) = Unit {0}
 
 -- where the end of the words is found, this holds of its address and of the clocks that are left
 abbrev pub IfFound : End → (ℕ → ℕ → Type 0) → Type 0

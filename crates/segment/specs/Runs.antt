@@ -1,5 +1,5 @@
 -- What is known on the way from a mark to the next: of the machine, and of the program's cells.
-use Rattle.std.specs.Prelude.{ℕ, ◌+◌, ◌<◌, ◌≤◌, ◌≡◌, Bool, true, List, Option, None, Some, length, slice_index, slice_get}
+use Rattle.std.specs.Prelude.{ℕ, ◌+◌, ◌*◌, ◌-◌, ◌^◌, ◌<◌, ◌≤◌, ◌≡◌, Bool, true, List, [], ◌∷◌, Option, None, Some, length, slice_index, slice_get}
 use Rattle.rec_bits.specs.Operators.{bit_of}
 use Rattle.net_model.specs.declared.states.State.{State}
 use Rattle.src_trees.specs.Doing.{AllAre, all_done, done}
@@ -15,8 +15,11 @@ use Rattle.sym_run.specs.declared.known.Fact.{Fact}
 use Rattle.sym_run.specs.declared.known.Known.{Known}
 use Rattle.sym_run.specs.Known.{AreFacts, Holds, StandsFor, cell_at}
 use Rattle.sym_run.specs.Moves.{NextCells}
+use Rattle.sym_run.specs.Symbols.{IsStored}
+use Rattle.sym_run.specs.declared.moves.Move.TheVariants.{Write}
+use Rattle.sym_run.specs.declared.walk.Coded.{Coded}
 use Rattle.follow.specs.Trails.{all_jobs}
-use Rattle.net_model.specs.Exprs.{ExprModel}
+use Rattle.net_model.specs.Exprs.{ExprModel, expr_width}
 use Rattle.net_model.specs.Meaning.{mean}
 use Rattle.src_trees.specs.Seen.{tree_value}
 use Rattle.sym_expr.specs.declared.pool.Node.{Node}
@@ -36,7 +39,39 @@ pub record IsAtMark (segment : Segment) (s : State) (cells : List ℕ) : Type 0 
   pub machine_temps : segment.temps ≤ length s.cells
   pub within : SpotsWithin (length cells) segment.from.now.spots
   pub machine_within : SpotsWithin (length s.cells) segment.from.now.spots
+  pub file_there : segment.file_cells ≤ length s.file
   pub hinted : IsAsHinted segment.pool.now segment.from.now s cells
+
+-- all cells of some variables and the temporary ones stand before this address
+abbrev pub room_of : ℕ → List Spot → ℕ
+room_of temps [] = temps
+room_of temps (spot ∷ spots) = room_of temps spots + (spot.address + spot.len - room_of temps spots)
+
+-- a word's moves write a value of this width to a register
+pub record IsWrittenBy (pool : List Node) (coded : Coded) (register width : ℕ) : Type 0 where
+  pub value : ℕ
+  pub moves : slice_get coded.moves register ≡ Some (Write value)
+  pub wide : expr_width (expr_of_id pool value) ≡ width
+
+-- those of one of the code's words do
+pub record TakesWidth (pool : List Node) (code : List Coded) (register width : ℕ) : Type 0 where
+  pub place : ℕ
+  pub coded : Coded
+  pub there : slice_get code place ≡ Some coded
+  pub written : IsWrittenBy pool coded register width
+
+-- a view has the value of the program's cell
+abbrev pub IsViewOf : List Node → ℕ → ℕ → State → List ℕ → Type 0
+IsViewOf pool view address s cells = mean (expr_of_id pool view) s 0 ≡ slice_index cells address
+
+-- the store of the mark: the program's cells as far as its variables reach, and behind these what the
+-- registers hold, each in two cells
+pub record IsStore (segment : Segment) (s : State) (cells memory : List ℕ) : Type 0 where
+  pub mark : IsAtMark segment s cells
+  pub fits : CellsFit segment.word memory
+  pub kept : (a : ℕ) → a < room_of segment.temps segment.from.now.spots → slice_index memory a ≡ slice_index cells a
+  pub regs : (r : ℕ) → IsStored segment.word memory (room_of segment.temps segment.from.now.spots + 2 * r) (slice_index s.regs r)
+  pub widths : (r w : ℕ) → TakesWidth segment.pool.now segment.code.now r w → slice_index s.regs r < 2 ^ w
 
 -- the test has the answer there
 abbrev pub HasAnswer : Segment → List ℕ → Type 0
@@ -66,8 +101,8 @@ pub record IsLearnt (segment : Segment) (Here : State → List ℕ → Type 0) (
     (run next : Run) : Type 0 where
   pub grows : Grows old new
   pub arrays : KnowsArrays segment run → KnowsArrays segment next
-  pub stands : (s : State) (cells : List ℕ) → IsAtMark segment s cells → Here s cells → KnowsArrays segment run →
-      Stands old run cells s cells → Stands new next cells s cells
+  pub stands : (s : State) (cells memory : List ℕ) → IsStore segment s cells memory → Here s cells → KnowsArrays segment run →
+      Stands old run memory s cells → Stands new next memory s cells
 
 -- wherever what is known stands, this holds, if the answer is yes
 pub record IsAgreed (run : Run) (Here : State → List ℕ → Type 0) (old new : Classes) (yes : Bool) : Type 0 where
@@ -211,11 +246,24 @@ IsToldCell address class old new =
     Holds table memory class (slice_index s.cells address) →
     StandsFor table memory new s
 
+abbrev pub IsToldFile : ℕ → ℕ → Known → Known → Type 0
+IsToldFile address class old new =
+    (table : Classes) (memory : List ℕ) (s : State) → StandsFor table memory old s →
+    Holds table memory class (slice_index s.file address) →
+    StandsFor table memory new s
+
+-- and so of the program's cells
+abbrev pub IsToldVar : ℕ → ℕ → Known → Known → Type 0
+IsToldVar address class old new =
+    (table : Classes) (memory now : List ℕ) → StandsFor table memory old (memory_alone now) →
+    Holds table memory class (slice_index now address) →
+    StandsFor table memory new (memory_alone now)
+
 -- ---- the start
 
 -- what is known at the mark, before anything is known of the test
 pub record IsStarted (segment : Segment) (job : JobModel) (old new : Classes) (run : Run) : Type 0 where
   pub grows : Grows old new
   pub arrays : KnowsArrays segment run
-  pub stands : (s : State) (cells : List ℕ) → IsAtMark segment s cells →
-      AllReadArrays segment.from.now.spots cells job.trees → Stands new run cells s cells
+  pub stands : (s : State) (cells memory : List ℕ) → IsStore segment s cells memory →
+      AllReadArrays segment.from.now.spots cells job.trees → Stands new run memory s cells

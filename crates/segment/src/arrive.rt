@@ -1,7 +1,6 @@
 //! Whether what is known at a mark is as its hint says.
 
-ghost use Rattle.std.specs.Prelude.{◌≡◌, ◌<◌, ℕ, ◌+◌, ◌^◌, List, true, length, slice_index, IfOk, IfSome, OnOk};
-ghost use Rattle.net_model.specs.declared.states.State.{State};
+ghost use Rattle.std.specs.Prelude.{◌≡◌, ◌<◌, ◌+◌, ◌^◌, true, length, slice_index, IfOk, IfSome, OnOk};
 ghost use Rattle.net_model.specs.Meaning.{mean};
 ghost use Rattle.sym_expr.specs.Pools.{expr_of_id};
 ghost use Rattle.sym_run.specs.Known.{ArePutsSame, cell_at};
@@ -87,7 +86,7 @@ fn is_written_alike(table: &Classes, run: &Run, address: u64) -> bool
 
 impl Segment<'_> {
     // The class of what is known of a cell.
-    fn in_cell(
+    pub(crate) fn in_cell(
         &self,
         table: &mut Classes,
         facts: &[Fact],
@@ -147,7 +146,12 @@ impl Segment<'_> {
     }
 
     // The class of an expression over what is known of the machine's state.
-    fn expr(&self, table: &mut Classes, run: &Run, id: ExprId) -> Result<Option<u64>, NoMemory>
+    pub(crate) fn expr(
+        &self,
+        table: &mut Classes,
+        run: &Run,
+        id: ExprId,
+    ) -> Result<Option<u64>, NoMemory>
         requires { id < length self.now.pool.now }
         ensures grows { OnOk result (Grows table.old table.new) }
         ensures is { IfOk result (λ found. IfSome found (IsExprOf table.old table.new run.now (expr_of_id self.now.pool.now id))) }

@@ -1,9 +1,8 @@
 //! What is known of cells at a mark.
 
-ghost use Rattle.std.specs.Prelude.{◌≡◌, ℕ, ◌<◌, List, true, None, Some, length, slice_get, IfOk};
-ghost use Rattle.sym_run.specs.Known.{entry};
+ghost use Rattle.std.specs.Prelude.{◌≡◌, ◌<◌, List, true, Some, length, slice_get, IfOk};
 ghost use Rattle.segment.specs.Marked.{AreViewless, IsViewless, IsInArray, IsInArrays, IsKeptBy, IsKeptIn};
-ghost use Rattle.segment.specs.Runs.{AreStartCells, ArraysIn, IsStartCell, IsToldCell, IsToldOf, IsToldReg};
+ghost use Rattle.segment.specs.Runs.{AreStartCells, ArraysIn, IsStartCell, IsToldCell, IsToldFile, IsToldOf, IsToldReg, IsToldVar};
 ghost use Rattle.segment.specs.declared.hints.Spot.{Spot as TheSpot};
 
 use crate::hints::Spot;
@@ -101,17 +100,6 @@ pub(crate) fn start_cells(
     Ok(cells)
 }
 
-// Nothing known of so many registers.
-pub(crate) fn no_regs(alloc: Global, count: u64) -> Result<Items<Option<u64>>, NoMemory>
-    ensures { IfOk result (λ regs. (r : ℕ) → entry regs r ≡ None) }
-{
-    let mut regs = Items::new(alloc);
-    for _r in 0..count {
-        regs.push(None)?;
-    }
-    Ok(regs)
-}
-
 // ---- what holds in a place
 
 // A register has the value of a class.
@@ -144,6 +132,36 @@ fn tell_cell(known: &mut Known, address: u64, class: u64)
     }
 }
 
+// A cell of the register file has the value of a class.
+fn tell_file(known: &mut Known, address: u64, class: u64)
+    ensures told { IsToldFile address class known.old known.new }
+    ensures cells { known.new.cells ≡ known.old.cells }
+{
+    if address < known.file.len() as u64 {
+        known.file.set(address as usize, Some(class));
+    }
+}
+
+// Whether a cell holds what the mark's store has there.
+fn is_kept_cell(known: &Known, address: u64) -> bool
+    ensures { result ≡ true → slice_get known.now.cells address ≡ Some Cell.Kept }
+{
+    match known.cells.get(address as usize) {
+        Some(Cell::Kept) => true,
+        _ => false,
+    }
+}
+
+// A cell of the program that is no array's has the value of a class.
+pub(crate) fn tell_var(known: &mut Known, address: u64, class: u64)
+    ensures told { IsToldVar address class known.old known.new }
+    ensures arrays { (spots : List TheSpot) → ArraysIn spots known.old.cells → ArraysIn spots known.new.cells }
+{
+    if is_kept_cell(known, address) {
+        known.cells.set(address as usize, Cell::Is(class));
+    }
+}
+
 // A place has the value of a class.
 pub(crate) fn learn(pool: &Pool, known: &mut Known, place: ExprId, class: u64)
     requires { place < length pool.now }
@@ -159,6 +177,15 @@ pub(crate) fn learn(pool: &Pool, known: &mut Known, place: ExprId, class: u64)
             } = pool.node(addr)
             {
                 tell_cell(known, value, class);
+            }
+        }
+        Node::Cell(addr, _width) => {
+            if let Node::Const {
+                width: _bits,
+                value,
+            } = pool.node(addr)
+            {
+                tell_file(known, value, class);
             }
         }
         _ => {}

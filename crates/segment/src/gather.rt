@@ -1,6 +1,6 @@
 //! Addresses of arrays in trees.
 
-ghost use Rattle.std.specs.Prelude.{◌≡◌, ℕ, ◌+◌, ◌<◌, ◌≤◌, List, false, map, OnOk};
+ghost use Rattle.std.specs.Prelude.{◌≡◌, ℕ, ◌+◌, ◌<◌, ◌≤◌, false, map, OnOk};
 ghost use Rattle.follow.specs.Safe.{base_in};
 ghost use Rattle.form_model.specs.Forms.{aim_destination};
 ghost use Rattle.form_model.specs.Trees.{model_of_tree};

@@ -16,8 +16,8 @@ pub struct Spot {
     pub view: Option<ExprId>,
 }
 
-/// What a place of the machine has, a register or a temporary cell: the value of a tree over the
-/// program's cells.
+/// What a place of the machine has, a register, a cell of the register file or a temporary cell: the
+/// value of a tree over the program's cells.
 #[derive(Drop)]
 pub struct Holding {
     pub place: ExprId,

@@ -4,10 +4,11 @@
 //! many clocks (`Way::Takes`): from each state at the mark that is related to the program's cells,
 //! where the test has the answer and the program can do the path's jobs and compute the test behind
 //! them, just so many lead past no mark to that of an address, with the path's label, where all is
-//! related again. Or no such state has the answer (`Way::Never`). That is `IsWay`; a segment in `follow`'s sense is a part of it.
-//! `Segment::first_way` says the same of the first word, where all variables stand in their places
-//! (`IsFirstWay`). `Way::Unknown` promises nothing: it says how far the check came, and which
-//! equation of a hint failed, so that a caller can leave it out and ask again.
+//! related again. Or no such state has the answer (`Way::Never`). That is `IsWay`; a segment in
+//! `follow`'s sense is a part of it. `Segment::first_way` says the same of the first word, where all
+//! variables stand in their places (`IsFirstWay`). `Way::Unknown` promises nothing: it says how far
+//! the check came, and which equation of a hint failed, so that a caller can leave it out and ask
+//! again.
 //!
 //! A `Segment` is what is asked: the code, the hints of the marks, the jobs of the program, the mark
 //! from which it goes with its test's answer, and the path. `IsAskedOf` says of which image, program
@@ -15,11 +16,12 @@
 //! says of a mark, in ids and trees (`IsHintOf`).
 //!
 //! What is known at the mark (`Run`: the machine's state and the program's cells, both by classes of
-//! trees over the program's cells at the mark) is led on twice: by the jobs of the path on the
-//! program's side, and word by word on the machine's. At the mark that is reached, places and views,
-//! holdings and numbers are compared by their classes. The path goes first, since its trees and those
-//! of the test at its end list the addresses of arrays that the words may use. An answer that the
-//! relation rules out takes no clock.
+//! trees over the mark's store: the program's cells there, and behind these what the registers hold of
+//! which no holding tells) is led on twice: by the jobs of the path on the program's side, and word by
+//! word on the machine's. A view over what these registers hold is the variable's value. At the mark
+//! that is reached, places and views, holdings and numbers are compared by their classes. The path
+//! goes first, since its trees and those of the test at its end list the addresses of arrays that the
+//! words may use. An answer that the relation rules out takes no clock.
 //!
 //! Files:
 //!
@@ -33,9 +35,9 @@
 //! - `specs/`, cited by public contracts: `Asked` (which segment it is), `Timed` (ways and their
 //!   clocks); `Marked` (what hints say of states and cells), `Runs` (what is known on the way),
 //!   `Proved` (segments in the words of hints).
-//! - `proofs/`: `Places` and `Starting` for the mark, `Learning` for what is known more, `Putting` for
-//!   jobs, `Agreement` for the mark that is reached, `Leading` from one to the other, and `Bridge` to
-//!   the words of `follow`.
+//! - `proofs/`: `Stores` for the mark's store, `Places` and `Starting` for what is known there,
+//!   `Learning` for what is known more, `Putting` for jobs, `Agreement` for the mark that is reached,
+//!   `Leading` from one to the other, and `Bridge` to the words of `follow`.
 #![tactic(auto)]
 
 mod arrive;

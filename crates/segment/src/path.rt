@@ -1,6 +1,6 @@
 //! The jobs of a path, and the test at its end.
 
-ghost use Rattle.std.specs.Prelude.{◌≡◌, IfOk, IfSome, OnOk, option_copied, slice_get};
+ghost use Rattle.std.specs.Prelude.{◌≡◌, true, IfOk, IfSome, OnOk, option_copied, slice_get};
 ghost use Rattle.tree_laws.specs.Classes.{Grows};
 ghost use Rattle.src_trees.specs.Jobs.{model_of_job, models_of_jobs};
 ghost use Rattle.segment.specs.Runs.{AreDone, IsDone, IsGathered, IsOverPath, IsPut, IsPutIn, TestReads};
@@ -78,19 +78,18 @@ fn put_in_array(
 }
 
 impl Segment<'_> {
-    // What is known behind a job.
+    // Does a job in what is known, and says whether it could: where it goes is known.
     fn after(
         &self,
         alloc: Global,
         table: &mut Classes,
-        run: Run,
+        run: &mut Run,
         job: &Job,
-    ) -> Result<Option<Run>, NoMemory>
-        ensures { IfOk result (λ found. IfSome found (IsDone self.now (model_of_job job.now) table.old table.new run)) }
+    ) -> Result<bool, NoMemory>
+        ensures { IfOk result (λ could. could ≡ true → IsDone self.now (model_of_job job.now) table.old table.new run.old run.new) }
     {
-        let mut run = run;
-        self.all_elements(table, &mut run, job.trees.as_slice())?;
-        self.aim_elements(table, &mut run, &job.aim)?;
+        self.all_elements(table, run, job.trees.as_slice())?;
+        self.aim_elements(table, run, &job.aim)?;
         let elements = put_in_array(
             alloc,
             table,
@@ -101,36 +100,37 @@ impl Segment<'_> {
         )?;
         if let Some(puts) = elements {
             run.vars.puts = puts;
-            return Ok(Some(run));
+            return Ok(true);
         }
         let Some(cells) = put(alloc, table, run.facts.as_slice(), &run.vars, job)? else {
-            return Ok(None);
+            return Ok(false);
         };
         run.vars.cells = cells;
-        Ok(Some(run))
+        Ok(true)
     }
 
-    // What is known behind the jobs of these numbers.
+    // Does the jobs of these numbers.
     fn behind(
         &self,
         alloc: Global,
         table: &mut Classes,
-        run: Run,
+        run: &mut Run,
         path: &[u32],
-    ) -> Result<Option<Run>, NoMemory>
-        ensures { IfOk result (λ found. IfSome found (AreDone self.now path.now table.old table.new run)) }
+    ) -> Result<bool, NoMemory>
+        ensures { IfOk result (λ could. could ≡ true → AreDone self.now path.now table.old table.new run.old run.new) }
     {
         let Some((number, rest)) = path.split_first() else {
-            return Ok(Some(run));
+            return Ok(true);
         };
         let Some(job) = job_at(self.jobs, *number) else {
-            return Ok(None);
+            return Ok(false);
         };
-        let Some(next) = self.after(alloc, table, run, job)? else {
-            return Ok(None);
-        };
-        self.behind(alloc, table, next, rest)
+        if !self.after(alloc, table, run, job)? {
+            return Ok(false);
+        }
+        self.behind(alloc, table, run, rest)
     }
+
     // The addresses of arrays in the test at the path's end.
     fn test_elements(&self, table: &mut Classes, run: &mut Run) -> Result<(), NoMemory>
         ensures { OnOk result (IsGathered self.now (TestReads self.now.from.now.spots (models_of_jobs self.now.jobs.now) self.now.label)
@@ -145,19 +145,19 @@ impl Segment<'_> {
         self.all_elements(table, run, job.trees.as_slice())
     }
 
-    // What is known behind the path, where the test at its end can be computed.
+    // Does the jobs of the path, and gathers what the test at its end reads.
     pub(crate) fn over_path(
         &self,
         alloc: Global,
         table: &mut Classes,
-        run: Run,
-    ) -> Result<Option<Run>, NoMemory>
-        ensures { IfOk result (λ found. IfSome found (IsOverPath self.now table.old table.new run)) }
+        run: &mut Run,
+    ) -> Result<bool, NoMemory>
+        ensures { IfOk result (λ could. could ≡ true → IsOverPath self.now table.old table.new run.old run.new) }
     {
-        let Some(mut run) = self.behind(alloc, table, run, self.path)? else {
-            return Ok(None);
-        };
-        self.test_elements(table, &mut run)?;
-        Ok(Some(run))
+        if !self.behind(alloc, table, run, self.path)? {
+            return Ok(false);
+        }
+        self.test_elements(table, run)?;
+        Ok(true)
     }
 }

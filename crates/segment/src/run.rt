@@ -14,10 +14,14 @@ pub struct Segment<'a> {
     pub code: &'a [Coded],
     /// The marked addresses.
     pub marks: &'a [u64],
-    /// The storages that are the program counter and the memory, and how many there are.
+    /// The storages that are the program counter, the memory and the register file, and how many
+    /// storages there are.
     pub counter: u64,
     pub memory: u64,
+    pub file: u64,
     pub storages: u64,
+    /// How many cells the register file has.
+    pub file_cells: u64,
     /// The bits of the program counter, of a cell and of an address.
     pub counter_width: u8,
     pub word: u8,

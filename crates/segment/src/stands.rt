@@ -1,15 +1,14 @@
 //! Where the words lead from a mark.
 
-ghost use Rattle.std.specs.Prelude.{◌≡◌, ℕ, List, true, length, map, IfOk, OnOk};
+ghost use Rattle.std.specs.Prelude.{◌≡◌, ℕ, true, false, Some, length, map, slice_get, IfOk, OnOk};
 ghost use Rattle.rec_bits.specs.Operators.{IsWidth, bit_of};
-ghost use Rattle.net_model.specs.declared.states.State.{State};
 ghost use Rattle.form_model.specs.Trees.{model_of_tree};
 ghost use Rattle.net_model.specs.Nets.{memory_width};
 ghost use Rattle.src_trees.specs.Doing.{AllAre};
 ghost use Rattle.src_trees.specs.Seen.{tree_value};
 ghost use Rattle.src_trees.specs.Jobs.{model_of_job};
 ghost use Rattle.sym_run.specs.Walks.{AreAllWithin};
-ghost use Rattle.tree_laws.specs.Classes.{Grows, cell_bits};
+ghost use Rattle.tree_laws.specs.Classes.{cell_bits};
 ghost use Rattle.net_model.specs.declared.hardware.Netlist.{Netlist};
 ghost use Rattle.src_model.specs.Written.{ProgramModel};
 ghost use Rattle.code_model.specs.declared.views.Viewed.{Viewed};
@@ -17,10 +16,10 @@ ghost use Rattle.src_trees.specs.Lowered.{MemoryMap};
 ghost use Rattle.follow.specs.Paths.{Path};
 ghost use Rattle.follow.specs.Relations.{Relation};
 ghost use Rattle.segment.specs.Asked.{ArePlaces, IsAskedOf, IsHintOf};
-ghost use Rattle.segment.specs.Proved.{ComesFrom, ComesHere, HasCome, HasEnded, IfFound, IsAtOne};
+ghost use Rattle.segment.specs.Proved.{ComesFrom, ComesHere, HasCome, HasEnded, IfFound, IsAtOne, IsFoundWay};
 ghost use Rattle.segment.specs.Timed.{IsFirstWay, IsWay};
-ghost use Rattle.segment.specs.Marked.{AreViewless, IsFirst};
-ghost use Rattle.segment.specs.Runs.{IsAgreed, IsAtMark, IsStarted, KnowsArrays, Stands};
+ghost use Rattle.segment.specs.Marked.{AllHeld, AllReadArrays, AreViewless, IsFirst};
+ghost use Rattle.segment.specs.Runs.{IsAgreed, IsLearnt, IsStarted};
 
 use crate::begin::are_viewless;
 use crate::hints::Hint;
@@ -49,6 +48,19 @@ fn is_first(hint: &Hint) -> bool
 }
 
 impl Segment<'_> {
+    // What is known of counter and registers, what the mark's hint says of views and numbers, and the
+    // addresses that a test reads.
+    fn tell(&self, table: &mut Classes, run: &mut Run, job: &Job) -> Result<(), NoMemory>
+        ensures { OnOk result (IsLearnt self.now (λ s cells. AllReadArrays self.now.from.now.spots cells (model_of_job job.now).trees)
+            table.old table.new run.old run.new) }
+    {
+        self.count(table, run)?;
+        self.symbols(table, run, self.storages)?;
+        self.views(table, run, self.from.spots.as_slice())?;
+        self.numbers(table, run, self.from.numbers.as_slice())?;
+        self.all_elements(table, run, job.trees.as_slice())
+    }
+
     // What is known at the mark, before anything is known of the test of a job and of holdings.
     fn start(&self, alloc: Global, table: &mut Classes, job: &Job) -> Result<Run, NoMemory>
         requires bits { cell_bits table.old ≡ self.now.word }
@@ -56,10 +68,7 @@ impl Segment<'_> {
         ensures { IfOk result (IsStarted self.now (model_of_job job.now) table.old table.new) }
     {
         let mut run = self.begin(alloc)?;
-        self.count(table, &mut run)?;
-        self.views(table, &mut run, self.from.spots.as_slice())?;
-        self.numbers(table, &mut run, self.from.numbers.as_slice())?;
-        self.all_elements(table, &mut run, job.trees.as_slice())?;
+        self.tell(table, &mut run, job)?;
         Ok(run)
     }
 
@@ -129,6 +138,23 @@ impl Segment<'_> {
         }
     }
 
+    // The mark of an address, with so many clocks left, if all is there as a hint says.
+    fn meets(
+        &self,
+        table: &mut Classes,
+        run: &Run,
+        address: u64,
+        left: u64,
+    ) -> Result<End, NoMemory>
+        ensures { IfOk result (λ end. IfFound end (λ to rest. HasCome self.now run.now.facts run.now.vars
+            (record { address = address; known = run.now.machine; left = left }) to rest table.old table.new)) }
+    {
+        if self.arrives(table, run, address, self.hints)? {
+            return Ok(End::Mark { address, left });
+        }
+        Ok(End::Lost(self.unlike(table, run, address, self.hints)?))
+    }
+
     // Whether the run's machine, if it is what is known at a mark, is there as a hint says.
     fn comes(
         &self,
@@ -149,10 +175,7 @@ impl Segment<'_> {
             machine: known,
             vars,
         };
-        if self.arrives(table, &run, address, self.hints)? {
-            return Ok(End::Mark { address, left });
-        }
-        Ok(End::Lost(self.unlike(table, &run, address, self.hints)?))
+        self.meets(table, &run, address, left)
     }
 
     // Where words that were walked end.
@@ -177,9 +200,10 @@ impl Segment<'_> {
         requires { AreAllWithin (length self.now.pool.now) self.now.code.now }
         ensures { IfOk result (λ end. IfFound end (ComesFrom self.now table.old run)) }
     {
-        let Some(run) = self.over_path(alloc, table, run)? else {
+        let mut run = run;
+        if !self.over_path(alloc, table, &mut run)? {
             return Ok(End::Lost(Why::Path));
-        };
+        }
         let Run {
             facts,
             machine,
@@ -192,6 +216,7 @@ impl Segment<'_> {
             marks: self.marks,
             counter: self.counter,
             memory: self.memory,
+            file: self.file,
         };
         let from = u64::from(self.from.address);
         let walked = image.cross(alloc, table, &machine, self.clocks, from)?;
@@ -203,9 +228,10 @@ impl Segment<'_> {
         requires { AreAllWithin (length self.now.pool.now) self.now.code.now }
         ensures { IfOk result (λ end. IfFound end (ComesHere self.now table.old run)) }
     {
-        let Some(run) = self.over_path(alloc, table, run)? else {
+        let mut run = run;
+        if !self.over_path(alloc, table, &mut run)? {
             return Ok(End::Lost(Why::Path));
-        };
+        }
         let Run {
             facts,
             machine,
@@ -218,9 +244,41 @@ impl Segment<'_> {
             marks: self.marks,
             counter: self.counter,
             memory: self.memory,
+            file: self.file,
         };
         let walked = image.walk(alloc, table, machine, self.clocks, 0)?;
         self.ends(table, facts, vars, walked)
+    }
+
+    // Tells a run that a job's test has the answer, and the mark's holdings, and says whether the
+    // answer can be.
+    fn admits(&self, table: &mut Classes, run: &mut Run, job: &Job) -> Result<bool, NoMemory>
+        ensures learnt { IfOk result (λ can. can ≡ true → IsLearnt self.now (λ s cells. AllAre (bit_of self.now.answer) cells (model_of_job job.now).trees × AllHeld self.now.pool.now self.now.from.now.holdings s cells)
+            table.old table.new run.old run.new) }
+        ensures denied { IfOk result (λ can. can ≡ false → IsAgreed run.old (λ s now. AllAre (bit_of self.now.answer) now (model_of_job job.now).trees → ⊥) table.old table.new true) }
+    {
+        if self.are_denied(table, run, job.trees.as_slice())? {
+            return Ok(false);
+        }
+        self.answers(table, run, job.trees.as_slice())?;
+        self.holdings(table, run, self.from.holdings.as_slice())?;
+        Ok(true)
+    }
+
+    // The way from the mark, where the test of a job has the answer.
+    fn way_of(&self, alloc: Global, table: &mut Classes, job: &Job) -> Result<Way, NoMemory>
+        requires bits { cell_bits table.old ≡ self.now.word }
+        requires viewless { AreViewless self.now.from.now.spots }
+        requires code { AreAllWithin (length self.now.pool.now) self.now.code.now }
+        requires job { slice_get self.now.jobs.now self.now.test ≡ Some job.now }
+        ensures { IfOk result (IsFoundWay self.now) }
+    {
+        let mut run = self.start(alloc, table, job)?;
+        if !self.admits(table, &mut run, job)? {
+            return Ok(Way::Never);
+        }
+        let end = self.leads(alloc, table, run)?;
+        Ok(way_to(end, self.clocks, 1))
     }
 
     /// The way from the mark, where the test has the answer: from each state there that is related to
@@ -242,14 +300,7 @@ impl Segment<'_> {
             return Ok(Way::Unknown(Why::Array));
         }
         let mut table = Classes::new(alloc, self.word);
-        let mut run = self.start(alloc, &mut table, job)?;
-        if self.are_denied(&mut table, &run, job.trees.as_slice())? {
-            return Ok(Way::Never);
-        }
-        self.answers(&mut table, &mut run, job.trees.as_slice())?;
-        self.holdings(&mut table, &mut run, self.from.holdings.as_slice())?;
-        let end = self.leads(alloc, &mut table, run)?;
-        Ok(way_to(end, self.clocks, 1))
+        self.way_of(alloc, &mut table, job)
     }
 
     /// The way from the first word, where all variables stand in their places, to a mark of the label.

@@ -9,11 +9,11 @@ use Rattle.sym_run.specs.declared.known.Fact.{Fact}
 use Rattle.sym_run.specs.declared.known.Known.{Known}
 use Rattle.sym_run.specs.declared.known.Cell.{Cell}
 use Rattle.sym_run.specs.declared.known.Cell.TheVariants.{Kept, Array, Is}
-use Rattle.sym_run.specs.Known.{AreFacts, AreInside, AreSame, CellStands, HasNumber, Holds, HoldsOf, StandsFor, cell_at, cell_of, entry_of}
+use Rattle.sym_run.specs.Known.{AreFacts, AreInside, AreSame, CellStands, HasNumber, Holds, HoldsOf, StandsFor, cell_at, cell_of, entry, entry_of}
 use Rattle.sym_run.specs.Reading.{IsCell}
-use Rattle.sym_run.specs.Inner.Reading.{IsAlias, IsOfWidth, IsReg}
+use Rattle.sym_run.specs.Inner.Reading.{IsAlias, IsFileCell, IsOfWidth, IsReg}
 use Rattle.sym_run.proofs.Grown.{stands_below, stands_width}
-use Rattle.sym_run.proofs.Keeping.{holds_kept}
+use Rattle.sym_run.proofs.Keeping.{grows_same, holds_kept}
 use Rattle.sym_run.proofs.Made.{same_holds}
 
 pub has_at : (t : Classes) (class : ℕ) (elements : List Element) (k : ℕ) (d : Element) → k < length elements → AreSame t class (get_or elements k d).class → IsAlias t elements class (get_or elements k d).like
@@ -47,6 +47,19 @@ reg_known t known r width class c e is memory s h = record {
   holds = subst (λ k. Holds t memory k (slice_index s.regs r)) (sym is.same) (subst (λ o. HoldsOf t memory o (slice_index s.regs r)) (ap entry_of e) (h.regs r));
   width = ap (width_in t) is.same ∙ is.wide;
 }
+
+-- so it is with a cell of the register file
+pub file_known : (t : Classes) (facts : List Fact) (known : Known) (addr at width class c : ℕ) → HasNumber t facts addr at → entry known.file at ≡ Some class → IsOfWidth t class width c → IsFileCell t facts known addr width c
+file_known t facts known addr at width class c number e is memory s a f h k =
+    let there : Holds t memory class (slice_index s.file at) = subst (λ o. HoldsOf t memory o (slice_index s.file at)) e (h.file.are at) in
+    let own : Holds t memory c (slice_index s.file at) = subst (λ d. Holds t memory d (slice_index s.file at)) (sym is.same) there in
+    record {
+      holds = record {
+        below = own.below;
+        value = λ regs m. own.value regs m ∙ ap (slice_index s.file) (one_value t t (grows_same t) memory addr at a (number memory f) k regs m);
+      };
+      width = ap (width_in t) is.same ∙ is.wide;
+    }
 
 module _ (old : Classes) (facts : List Fact) (known : Known) (addr at width : ℕ) (number : HasNumber old facts addr at) where
   pub cell_known : (class c : ℕ) → slice_get known.cells at ≡ Some (Is class) → IsOfWidth old class width c → IsCell old old facts known addr width c

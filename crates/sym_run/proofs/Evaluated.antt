@@ -6,7 +6,7 @@ use Rattle.rec_bits.specs.declared.operator.Op2.{Op2}
 use Rattle.rec_bits.specs.Operators.{apply1_of, apply2_of, sext_of, result_width}
 use Rattle.net_model.specs.declared.states.State.{State}
 use Rattle.net_model.specs.declared.hardware.Space.TheVariants.{Memory as InMemory}
-use Rattle.net_model.specs.Exprs.{ExprModel, word, reg, const, read, un, bin, slice, zext, sext, select, expr_width}
+use Rattle.net_model.specs.Exprs.{ExprModel, cell, word, reg, const, read, un, bin, slice, zext, sext, select, expr_width}
 use Rattle.net_model.specs.Meaning.{mean}
 use Rattle.tree_laws.specs.declared.classes.Classes.{Classes}
 use Rattle.tree_laws.specs.Classes.{Grows, TableMeans}
@@ -16,7 +16,7 @@ use Rattle.sym_run.specs.Known.{AreFacts, Evaluates, HasNumber, HoldsWide, Stand
 use Rattle.sym_run.specs.Reading.{IsCell}
 use Rattle.sym_run.specs.Values.{IsNumber}
 use Rattle.sym_run.specs.Inner.Values.{IsBin, IsSext, IsSlice, IsUn, IsZext}
-use Rattle.sym_run.specs.Inner.Reading.{IsReg}
+use Rattle.sym_run.specs.Inner.Reading.{IsFileCell, IsReg}
 use Rattle.sym_run.proofs.Keeping.{facts_kept, known_kept, wide_kept}
 use Rattle.sym_run.proofs.Cells.{one_value}
 
@@ -49,6 +49,10 @@ module _ (facts : List Fact) (known : Known) (i : ℕ) where
 
     pub then_read : (w c : ℕ) → IsCell middle last facts known a w c → Evaluates first last facts known i (read InMemory e w) c
     then_read w c is memory s f k =
+        is memory s (mean e s i) (facts_kept first middle g memory facts f) (known_kept first middle g memory known s k) (evaluated memory s f k).holds
+
+    pub then_cell : (w c : ℕ) → IsFileCell middle facts known a w c → Evaluates first middle facts known i (cell e w) c
+    then_cell w c is memory s f k =
         is memory s (mean e s i) (facts_kept first middle g memory facts f) (known_kept first middle g memory known s k) (evaluated memory s f k).holds
 
     pub then_bin : (end : Classes) → Grows middle last → (op : Op2) (d : ExprModel) (b c : ℕ) → Evaluates middle last facts known i d b → IsBin last end facts op a b c → Evaluates first end facts known i (bin op e d) c

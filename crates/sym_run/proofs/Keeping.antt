@@ -9,7 +9,7 @@ use Rattle.sym_run.specs.declared.known.Known.{Known}
 use Rattle.sym_run.specs.declared.known.Put.{Put}
 use Rattle.sym_run.specs.declared.known.Cell.{Cell}
 use Rattle.sym_run.specs.declared.known.Cell.TheVariants.{Unknown, Kept, Array, Is}
-use Rattle.sym_run.specs.Known.{ArraysStand, HaveWritten, Wrote, AreFacts, AreInside, CellStands, Holds, HoldsOf, HoldsWide, StandsFor, cell_at, entry}
+use Rattle.sym_run.specs.Known.{ArraysStand, HaveWritten, Wrote, AreFacts, AreInside, CellStands, FileStands, Holds, HoldsOf, HoldsWide, StandsFor, cell_at, entry}
 use Rattle.sym_run.proofs.Grown.{value_kept}
 
 pub grows_same : (t : Classes) → Grows t t
@@ -58,6 +58,9 @@ module _ (old new : Classes) (g : Grows old new) (memory : List ℕ) where
   pub arrays_kept : (cells : List Cell) (puts : List Put) (held : List ℕ) → ArraysStand old memory cells puts held → ArraysStand new memory cells puts held
   arrays_kept cells puts held h = record { log = h.log; wrote = wrote_kept puts h.log h.wrote; are = h.are }
 
+  pub file_kept : (known : List (Option ℕ)) (held : List ℕ) → FileStands old memory known held → FileStands new memory known held
+  file_kept known held h = record { there = h.there; are = λ a. of_kept (entry known a) (slice_index held a) (h.are a) }
+
   pub known_kept : (known : Known) (s : State) → StandsFor old memory known s → StandsFor new memory known s
   known_kept known s h = record {
     fits = λ k. subst (λ w. slice_index memory k < 2 ^ w) (sym g.bits) (h.fits k);
@@ -66,4 +69,5 @@ module _ (old new : Classes) (g : Grows old new) (memory : List ℕ) where
     cells = λ a. cell_kept (cell_at known.cells a) (slice_index s.cells a) (slice_index memory a) (h.cells a);
     inside = inside_kept known.cells known.inside h.inside;
     arrays = arrays_kept known.cells known.puts s.cells h.arrays;
+    file = file_kept known.file s.file h.file;
   }

@@ -9,7 +9,9 @@ pub mod Passing
 pub mod Walking
 pub mod Agreeing
 pub mod Summing
+pub mod Multiplying
 pub mod Numbering
+pub mod Symbolic
 pub mod PutLemmas
 pub mod SamePuts
 pub mod LowBits

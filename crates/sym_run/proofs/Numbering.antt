@@ -1,5 +1,5 @@
 -- Numbers of classes, by facts and by listed operators over numbers.
-use Rattle.std.proofs.Common.{◌≡◌, ◌==◌, inl, inr, ℕ, ◌-◌, ◌^◌, ◌<◌, ◌≤◌, List, [], ◌∷◌, Option, ◌∙◌, refl, sym, ap, subst, slice_index, arith}
+use Rattle.std.proofs.Common.{◌≡◌, ◌==◌, inl, inr, ℕ, ◌-◌, ◌^◌, ◌<◌, List, [], ◌∷◌, Option, ◌∙◌, sym, ap, subst, slice_index, arith}
 use Rattle.std.proofs.lemmas.Bool.{cases_eq, ne_eqb}
 use Rattle.std.specs.Prelude.{IfSome}
 use Rattle.rec_bits.specs.declared.operator.Op1.{Op1}

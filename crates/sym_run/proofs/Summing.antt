@@ -1,22 +1,22 @@
 -- Operators over classes in one form, and sums term by term.
-use Rattle.std.proofs.Common.{◌≡◌, ◌==◌, inl, inr, ℕ, zero, suc, ◌+◌, ◌*◌, ◌-◌, ◌%◌, ◌^◌, ◌<◌, ◌≤◌, List, [], ◌∙◌, refl, sym, ap, subst, slice_index, arith}
+use Rattle.std.proofs.Common.{◌≡◌, ◌==◌, inl, inr, ℕ, zero, suc, ◌+◌, ◌-◌, ◌%◌, ◌^◌, ◌<◌, ◌≤◌, List, [], ◌∙◌, refl, sym, ap, subst, slice_index, arith}
 use Rattle.std.proofs.Math.Logic.{∥∥₁_elim}
-use Rattle.std.proofs.Math.Nat.{ℕ_set, mod-eq_of_lt, mod_self}
+use Rattle.std.proofs.Math.Nat.{ℕ_set, mod-eq_of_lt, mod-lt, mod_self}
+use Rattle.std.proofs.lemmas.Nat.{pow_pos}
 use Rattle.std.proofs.lemmas.Bool.{cases_eq, eq-eqb, ne_eqb}
 use Rattle.rec_bits.specs.declared.operator.Op1.{Op1}
 use Rattle.rec_bits.specs.declared.operator.Op1.TheVariants.{Neg}
 use Rattle.rec_bits.specs.declared.operator.Op2.{Op2}
-use Rattle.rec_bits.specs.declared.operator.Op2.TheVariants.{Add, Sub, Mul, And, Or, Xor, Shl, Eq}
+use Rattle.rec_bits.specs.declared.operator.Op2.TheVariants.{Add, Sub, Mul, And, Or, Xor, Eq}
 use Rattle.rec_bits.specs.Operators.{IsWidth, apply1_of, apply2_of, bit_of, result_width}
 use Rattle.sym_expr.specs.declared.pool.Node.TheVariants.{Bin, Un}
 use Rattle.tree_laws.specs.declared.classes.Classes.{Classes}
 use Rattle.tree_laws.specs.Classes.{Grows, NodeStands, TableMeans, class_count, width_in}
 use Rattle.tree_laws.proofs.Units.{Commutes as MayCommute, assoc_add, assoc_sub, comm, neg_zero_sub, self_sub, sub_neg, sub_sum, unit_zero}
-use Rattle.tree_laws.proofs.Shifts.{shl_is}
 use Rattle.sym_run.specs.declared.known.Fact.{Fact}
 use Rattle.sym_run.specs.Known.{AreSame, HoldsWide}
 use Rattle.sym_run.specs.Values.{IsNumber}
-use Rattle.sym_run.specs.Inner.Sums.{AreOpposite, Commutes, Makes, MakesBy, MakesOf}
+use Rattle.sym_run.specs.Inner.Sums.{Commutes, Makes, MakesBy, MakesOf}
 use Rattle.sym_run.specs.Inner.Values.{IsBin, IsMade, IsSized, IsUn}
 use Rattle.sym_run.proofs.Grown.{at_front, front, stands_below, stands_width, was}
 use Rattle.sym_run.proofs.Keeping.{facts_kept, holds_kept, wide_kept}
@@ -42,7 +42,7 @@ add_back w k n some fk fn =
     ap (λ z. apply2_of Add w z n) (sub_neg w k n fn) ∙ assoc_add w k (apply1_of Neg w n) n
     ∙ ap (apply2_of Add w k) (comm Add w (apply1_of Neg w n) n tt ∙ sym (sub_neg w n n fn) ∙ self_sub w n) ∙ unit_zero Add w k tt some fk
 
-sub_back : (w x n : ℕ) → 1 ≤ w → x < 2 ^ w → n < 2 ^ w → apply2_of Sub w (apply2_of Add w x n) n ≡ x
+pub sub_back : (w x n : ℕ) → 1 ≤ w → x < 2 ^ w → n < 2 ^ w → apply2_of Sub w (apply2_of Add w x n) n ≡ x
 sub_back w x n some fx fn = assoc_sub w x n n fn ∙ ap (apply2_of Add w x) (self_sub w n) ∙ unit_zero Add w x tt some fx
 
 eq_shift : (w x n k : ℕ) → 1 ≤ w → x < 2 ^ w → n < 2 ^ w → k < 2 ^ w → apply2_of Eq w (apply2_of Add w x n) k ≡ apply2_of Eq w x (apply2_of Sub w k n)
@@ -77,6 +77,26 @@ module _ (old new : Classes) (g : Grows old new) where
         sym (at_front old new g regs c h.below) ∙ h.value memory (front old new g regs) o ∙ (λ i. apply2_of op (w i) (x i) (y i)));
   }
 
+  pub same_kept : (a b : ℕ) → AreSame old a b → AreSame new a b
+  same_kept a b h = record {
+    first = omega (arith, h.first, g.longer);
+    second = omega (arith, h.second, g.longer);
+    value = λ memory regs m. ∥∥₁_elim old.meanings (ℕ_set _ _) (λ before.
+        let o = was old new g memory regs before m in
+        sym (at_front old new g regs a h.first) ∙ h.value memory (front old new g regs) o ∙ at_front old new g regs b h.second);
+  }
+
+  pub makes_by_kept : (op : Op2) (a w n c : ℕ) → MakesBy old op a w n c → MakesBy new op a w n c
+  makes_by_kept op a w n c h = record {
+    first = omega (arith, h.first, g.longer);
+    below = omega (arith, h.below, g.longer);
+    same = g.widths a h.first ∙ h.same;
+    wide = g.widths c h.below ∙ h.wide;
+    value = λ memory regs m. ∥∥₁_elim old.meanings (ℕ_set _ _) (λ before.
+        let o = was old new g memory regs before m in
+        sym (at_front old new g regs c h.below) ∙ h.value memory (front old new g regs) o ∙ ap (λ z. apply2_of op w z n) (at_front old new g regs a h.first));
+  }
+
   pub makes_of_kept : (op : Op1) (a c : ℕ) → MakesOf old op a c → MakesOf new op a c
   makes_of_kept op a c h = record {
     first = omega (arith, h.first, g.longer);
@@ -87,19 +107,6 @@ module _ (old new : Classes) (g : Grows old new) where
         let x : slice_index (front old new g regs) a ≡ slice_index regs a = at_front old new g regs a h.first in
         let w = sym (g.widths a h.first) in
         sym (at_front old new g regs c h.below) ∙ h.value memory (front old new g regs) o ∙ (λ i. apply1_of op (w i) (x i)));
-  }
-
-  pub opposite_kept : (a b : ℕ) → AreOpposite old a b → AreOpposite new a b
-  opposite_kept a b h = record {
-    first = omega (arith, h.first, g.longer);
-    second = omega (arith, h.second, g.longer);
-    same = g.widths b h.second ∙ h.same ∙ sym (g.widths a h.first);
-    value = λ memory regs m. ∥∥₁_elim old.meanings (ℕ_set _ _) (λ before.
-        let o = was old new g memory regs before m in
-        let x : slice_index (front old new g regs) a ≡ slice_index regs a = at_front old new g regs a h.first in
-        let y : slice_index (front old new g regs) b ≡ slice_index regs b = at_front old new g regs b h.second in
-        let w = g.widths a h.first in
-        (λ i. apply2_of Add (w i) (sym x i) (sym y i)) ∙ h.value memory (front old new g regs) o);
   }
 
   -- ---- listed operators
@@ -128,21 +135,21 @@ module _ (old new : Classes) (g : Grows old new) where
     literal_there : l < class_count old
     literal_there = (s.number [] tt).below
 
-    literal_value : (memory regs : List ℕ) → TableMeans new memory regs → slice_index regs l ≡ n
+    pub literal_value : (memory regs : List ℕ) → TableMeans new memory regs → slice_index regs l ≡ n
     literal_value memory regs m = (holds_kept old new g memory l n (s.number memory tt)).value regs m
 
-    literal_width : width_in new l ≡ w
+    pub literal_width : width_in new l ≡ w
     literal_width = g.widths l literal_there ∙ s.width
 
   -- ---- sums with numbers
 
-  pub number_raised : (base w n k m c : ℕ) → IsSized old [] base w n → m ≡ apply2_of Add w n k → IsNumber new w m c → MakesBy new Add base w k c
-  number_raised base w n k m c s e is = record {
+  pub number_raised : (op : Op2) (base w n k m c : ℕ) → result_width op w ≡ w → IsSized old [] base w n → m ≡ apply2_of op w n k → IsNumber new w m c → MakesBy new op base w k c
+  number_raised op base w n k m c r s e is = record {
     first = (let p = literal_there base w n s in omega (arith, p, g.longer));
     below = (is []).holds.below;
     same = literal_width base w n s;
-    wide = (is []).width;
-    value = λ memory regs t. (is memory).holds.value regs t ∙ e ∙ ap (λ z. apply2_of Add w z k) (sym (literal_value base w n s memory regs t));
+    wide = (is []).width ∙ sym r;
+    value = λ memory regs t. (is memory).holds.value regs t ∙ e ∙ ap (λ z. apply2_of op w z k) (sym (literal_value base w n s memory regs t));
   }
 
   pub listed_by : (op : Op2) (base w k l c : ℕ) → IsNumber old w k l → Makes new op base l c → MakesBy new op base w k c
@@ -200,23 +207,6 @@ module _ (old new : Classes) (g : Grows old new) where
         (is memory).holds.value regs t ∙ e ∙ (λ i. apply1_of Neg (sym v i) (sym x i)));
   }
 
-  -- a shift by one bit
-  pub doubled : (a b w c : ℕ) → a < class_count old → IsSized old [] b w 1 → 2 ≤ w → width_in old a ≡ width_in old b → Makes new Add a a c → Makes new Shl a b c
-  doubled a b w c there s some same h =
-      let own : width_in new a ≡ w = g.widths a there ∙ same ∙ s.width in
-      record {
-        first = h.first;
-        second = (let q = literal_there b w 1 s in omega (arith, q, g.longer));
-        below = h.below;
-        same = literal_width b w 1 s ∙ sym own;
-        wide = h.wide;
-        value = λ memory regs m.
-            (let x = slice_index regs a in
-            let y = literal_value b w 1 s memory regs m in
-            let e : x + x ≡ x * 2 ^ 1 = omega arith in
-            h.value memory regs m ∙ (λ i. (e i) % 2 ^ own i) ∙ sym (shl_is w x 1 (omega (arith, some))) ∙ (λ i. apply2_of Shl (sym own i) x (sym y i)));
-      }
-
   -- ---- equations with numbers
 
   pub equal_shifted : (a p l w n k m c : ℕ) → Makes old Add p l a → IsSized old [] l w n → m ≡ apply2_of Sub w k n → k < 2 ^ w → MakesBy new Eq p w m c → MakesBy new Eq a w k c
@@ -248,6 +238,33 @@ module _ (old new : Classes) (g : Grows old new) where
             let less : slice_index regs x < 2 ^ w = subst (λ v. slice_index regs x < 2 ^ v) h.same (o.values x t.first) in
             h.value memory regs o ∙ ap (apply2_of Eq w (slice_index regs x)) e ∙ sym (eq_neg w (slice_index regs x) k less fits)
             ∙ ap (λ z. apply2_of Eq w z k) whole);
+      }
+
+-- values are one where their difference is 0
+difference_is_none : (w x y : ℕ) → 1 ≤ w → x < 2 ^ w → y < 2 ^ w → apply2_of Eq w x y ≡ apply2_of Eq w (apply2_of Sub w x y) 0
+difference_is_none w x y some fx fy =
+    ap (λ z. apply2_of Eq w z y) (sym (add_back w x y some fx fy)) ∙ eq_shift w (apply2_of Sub w x y) y y some (mod-lt (x + 2 ^ w - y) (pow_pos w)) fy fy
+    ∙ ap (apply2_of Eq w (apply2_of Sub w x y)) (self_sub w y)
+
+module _ (old new : Classes) (g : Grows old new) where
+  pub difference_decides : (a b rest w n k c : ℕ) → Makes old Sub a b rest → IsSized old [] rest w n → k ≡ apply2_of Eq w n 0 → IsNumber new 1 k c → Makes new Eq a b c
+  difference_decides a b rest w n k c h s e is =
+      let d : Makes new Sub a b rest = makes_kept old new g Sub a b rest h in
+      let own : w ≡ width_in new a = sym (literal_width old new g rest w n s) ∙ d.wide in
+      record {
+        first = d.first;
+        second = d.second;
+        below = (is []).holds.below;
+        same = d.same;
+        wide = (is []).width;
+        value = λ memory regs m.
+            (let v = width_in new a in
+            let x = slice_index regs a in
+            let y = slice_index regs b in
+            let less : y < 2 ^ v = subst (λ u. y < 2 ^ u) d.same (m.values b d.second) in
+            let some : 1 ≤ v = (m.widths a d.first).0 in
+            let told : n ≡ apply2_of Sub v x y = sym (literal_value old new g rest w n s memory regs m) ∙ d.value memory regs m in
+            (is memory).holds.value regs m ∙ e ∙ (λ i. apply2_of Eq (own i) (told i) 0) ∙ sym (difference_is_none v x y some (m.values a d.first) less));
       }
 
 pub nothing_raised : (t : Classes) (base w : ℕ) → base < class_count t → width_in t base ≡ w → MakesBy t Add base w 0 base
@@ -322,6 +339,22 @@ module _ (t : Classes) where
         ∙ assoc_add w (slice_index regs a) (slice_index regs p) (slice_index regs q) ∙ ap (apply2_of Add w (slice_index regs a)) second);
   }
 
+  -- a last term that is joined with one more
+  pub regrouped : (a b p l r c : ℕ) → Makes t Add p l a → Makes t Add l b r → Makes t Add p r c → Makes t Add a b c
+  regrouped a b p l r c terms x y = record {
+    first = terms.below;
+    second = x.second;
+    below = y.below;
+    same = x.same ∙ terms.same ∙ sym terms.wide;
+    wide = y.wide ∙ sym terms.wide;
+    value = λ memory regs m.
+        (let w = width_in t p in
+        let both : slice_index regs r ≡ apply2_of Add w (slice_index regs l) (slice_index regs b) = x.value memory regs m ∙ (λ i. apply2_of Add (terms.same i) (slice_index regs l) (slice_index regs b)) in
+        y.value memory regs m ∙ ap (apply2_of Add w (slice_index regs p)) both
+        ∙ sym (assoc_add w (slice_index regs p) (slice_index regs l) (slice_index regs b))
+        ∙ (λ i. apply2_of Add (sym terms.wide i) (sym (terms.value memory regs m) i) (slice_index regs b)));
+  }
+
   -- a term before the last one
   pub inserted : (a b p l r c : ℕ) → Makes t Add p l a → Makes t Add p b r → Makes t Add r l c → Makes t Add a b c
   inserted a b p l r c terms x y = record {
@@ -342,75 +375,6 @@ module _ (t : Classes) where
   }
 
   -- ---- negatives
-
-  -- the negative of a negative
-  pub negative_back : (a class : ℕ) → MakesOf t Neg a class → MakesOf t Neg class a
-  negative_back a class h = record {
-    first = h.below;
-    below = h.first;
-    wide = sym h.wide;
-    value = λ memory regs m.
-        (let e = h.value memory regs m in
-        sym (neg_neg (width_in t a) (slice_index regs a) (m.values a h.first)) ∙ (λ i. apply1_of Neg (sym h.wide i) (sym e i)));
-  }
-
-  -- a value and its negative
-  pub opposite_of_negative : (a negative : ℕ) → MakesOf t Neg a negative → AreOpposite t a negative
-  opposite_of_negative a negative h = record {
-    first = h.first;
-    second = h.below;
-    same = h.wide;
-    value = λ memory regs m.
-        (let w = width_in t a in
-        let x = slice_index regs a in
-        ap (apply2_of Add w x) (h.value memory regs m) ∙ sym (sub_neg w x x (m.values a h.first)) ∙ self_sub w x);
-  }
-
-  pub opposite_turned : (a b : ℕ) → AreOpposite t a b → AreOpposite t b a
-  opposite_turned a b h = record {
-    first = h.second;
-    second = h.first;
-    same = sym h.same;
-    value = λ memory regs m.
-        (λ i. apply2_of Add (h.same i) (slice_index regs b) (slice_index regs a))
-        ∙ comm Add (width_in t a) (slice_index regs b) (slice_index regs a) tt ∙ h.value memory regs m;
-  }
-
-  pub opposite_same : (a x b : ℕ) → AreSame t a x → width_in t a ≡ width_in t x → AreOpposite t x b → AreOpposite t a b
-  opposite_same a x b same wide h = record {
-    first = same.first;
-    second = h.second;
-    same = h.same ∙ sym wide;
-    value = λ memory regs m. (λ i. apply2_of Add (wide i) (same.value memory regs m i) (slice_index regs b)) ∙ h.value memory regs m;
-  }
-
-  -- a sum of opposites, and one that ends with the opposite of a term more
-  pub opposites_make : (a b w c : ℕ) → AreOpposite t a b → width_in t a ≡ w → IsNumber t w 0 c → Makes t Add a b c
-  opposites_make a b w c h e is = record {
-    first = h.first;
-    second = h.second;
-    below = (is []).holds.below;
-    same = h.same;
-    wide = (is []).width ∙ sym e;
-    value = λ memory regs m. (is memory).holds.value regs m ∙ sym (h.value memory regs m);
-  }
-
-  pub opposite_cancelled : (a b p l : ℕ) → Makes t Add p l a → AreOpposite t l b → Makes t Add a b p
-  opposite_cancelled a b p l terms h = record {
-    first = terms.below;
-    second = h.second;
-    below = terms.first;
-    same = h.same ∙ terms.same ∙ sym terms.wide;
-    wide = sym terms.wide;
-    value = λ memory regs m.
-        (let w = width_in t p in
-        let x = slice_index regs p in
-        let whole = terms.value memory regs m in
-        let gone : apply2_of Add w (slice_index regs l) (slice_index regs b) ≡ 0 = (λ i. apply2_of Add (sym terms.same i) (slice_index regs l) (slice_index regs b)) ∙ h.value memory regs m in
-        let some : 1 ≤ w = (m.widths p terms.first).0 in
-        sym (unit_zero Add w x tt some (m.values p terms.first)) ∙ ap (apply2_of Add w x) (sym gone)
-        ∙ sym (assoc_add w x (slice_index regs l) (slice_index regs b)) ∙ (λ i. apply2_of Add (sym terms.wide i) (sym whole i) (slice_index regs b)));
-  }
 
   -- of a sum
   pub terms_negative : (a p l x y c : ℕ) → Makes t Add p l a → MakesOf t Neg p x → MakesOf t Neg l y → Makes t Add x y c → MakesOf t Neg a c

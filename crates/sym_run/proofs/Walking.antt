@@ -4,7 +4,7 @@ use Rattle.std.specs.Prelude.{IfOk, IfSome}
 use Rattle.net_model.specs.declared.hardware.Netlist.{Netlist}
 use Rattle.net_model.specs.declared.hardware.Storage.{Storage}
 use Rattle.net_model.specs.declared.hardware.Storage.TheVariants.{Register, Memory, File}
-use Rattle.net_model.specs.declared.hardware.Space.TheVariants.{Memory as InMemory}
+use Rattle.net_model.specs.declared.hardware.Space.TheVariants.{Memory as InMemory, File as InFile}
 use Rattle.net_model.specs.declared.states.State.{State}
 use Rattle.net_model.specs.Clock.{Next, clash_in, counter_in, is_enabled, next_regs, next_state, outcome_of, word_at}
 use Rattle.net_model.specs.Exprs.{ExprModel, TransferModel, keep, write_at}
@@ -84,7 +84,7 @@ address_is t facts known counter class n e number memory s f k =
 
 module _ (old new : Classes) (image : Image) (known : Known) (address : ℕ) (here : IsNextAddress old image.facts.now known image.counter address) where
   pub turned : (coded : Coded) (next : Known) → slice_get image.code.now address ≡ Some coded
-      → LeadsOn old new image.facts.now known coded.word image.pool.now coded.moves image.memory next → Turns old new image known next
+      → LeadsOn old new image.facts.now known coded.word image.pool.now coded.moves image.memory image.file next → Turns old new image known next
   turned coded next at leads netlist words memory s c f k state =
       let w = c.code address coded at in
       let counter : counter_in netlist s ≡ address = ap (slice_index s.regs) (sym c.counter) ∙ here memory s f k in
@@ -95,9 +95,10 @@ module _ (old new : Classes) (image : Image) (known : Known) (address : ℕ) (he
       ∙ other_kept (value_of netlist s (word_at netlist words s)) netlist.storages s.regs id h in
       let regs : (id : ℕ) → slice_index m.next.regs id ≡ reg_moved (transfer_at netlist coded.word id) s coded.word id = λ id.
       register_or_not (slice_get netlist.storages id) (m.regs id) (λ h. kept id h ∙ sym (no_write netlist s coded.word id (slice_get netlist.storages id) h)) in
-      let is : IsMoved image.pool.now coded.moves image.memory coded.word s m.next = record {
+      let is : IsMoved image.pool.now coded.moves image.memory image.file coded.word s m.next = record {
         regs = λ id. regs id ∙ ap (λ (t : TransferModel). reg_moved t s coded.word id) (w.moves id);
         cells = m.cells InMemory ∙ ap (λ n. cells_moved (transfer_at netlist coded.word n) s coded.word s.cells) (sym c.memory) ∙ ap (λ (t : TransferModel). cells_moved t s coded.word s.cells) (w.moves image.memory);
+        file_is = m.cells InFile ∙ ap (λ n. cells_moved (transfer_at netlist coded.word n) s coded.word s.file) (sym c.file) ∙ ap (λ (t : TransferModel). cells_moved t s coded.word s.file) (w.moves image.file);
       } in
       record { after = m.next; clocked = m.clocked; state = m.state; stands = leads memory s m.next f k is }
 

@@ -7,7 +7,7 @@ use Rattle.std.proofs.lemmas.List.{get_or-set_other, get_or-set_same, length-set
 use Rattle.std.proofs.lemmas.Option.{none-some, slice_get-get_or, slice_get_past}
 use Rattle.std.specs.Prelude.{IfOk, IfSome}
 use Rattle.net_model.specs.declared.states.State.{State}
-use Rattle.net_model.specs.Exprs.{ExprModel, TransferModel, write_at}
+use Rattle.net_model.specs.Exprs.{ExprModel, TransferModel, keep, write, write_at}
 use Rattle.net_model.specs.Meaning.{mean}
 use Rattle.net_model.specs.Transfers.{cells_moved, reg_moved}
 use Rattle.tree_laws.specs.declared.classes.Classes.{Classes}
@@ -20,13 +20,18 @@ use Rattle.sym_run.specs.declared.known.Fact.{Fact}
 use Rattle.sym_run.specs.declared.known.Known.{Known}
 use Rattle.sym_run.specs.declared.known.Cell.{Cell}
 use Rattle.sym_run.specs.declared.known.Cell.TheVariants.{Unknown, Array}
-use Rattle.sym_run.specs.Known.{ArraysStand, AreFacts, AreInside, CellStands, Evaluates, HasNumber, Holds, HoldsOf, StandsFor, cell_at, cell_of, entry}
-use Rattle.sym_run.specs.Moves.{AreNextCells, AreNextRegs, IsNextPut, IsOfArray, IsOneMore, IsWritten, LeadsOn, NextCells, cell_for, transfer_of}
+use Rattle.sym_run.specs.Known.{ArraysStand, AreFacts, AreInside, CellStands, Evaluates, FileStands, HasNumber, Holds, HoldsOf, StandsFor, cell_at, cell_of, entry}
+use Rattle.sym_run.specs.Moves.{AreNextCells, AreNextRegs, AreUnknown, IsNextFile, IsNextPut, IsOfArray, IsOneMore, IsWritten, LeadsOn, NextCells, cell_for, transfer_of}
 use Rattle.sym_run.specs.declared.known.Put.{Put}
 use Rattle.sym_run.specs.Inner.Reading.{SomeAlias}
 use Rattle.sym_run.proofs.PutLemmas.{element_put, plain_put}
 use Rattle.sym_run.proofs.Cells.{find_inside}
-use Rattle.sym_run.proofs.Keeping.{arrays_kept, cell_kept, facts_kept, holds_kept, inside_kept, known_kept, of_kept}
+use Rattle.sym_run.proofs.Keeping.{arrays_kept, cell_kept, facts_kept, file_kept, holds_kept, inside_kept, known_kept, of_kept}
+
+moved_long : (move : TransferModel) (s : State) (i : ℕ) (held : List ℕ) → length (cells_moved move s i held) ≡ length held
+moved_long keep s i held = refl
+moved_long (write e) s i held = refl
+moved_long (write_at a e) s i held = length-set held (mean a s i) (mean e s i)
 
 -- a class has one value
 pub number_is : (t : Classes) (memory : List ℕ) → CellsFit (cell_bits t) memory → (c n k : ℕ) → Holds t memory c n → Holds t memory c k → n ≡ k
@@ -151,13 +156,54 @@ written_past cells next address value e n = record {
 pub written_plain : (cells next : List Cell) (cell : Cell) (address : ℕ) (value : Option ℕ) → slice_get cells address ≡ Some cell → cell ≢ Array → next ≡ slice_set cells address (cell_for value) → IsWritten cells address value next
 written_plain cells next cell address value e h n = record { plain = λ f. h (sym (ap cell_of e) ∙ f); same = n }
 
+-- ---- the register file
+
+no_file : (t : Classes) (memory held : List ℕ) → FileStands t memory [] held
+no_file t memory held = record { there = omega arith; are = λ a. tt }
+
+set_entry : (P : Option ℕ → ℕ → Type 0) (known : List (Option ℕ)) (held : List ℕ) (address n a : ℕ) (value : Option ℕ) → length known ≤ length held → P None (slice_index (slice_set held address n) a) → P value n → P (entry known a) (slice_index held a)
+    → P (entry (slice_set known address value) a) (slice_index (slice_set held address n) a)
+set_entry P [] held address n a value room none set other = none
+set_entry P (x ∷ known) [] address n a value room none set other = absurd (omega arith)
+set_entry P (x ∷ known) (y ∷ held) zero n zero value room none set other = set
+set_entry P (x ∷ known) (y ∷ held) zero n (suc a) value room none set other = other
+set_entry P (x ∷ known) (y ∷ held) (suc address) n zero value room none set other = other
+set_entry P (x ∷ known) (y ∷ held) (suc address) n (suc a) value room none set other = set_entry P known held address n a value (omega arith) none set other
+
+module _ (facts : List Fact) (known : Known) (word : ℕ) where
+  -- nothing is known of it
+  pub file_unknown : (old new : Classes) (move : TransferModel) (entries : List (Option ℕ)) → AreUnknown (length known.file) entries → IsNextFile old new facts known word move entries
+  file_unknown old new move entries none memory s f k = record {
+    there = (let e = none.long in let l = k.file.there in let same = moved_long move s word s.file in omega (arith, e, l, same));
+    are = λ a. subst (λ o. HoldsOf new memory o (slice_index (cells_moved move s word s.file) a)) (sym (none.none a)) tt;
+  }
+
+  -- it isn't written
+  pub file_same : (t : Classes) (move : TransferModel) (next : List (Option ℕ)) → ((s : State) → cells_moved move s word s.file ≡ s.file) → next ≡ known.file → IsNextFile t t facts known word move next
+  file_same t move next e n memory s f k = subst (λ (xs : List (Option ℕ)). FileStands t memory xs (cells_moved move s word s.file)) (sym n) (subst (FileStands t memory known.file) (sym (e s)) k.file)
+
+  -- it is, at an address that is known
+  pub file_set : (first middle last : Classes) → Grows first middle → Grows middle last → (a v : ExprModel) (at address : ℕ) (value : Option ℕ)
+      → Evaluates first middle facts known word a at → HasNumber last facts at address
+      → ((memory : List ℕ) (s : State) → AreFacts middle memory facts → StandsFor middle memory known s → HoldsOf last memory value (mean v s word))
+      → IsNextFile first last facts known word (write_at a v) (slice_set known.file address value)
+  file_set first middle last g h a v at address value addr number valued memory s f k =
+      let f1 = facts_kept first middle g memory facts f in
+      let k1 = known_kept first middle g memory known s k in
+      let k2 = known_kept middle last h memory known s k1 in
+      let e : address ≡ mean a s word = number_is last memory k2.fits at address (mean a s word) (number memory (facts_kept middle last h memory facts f1)) (holds_kept middle last h memory at (mean a s word) (addr memory s f k).holds) in
+      subst (λ n. FileStands last memory (slice_set known.file address value) (slice_set s.file n (mean v s word))) e (record {
+        there = (let l = k2.file.there in omega (arith, l, length-set known.file address value, length-set s.file address (mean v s word)));
+        are = λ j. set_entry (HoldsOf last memory) known.file s.file address (mean v s word) j value k2.file.there tt (valued memory s f1 k1) (k2.file.are j);
+      })
+
 -- ---- the whole state
 
-module _ (facts : List Fact) (known : Known) (word : ℕ) (pool : List Node) (moves : List Move) (place : ℕ) where
-  pub leads_on : (first middle last : Classes) → Grows first middle → Grows middle last → (regs : List (Option ℕ)) (cells : List Cell) (inside : List Element) (puts : List Put)
-      → AreNextRegs first middle facts known word pool moves regs → AreNextCells middle last facts known word (transfer_of pool (slice_get moves place)) cells → inside ≡ known.inside → puts ≡ known.puts
-      → LeadsOn first last facts known word pool moves place (record { regs = regs; cells = cells; inside = inside; puts = puts })
-  leads_on first middle last g h regs cells inside puts are_regs are_cells e q memory s t f k m =
+module _ (facts : List Fact) (known : Known) (word : ℕ) (pool : List Node) (moves : List Move) (place file : ℕ) where
+  pub leads_on : (first middle last : Classes) → Grows first middle → Grows middle last → (regs : List (Option ℕ)) (cells : List Cell) (inside : List Element) (puts : List Put) (filed : List (Option ℕ))
+      → AreNextRegs first middle facts known word pool moves regs → AreNextCells middle last facts known word (transfer_of pool (slice_get moves place)) cells → inside ≡ known.inside → puts ≡ known.puts → filed ≡ []
+      → LeadsOn first last facts known word pool moves place file (record { regs = regs; cells = cells; inside = inside; puts = puts; file = filed })
+  leads_on first middle last g h regs cells inside puts filed are_regs are_cells e q z memory s t f k m =
       let k1 = known_kept first middle g memory known s k in
       let c = are_cells memory s (facts_kept first middle g memory facts f) k1 in
       record {
@@ -167,13 +213,14 @@ module _ (facts : List Fact) (known : Known) (word : ℕ) (pool : List Node) (mo
         cells = λ a. subst (λ (xs : List ℕ). CellStands last memory (cell_at cells a) (slice_index xs a) (slice_index memory a)) (sym m.cells) (c.cells_are a);
         inside = subst (AreInside last memory cells) (sym e) c.are_inside;
         arrays = subst (λ (ps : List Put). ArraysStand last memory cells ps t.cells) (sym q) (subst (λ (xs : List ℕ). ArraysStand last memory cells known.puts xs) (sym m.cells) c.arrays);
+        file = subst (λ (xs : List (Option ℕ)). FileStands last memory xs t.file) (sym z) (no_file last memory t.file);
       }
 
   -- where an element is written
-  pub leads_put : (first middle last : Classes) → Grows first middle → Grows middle last → (regs : List (Option ℕ)) (cells : List Cell) (inside : List Element) (puts : List Put)
-      → IsNextPut first middle facts known word (transfer_of pool (slice_get moves place)) puts → AreNextRegs middle last facts known word pool moves regs → cells ≡ known.cells → inside ≡ known.inside
-      → LeadsOn first last facts known word pool moves place (record { regs = regs; cells = cells; inside = inside; puts = puts })
-  leads_put first middle last g h regs cells inside puts is_put are_regs e q memory s t f k m =
+  pub leads_put : (first middle last : Classes) → Grows first middle → Grows middle last → (regs : List (Option ℕ)) (cells : List Cell) (inside : List Element) (puts : List Put) (filed : List (Option ℕ))
+      → IsNextPut first middle facts known word (transfer_of pool (slice_get moves place)) puts → AreNextRegs middle last facts known word pool moves regs → cells ≡ known.cells → inside ≡ known.inside → filed ≡ []
+      → LeadsOn first last facts known word pool moves place file (record { regs = regs; cells = cells; inside = inside; puts = puts; file = filed })
+  leads_put first middle last g h regs cells inside puts filed is_put are_regs e q z memory s t f k m =
       let k1 = known_kept first middle g memory known s k in
       let c = is_put memory s f k in
       let whole = (known_kept middle last h memory known s k1) in
@@ -188,9 +235,26 @@ module _ (facts : List Fact) (known : Known) (word : ℕ) (pool : List Node) (mo
         arrays = subst (λ (xs : List ℕ). ArraysStand last memory cells puts xs) (sym m.cells)
             (subst (λ (xs : List Cell). ArraysStand last memory xs puts (cells_moved (transfer_of pool (slice_get moves place)) s word s.cells)) (sym e)
             (arrays_kept middle last h memory known.cells puts (cells_moved (transfer_of pool (slice_get moves place)) s word s.cells) c.arrays));
+        file = subst (λ (xs : List (Option ℕ)). FileStands last memory xs t.file) (sym z) (no_file last memory t.file);
       }
 
-  pub leads_later : (first middle last : Classes) → Grows first middle → (next : Known) → LeadsOn middle last facts known word pool moves place next → LeadsOn first last facts known word pool moves place next
+  -- with the register file
+  pub leads_filed : (first middle last : Classes) → Grows first middle → Grows middle last → (cells : List (Option ℕ)) (next : Known)
+      → IsNextFile first middle facts known word (transfer_of pool (slice_get moves file)) cells → LeadsOn middle last facts known word pool moves place file next
+      → LeadsOn first last facts known word pool moves place file (record { regs = next.regs; cells = next.cells; inside = next.inside; puts = next.puts; file = cells })
+  leads_filed first middle last g h cells next is leads memory s t f k m =
+      let n = leads memory s t (facts_kept first middle g memory facts f) (known_kept first middle g memory known s k) m in
+      record {
+        fits = n.fits;
+        room = n.room;
+        regs = n.regs;
+        cells = n.cells;
+        inside = n.inside;
+        arrays = n.arrays;
+        file = subst (FileStands last memory cells) (sym m.file_is) (file_kept middle last h memory cells (cells_moved (transfer_of pool (slice_get moves file)) s word s.file) (is memory s f k));
+      }
+
+  pub leads_later : (first middle last : Classes) → Grows first middle → (next : Known) → LeadsOn middle last facts known word pool moves place file next → LeadsOn first last facts known word pool moves place file next
   leads_later first middle last g next h memory s t f k m = h memory s t (facts_kept first middle g memory facts f) (known_kept first middle g memory known s k) m
 
 -- ---- addresses of arrays
@@ -231,3 +295,7 @@ pub if_puts : {E : Type 0} (r : Result (Option (List Put)) E) (P Q : List Put �
 if_puts (Err e) P Q f h = tt
 if_puts (Ok None) P Q f h = tt
 if_puts (Ok (Some c)) P Q f h = f c h
+
+pub if_ok : {A : Type 0} {E : Type 0} (r : Result A E) (P Q : A → Type 0) → ((x : A) → P x → Q x) → IfOk r P → IfOk r Q
+if_ok (Err e) P Q f h = tt
+if_ok (Ok x) P Q f h = f x h

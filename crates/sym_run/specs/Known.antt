@@ -120,6 +120,16 @@ ArePutsSame table (p ∷ ps) (q ∷ qs) = AreSame table p.address q.address × A
     × ArePutsSame table ps qs
 ArePutsSame table _ _ = ⊥
 
+-- ---- the register file
+
+-- what is known of the register file's cells stands for what they hold: each cell of which a class is
+-- known is there, and holds the class's value
+pub record FileStands (table : Classes) (memory : List ℕ) (known : List (Option ℕ)) (held : List ℕ) : Type 0 where
+  pub there : length known ≤ length held
+  pub are : (a : ℕ) → HoldsOf table memory (entry known a) (slice_index held a)
+
+-- ---- all of it
+
 -- what is known stands for the state, where the mark's store is the memory
 pub record StandsFor (table : Classes) (memory : List ℕ) (known : Known) (s : State) : Type 0 where
   pub fits : CellsFit (cell_bits table) memory
@@ -128,6 +138,7 @@ pub record StandsFor (table : Classes) (memory : List ℕ) (known : Known) (s : 
   pub cells : (a : ℕ) → CellStands table memory (cell_at known.cells a) (slice_index s.cells a) (slice_index memory a)
   pub inside : AreInside table memory known.cells known.inside
   pub arrays : ArraysStand table memory known.cells known.puts s.cells
+  pub file : FileStands table memory known.file s.file
 
 -- ---- values
 

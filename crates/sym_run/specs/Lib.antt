@@ -1,5 +1,6 @@
 pub mod Known
 pub mod Values
+pub mod Symbols
 pub mod Reading
 pub mod Moves
 pub mod Walks

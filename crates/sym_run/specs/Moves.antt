@@ -1,5 +1,5 @@
--- What a word does, as a list of moves: what a register takes, or the memory at an address. The state
--- behind a word, and what is known of it.
+-- What a word does, as a list of moves: what a register takes, or the memory or the register file at an
+-- address. The state behind a word, and what is known of it.
 use Rattle.std.specs.Prelude.{ℕ, ◌≡◌, ◌≢◌, ◌<◌, ◌≤◌, List, [], ◌∷◌, ◌++◌, Option, Some, None, length, slice_get, slice_index, slice_set}
 use Rattle.net_model.specs.declared.hardware.Netlist.{Netlist}
 use Rattle.net_model.specs.declared.states.State.{State}
@@ -16,7 +16,7 @@ use Rattle.sym_run.specs.declared.moves.Move.{Move}
 use Rattle.sym_run.specs.declared.moves.Move.TheVariants.{Keep, Write, WriteAt}
 use Rattle.sym_run.specs.declared.known.Cell.{Cell}
 use Rattle.sym_run.specs.declared.known.Cell.TheVariants.{Unknown, Array, Is}
-use Rattle.sym_run.specs.Known.{AreFacts, AreInside, ArraysStand, CellStands, Holds, HoldsOf, StandsFor, cell_at, entry}
+use Rattle.sym_run.specs.Known.{AreFacts, AreInside, ArraysStand, CellStands, FileStands, Holds, HoldsOf, StandsFor, cell_at, entry}
 
 -- ---- moves
 
@@ -42,10 +42,12 @@ AreMoves netlist word pool moves = (id : ℕ) → transfer_at netlist word id �
 
 -- ---- the state behind a word
 
--- the moves lead from one state to another, where the memory is the storage of this number
-pub record IsMoved (pool : List Node) (moves : List Move) (memory word : ℕ) (s t : State) : Type 0 where
+-- the moves lead from one state to another, where the memory and the register file are the storages of
+-- these numbers
+pub record IsMoved (pool : List Node) (moves : List Move) (memory file word : ℕ) (s t : State) : Type 0 where
   pub regs : (id : ℕ) → slice_index t.regs id ≡ reg_moved (transfer_of pool (slice_get moves id)) s word id
   pub cells : t.cells ≡ cells_moved (transfer_of pool (slice_get moves memory)) s word s.cells
+  pub file_is : t.file ≡ cells_moved (transfer_of pool (slice_get moves file)) s word s.file
 
 -- what is known of a register behind a word that does this transfer
 abbrev pub IsNextReg : Classes → Classes → List Fact → Known → ℕ → TransferModel → ℕ → Option ℕ → Type 0
@@ -100,8 +102,20 @@ pub record IsWritten (cells : List Cell) (address : ℕ) (value : Option ℕ) (n
   pub plain : cell_at cells address ≢ Array
   pub same : next ≡ slice_set cells address (cell_for value)
 
--- what is known behind the word stands for the state to which the moves lead
-abbrev pub LeadsOn : Classes → Classes → List Fact → Known → ℕ → List Node → List Move → ℕ → Known → Type 0
-LeadsOn old new facts known word pool moves place next =
+-- entries of which nothing is known
+pub record AreUnknown (count : ℕ) (entries : List (Option ℕ)) : Type 0 where
+  pub long : length entries ≡ count
+  pub none : (k : ℕ) → entry entries k ≡ None
+
+-- what is known of the register file behind a word that does this transfer to it
+abbrev pub IsNextFile : Classes → Classes → List Fact → Known → ℕ → TransferModel → List (Option ℕ) → Type 0
+IsNextFile old new facts known word move file =
+    (memory : List ℕ) (s : State) → AreFacts old memory facts → StandsFor old memory known s →
+    FileStands new memory file (cells_moved move s word s.file)
+
+-- what is known behind the word stands for the state to which the moves lead, where the memory and the
+-- register file are the storages of these numbers
+abbrev pub LeadsOn : Classes → Classes → List Fact → Known → ℕ → List Node → List Move → ℕ → ℕ → Known → Type 0
+LeadsOn old new facts known word pool moves place file next =
     (memory : List ℕ) (s t : State) → AreFacts old memory facts → StandsFor old memory known s →
-    IsMoved pool moves place word s t → StandsFor new memory next t
+    IsMoved pool moves place file word s t → StandsFor new memory next t

@@ -2,7 +2,7 @@
 use Rattle.std.specs.Prelude.{ℕ, zero, suc, ◌+◌, ◌≡◌, ◌==◌, Bool, true, false, List, Some, slice_get, slice_index}
 use Rattle.std.specs.List.{list_any}
 use Rattle.net_model.specs.declared.hardware.Netlist.{Netlist}
-use Rattle.net_model.specs.declared.hardware.Space.TheVariants.{Memory as InMemory}
+use Rattle.net_model.specs.declared.hardware.Space.TheVariants.{Memory as InMemory, File as InFile}
 use Rattle.net_model.specs.declared.states.State.{State}
 use Rattle.net_model.specs.Clock.{clock, Next, counter_in}
 use Rattle.net_model.specs.Control.{IsSound}
@@ -33,11 +33,13 @@ pub record IsCodedAt (netlist : Netlist) (pool : List Node) (word : ℕ) (coded 
   pub clean : IsClean netlist coded.word
   pub moves : AreMoves netlist coded.word pool coded.moves
 
--- the code is of these words of the netlist, whose program counter and memory have these numbers
+-- the code is of these words of the netlist, whose program counter, memory and register file have these
+-- numbers
 pub record IsCoded (netlist : Netlist) (words : List ℕ) (image : Image) : Type 0 where
   pub sound : IsSound netlist
   pub counter : image.counter ≡ counter_of netlist.codes
   pub memory : image.memory ≡ place_in InMemory netlist.storages
+  pub file : image.file ≡ place_in InFile netlist.storages
   pub code : (a : ℕ) (coded : Coded) → slice_get image.code.now a ≡ Some coded → IsCodedAt netlist image.pool.now (slice_index words a) coded
 
 -- ---- clocks

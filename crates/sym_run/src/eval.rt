@@ -2,9 +2,9 @@
 
 ghost use Rattle.std.specs.Prelude.{◌≡◌, ◌<◌, true, length, IfOk, IfSome};
 ghost use Rattle.sym_expr.specs.Pools.{expr_of_id};
-ghost use Rattle.sym_run.specs.Known.{Evaluates};
+ghost use Rattle.sym_run.specs.Known.{Evaluates, entry};
 ghost use Rattle.sym_run.specs.Reading.{IsCell};
-ghost use Rattle.sym_run.specs.Inner.Reading.{SomeAlias, IsAlias, IsOfWidth, IsReg};
+ghost use Rattle.sym_run.specs.Inner.Reading.{SomeAlias, IsAlias, IsFileCell, IsOfWidth, IsReg};
 ghost use Rattle.tree_laws.specs.Classes.{Grows};
 
 use crate::behind::element;
@@ -43,6 +43,25 @@ fn register(table: &Classes, known: &Known, register: u32, width: u8) -> Option<
         Some(Some(class)) => of_width(table, *class, width),
         _ => None,
     }
+}
+
+// What is known of a cell of the register file.
+fn in_file(known: &Known, address: u64) -> Option<u64>
+    ensures { result ≡ entry known.now.file address }
+{
+    match known.file.get(address as usize) {
+        Some(class) => *class,
+        None => None,
+    }
+}
+
+// The class of a cell of the register file of this width, whose address has the class.
+fn file_cell(table: &Classes, facts: &[Fact], known: &Known, addr: u64, width: u8) -> Option<u64>
+    ensures { IfSome result (IsFileCell table.now facts.now known.now addr width) }
+{
+    let address = number_of(table, facts, addr)?;
+    let class = in_file(known, address)?;
+    of_width(table, class, width)
 }
 
 // The class by which an array's cell is read, where the class is of its address.
@@ -163,7 +182,13 @@ impl Step<'_> {
                     self.eval(table, b)
                 }
             }
-            Node::Cell(..) | Node::Cat(..) => Ok(None),
+            Node::Cell(addr, width) => {
+                let Some(addr) = self.eval(table, addr)? else {
+                    return Ok(None);
+                };
+                Ok(file_cell(table, self.facts, self.known, addr, width))
+            }
+            Node::Cat(..) => Ok(None),
         }
     }
 }

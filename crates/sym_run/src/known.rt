@@ -51,4 +51,7 @@ pub struct Known {
     pub inside: Items<Element>,
     /// What was written to arrays since the mark, in order.
     pub puts: Items<Put>,
+    /// For each cell of the register file the class whose value it holds, if one is known; past the
+    /// last, none is.
+    pub file: Items<Option<u64>>,
 }

@@ -1,11 +1,11 @@
 //! What is known of the state behind a word.
 
-ghost use Rattle.std.specs.Prelude.{◌≡◌, ◌≢◌, ◌<◌, false, true, IfOk, IfSome, length, slice_get};
+ghost use Rattle.std.specs.Prelude.{ℕ, ◌≡◌, ◌≢◌, ◌<◌, false, true, IfOk, IfSome, length, slice_get, slice_set};
 ghost use Rattle.net_model.specs.Exprs.{write_at};
 ghost use Rattle.sym_expr.specs.Pools.{expr_of_id};
 ghost use Rattle.sym_run.specs.declared.known.Cell;
 ghost use Rattle.sym_run.specs.Known.{cell_at, entry};
-ghost use Rattle.sym_run.specs.Moves.{AreNextCells, AreNextRegs, AreWithin, IsNextPut, IsNextReg, IsOfArray, IsOneMore, IsWritten, LeadsOn, cell_for, transfer_of};
+ghost use Rattle.sym_run.specs.Moves.{AreNextCells, AreNextRegs, AreWithin, AreUnknown, IsNextFile, IsNextPut, IsNextReg, IsOfArray, IsOneMore, IsWritten, LeadsOn, cell_for, transfer_of};
 ghost use Rattle.sym_run.specs.Inner.Reading.{SomeAlias};
 ghost use Rattle.tree_laws.specs.Classes.{Grows};
 
@@ -186,9 +186,78 @@ impl Step<'_> {
         }
     }
 
-    /// What is known of the state behind the word, where the memory has this number, or None where it
-    /// is written at an address that isn't known.
+    // What is known of the register file's cells behind a write: where its address isn't known, nothing.
+    fn filed(
+        &self,
+        alloc: Global,
+        table: &mut Classes,
+        addr: ExprId,
+        value: ExprId,
+    ) -> Result<Items<Option<u64>>, NoMemory>
+        requires addr { addr < length self.now.pool.now }
+        requires value { value < length self.now.pool.now }
+        ensures grows { Grows table.old table.new }
+        ensures is { IfOk result (IsNextFile table.old table.new self.now.facts.now self.now.known.now
+            self.now.word (write_at (expr_of_id self.now.pool.now addr) (expr_of_id self.now.pool.now value))) }
+    {
+        let at = self.eval(table, addr)?;
+        let value = self.eval(table, value)?;
+        let Some(at) = at else {
+            return unknown(alloc, self.known.file.len() as u64);
+        };
+        let Some(address) = number_of(table, self.facts, at) else {
+            return unknown(alloc, self.known.file.len() as u64);
+        };
+        file_written(alloc, self.known, address, value)
+    }
+
+    // What is known of the register file's cells behind the word, where the file has this number.
+    fn next_file(
+        &self,
+        alloc: Global,
+        table: &mut Classes,
+        moves: &[Move],
+        file: u64,
+    ) -> Result<Items<Option<u64>>, NoMemory>
+        requires { AreWithin (length self.now.pool.now) moves.now }
+        ensures grows { Grows table.old table.new }
+        ensures is { IfOk result (IsNextFile table.old table.new self.now.facts.now self.now.known.now self.now.word
+            (transfer_of self.now.pool.now (slice_get moves.now file))) }
+    {
+        match move_of(moves, file) {
+            Some(Move::WriteAt { addr, value }) => { self.filed(alloc, table, addr, value) }
+            Some(Move::Write(_value)) => same_file(alloc, self.known),
+            Some(Move::Keep) => same_file(alloc, self.known),
+            None => same_file(alloc, self.known),
+        }
+    }
+
+    /// What is known of the state behind the word, where the memory and the register file have these
+    /// numbers, or None where the memory is written at an address that isn't known. Where the
+    /// register file is, nothing is known of its cells any more.
     pub fn next(
+        &self,
+        alloc: Global,
+        table: &mut Classes,
+        moves: &[Move],
+        memory: u64,
+        file: u64,
+    ) -> Result<Option<Known>, NoMemory>
+        requires { AreWithin (length self.now.pool.now) moves.now }
+        ensures grows { Grows table.old table.new }
+        ensures is { IfOk result (λ found. IfSome found (LeadsOn table.old table.new self.now.facts.now self.now.known.now
+            self.now.word self.now.pool.now moves.now memory file)) }
+    {
+        let cells = self.next_file(alloc, table, moves, file)?;
+        let Some(mut known) = self.next_fileless(alloc, table, moves, memory)? else {
+            return Ok(None);
+        };
+        known.file = cells;
+        Ok(Some(known))
+    }
+
+    // The same with nothing known of the register file, which may be any storage.
+    fn next_fileless(
         &self,
         alloc: Global,
         table: &mut Classes,
@@ -197,8 +266,8 @@ impl Step<'_> {
     ) -> Result<Option<Known>, NoMemory>
         requires { AreWithin (length self.now.pool.now) moves.now }
         ensures grows { Grows table.old table.new }
-        ensures is { IfOk result (λ found. IfSome found (LeadsOn table.old table.new self.now.facts.now self.now.known.now
-            self.now.word self.now.pool.now moves.now memory)) }
+        ensures is { IfOk result (λ found. IfSome found (λ next. (file : ℕ) → LeadsOn table.old table.new self.now.facts.now
+            self.now.known.now self.now.word self.now.pool.now moves.now memory file next)) }
     {
         let Some(puts) = self.next_put(alloc, table, moves, memory)? else {
             return self.next_plain(alloc, table, moves, memory);
@@ -211,6 +280,7 @@ impl Step<'_> {
             cells,
             inside,
             puts,
+            file: Items::new(alloc),
         }))
     }
 
@@ -224,8 +294,8 @@ impl Step<'_> {
     ) -> Result<Option<Known>, NoMemory>
         requires { AreWithin (length self.now.pool.now) moves.now }
         ensures grows { Grows table.old table.new }
-        ensures is { IfOk result (λ found. IfSome found (LeadsOn table.old table.new self.now.facts.now self.now.known.now
-            self.now.word self.now.pool.now moves.now memory)) }
+        ensures is { IfOk result (λ found. IfSome found (λ next. (file : ℕ) → LeadsOn table.old table.new self.now.facts.now
+            self.now.known.now self.now.word self.now.pool.now moves.now memory file next)) }
     {
         let regs = self.next_regs(alloc, table, moves)?;
         let Some(cells) = self.next_cells(alloc, table, moves, memory)? else {
@@ -238,6 +308,7 @@ impl Step<'_> {
             cells,
             inside,
             puts,
+            file: Items::new(alloc),
         }))
     }
 }
@@ -296,6 +367,40 @@ fn copied(alloc: Global, known: &Known) -> Result<Option<Items<Cell>>, NoMemory>
     ensures { IfOk result (λ found. IfSome found (λ next. next ≡ known.now.cells)) }
 {
     Ok(Some(Items::from_slice(alloc, known.cells.as_slice())?))
+}
+
+/// Nothing known of so many registers, or cells of a register file.
+pub fn unknown(alloc: Global, count: u64) -> Result<Items<Option<u64>>, NoMemory>
+    ensures { IfOk result (AreUnknown count) }
+{
+    let mut entries = Items::new(alloc);
+    for _k in 0..count {
+        entries.push(None)?;
+    }
+    Ok(entries)
+}
+
+// What is known of the register file's cells.
+fn same_file(alloc: Global, known: &Known) -> Result<Items<Option<u64>>, NoMemory>
+    ensures { IfOk result (λ next. next ≡ known.now.file) }
+{
+    Items::from_slice(alloc, known.file.as_slice())
+}
+
+// The same with a value at an address, if what is known reaches there.
+fn file_written(
+    alloc: Global,
+    known: &Known,
+    address: u64,
+    value: Option<u64>,
+) -> Result<Items<Option<u64>>, NoMemory>
+    ensures { IfOk result (λ next. next ≡ slice_set known.now.file address value) }
+{
+    let mut next = same_file(alloc, known)?;
+    if address < next.len() as u64 {
+        next.set(address as usize, value);
+    }
+    Ok(next)
 }
 
 // Whether it is an array's cell.

@@ -1,17 +1,18 @@
 //! Operators over classes in one form: operands that commute in one order, sums term by term with a
-//! number last, and equations with a number.
+//! number last, where no two terms are multiples of one class, and equations with a number.
 
 ghost use Rattle.std.specs.Prelude.{◌≡◌, ◌<◌, ◌^◌, [], true, IfOk, IfSome};
 ghost use Rattle.rec_bits.specs.Operators.{IsWidth};
-ghost use Rattle.sym_run.specs.Inner.Sums.{AreOpposite, Commutes, Makes, MakesBy, MakesOf};
+ghost use Rattle.sym_run.specs.Inner.Sums.{Commutes, Makes, MakesBy, MakesOf};
 ghost use Rattle.sym_run.specs.Inner.Values.{IsSized};
-ghost use Rattle.tree_laws.specs.Classes.{Grows, class_count, width_in};
+ghost use Rattle.tree_laws.specs.Classes.{Grows};
 ghost use Rattle.rec_bits.specs.declared.operator.Op1;
 ghost use Rattle.rec_bits.specs.declared.operator.Op2;
 
+use crate::multiples::{merged, multiplied};
 use crate::numbers::{are_same, first_node, number};
 use crate::values::{WideNumber, sized};
-use rec_bits::{NoMemory, Op1, Op2, apply1, apply2};
+use rec_bits::{NoMemory, Op1, Op2, apply1, apply2, mask};
 use sym_expr::Node;
 use tree_laws::Classes;
 
@@ -25,7 +26,7 @@ pub(crate) fn literal(table: &Classes, class: u64) -> Option<WideNumber>
 }
 
 // The class of an operator over two classes as they are.
-fn listed(table: &mut Classes, op: Op2, a: u64, b: u64) -> Result<Option<u64>, NoMemory>
+pub(crate) fn listed(table: &mut Classes, op: Op2, a: u64, b: u64) -> Result<Option<u64>, NoMemory>
     ensures grows { Grows table.old table.new }
     ensures is { IfOk result (λ found. IfSome found (Makes table.new op a b)) }
 {
@@ -87,9 +88,9 @@ pub(crate) fn ordered(table: &mut Classes, op: Op2, a: u64, b: u64) -> Result<Op
 
 // A listed sum: the terms before the last one, and the last one.
 #[derive(Clone, Copy)]
-struct Terms {
-    first: u64,
-    last: u64,
+pub(crate) struct Terms {
+    pub first: u64,
+    pub last: u64,
 }
 
 // The operands of a listed sum, which are to be confirmed.
@@ -101,7 +102,7 @@ fn candidate(table: &Classes, class: u64) -> Option<Terms> {
 }
 
 // A class as a listed sum of earlier ones.
-fn terms_of(table: &Classes, class: u64) -> Option<Terms>
+pub(crate) fn terms_of(table: &Classes, class: u64) -> Option<Terms>
     ensures makes { IfSome result (λ t. Makes table.now Op2.Add t.first t.last class) }
     ensures first { IfSome result (λ t. t.first < class) }
     ensures last { IfSome result (λ t. t.last < class) }
@@ -220,18 +221,6 @@ fn placed(table: &mut Classes, a: u64, b: u64) -> Result<Option<u64>, NoMemory>
     listed(table, Op2::Add, first, terms.last)
 }
 
-// The class of 0, which is the sum of opposite classes.
-fn nothing(table: &mut Classes, a: u64, b: u64) -> Result<Option<u64>, NoMemory>
-    requires { AreOpposite table.old a b }
-    ensures grows { Grows table.old table.new }
-    ensures is { IfOk result (λ found. IfSome found (Makes table.new Op2.Add a b)) }
-{
-    let Some(width) = table.width(a) else {
-        return Ok(None);
-    };
-    number(table, width, 0)
-}
-
 // The class of a sum's terms, which may have come to a number, and a last one.
 fn ended(table: &mut Classes, a: u64, b: u64) -> Result<Option<u64>, NoMemory>
     ensures grows { Grows table.old table.new }
@@ -239,25 +228,37 @@ fn ended(table: &mut Classes, a: u64, b: u64) -> Result<Option<u64>, NoMemory>
 {
     match literal(table, a) {
         Some(by) => swapped(table, a, b, by),
-        None => listed(table, Op2::Add, a, b),
+        None => placed(table, a, b),
     }
 }
 
-// The class of a sum and a term more whose opposite is a term of the sum: that of the others.
-fn cancelled(table: &mut Classes, a: u64, b: u64) -> Result<Option<u64>, NoMemory>
+// The class of terms and one more, which may have come to a number.
+fn followed(table: &mut Classes, a: u64, b: u64) -> Result<Option<u64>, NoMemory>
     ensures grows { Grows table.old table.new }
     ensures is { IfOk result (λ found. IfSome found (Makes table.new Op2.Add a b)) }
 {
-    if are_opposite(table, a, b) {
-        return nothing(table, a, b);
+    match literal(table, b) {
+        Some(by) => with_literal(table, a, b, by),
+        None => placed(table, a, b),
+    }
+}
+
+// The class of a sum and a term more, where a term of the sum is a multiple of the same class: the
+// two are one term.
+fn joined(table: &mut Classes, a: u64, b: u64) -> Result<Option<u64>, NoMemory>
+    ensures grows { Grows table.old table.new }
+    ensures is { IfOk result (λ found. IfSome found (Makes table.new Op2.Add a b)) }
+{
+    if let Some(both) = merged(table, a, b)? {
+        return Ok(Some(both));
     }
     let Some(terms) = terms_of(table, a) else {
         return Ok(None);
     };
-    if are_opposite(table, terms.last, b) {
-        return Ok(Some(terms.first));
+    if let Some(both) = merged(table, terms.last, b)? {
+        return followed(table, terms.first, both);
     }
-    let Some(first) = cancelled(table, terms.first, b)? else {
+    let Some(first) = joined(table, terms.first, b)? else {
         return Ok(None);
     };
     ended(table, first, terms.last)
@@ -274,7 +275,7 @@ fn term(table: &mut Classes, a: u64, b: u64) -> Result<Option<u64>, NoMemory>
     if let Some(by) = literal(table, a) {
         return swapped(table, a, b, by);
     }
-    match cancelled(table, a, b)? {
+    match joined(table, a, b)? {
         Some(rest) => Ok(Some(rest)),
         None => placed(table, a, b),
     }
@@ -314,7 +315,7 @@ fn operand(table: &Classes, class: u64) -> Option<u64> {
 }
 
 // A class of which a class is the listed negative.
-fn opposite_of(table: &Classes, class: u64) -> Option<u64>
+pub(crate) fn opposite_of(table: &Classes, class: u64) -> Option<u64>
     ensures { IfSome result (λ a. MakesOf table.now Op1.Neg a class) }
 {
     let a = operand(table, class)?;
@@ -328,49 +329,22 @@ fn opposite_of(table: &Classes, class: u64) -> Option<u64>
     }
 }
 
-// Whether two classes have one width.
-fn have_one_width(table: &Classes, a: u64, b: u64) -> bool
-    ensures there { result ≡ true → a < class_count table.now }
-    ensures same { result ≡ true → width_in table.now a ≡ width_in table.now b }
-{
-    let Some(left) = table.width(a) else {
-        return false;
-    };
-    let Some(right) = table.width(b) else {
-        return false;
-    };
-    left == right
-}
-
-// Whether a class is that of which another one is the listed negative.
-fn is_opposite(table: &Classes, a: u64, negative: u64) -> bool
-    ensures { result ≡ true → AreOpposite table.now a negative }
-{
-    match opposite_of(table, negative) {
-        Some(opposite) => are_same(table, a, opposite) && have_one_width(table, a, opposite),
-        None => false,
-    }
-}
-
-// Whether one class is the listed negative of the other.
-fn are_opposite(table: &Classes, a: u64, b: u64) -> bool
-    ensures { result ≡ true → AreOpposite table.now a b }
-{
-    if is_opposite(table, a, b) {
-        return true;
-    }
-    is_opposite(table, b, a)
-}
-
 // The negative of a class that is no sum.
 fn negated(table: &mut Classes, a: u64) -> Result<Option<u64>, NoMemory>
     ensures grows { Grows table.old table.new }
     ensures is { IfOk result (λ found. IfSome found (MakesOf table.new Op1.Neg a)) }
 {
-    match opposite_of(table, a) {
-        Some(opposite) => Ok(Some(opposite)),
-        None => listed_unary(table, Op1::Neg, a),
+    let Some(width) = table.width(a) else {
+        return Ok(None);
+    };
+    if width < 1 || width > 64 {
+        return Ok(None);
     }
+    let less = WideNumber {
+        width,
+        number: mask(width),
+    };
+    multiplied(table, a, less)
 }
 
 // The negative of a literal.
@@ -411,35 +385,6 @@ pub(crate) fn difference(table: &mut Classes, a: u64, b: u64) -> Result<Option<u
         return Ok(None);
     };
     sum(table, a, negative)
-}
-
-// ---- shifts
-
-/// The class of a shift to the left: by one bit, the sum of the value and itself.
-pub(crate) fn shifted(table: &mut Classes, a: u64, b: u64) -> Result<Option<u64>, NoMemory>
-    ensures grows { Grows table.old table.new }
-    ensures is { IfOk result (λ found. IfSome found (Makes table.new Op2.Shl a b)) }
-{
-    match literal(table, b) {
-        Some(by) => shifted_by(table, a, b, by),
-        None => listed(table, Op2::Shl, a, b),
-    }
-}
-
-// The class of a shift to the left by a literal.
-fn shifted_by(table: &mut Classes, a: u64, b: u64, by: WideNumber) -> Result<Option<u64>, NoMemory>
-    requires { IsSized table.old [] b by.width by.number }
-    ensures grows { Grows table.old table.new }
-    ensures is { IfOk result (λ found. IfSome found (Makes table.new Op2.Shl a b)) }
-{
-    if by.number != 1 || by.width < 2 {
-        return listed(table, Op2::Shl, a, b);
-    }
-    if have_one_width(table, a, b) {
-        sum(table, a, a)
-    } else {
-        Ok(None)
-    }
 }
 
 // ---- equations
@@ -525,8 +470,22 @@ fn literal_equals(
     equals_literal(table, b, a, of)
 }
 
+// The class of an equation of values whose difference is a number.
+fn decided(table: &mut Classes, a: u64, b: u64) -> Result<Option<u64>, NoMemory>
+    ensures grows { Grows table.old table.new }
+    ensures is { IfOk result (λ found. IfSome found (Makes table.new Op2.Eq a b)) }
+{
+    let Some(rest) = difference(table, a, b)? else {
+        return Ok(None);
+    };
+    let Some(of) = literal(table, rest) else {
+        return Ok(None);
+    };
+    number(table, 1, apply2(Op2::Eq, of.width, of.number, 0))
+}
+
 /// The class of an equation. Where an operand is a number, numbers that are added to the other one
-/// and its sign go to the number's side.
+/// and its sign go to the number's side; where the difference is a number, it is known.
 pub(crate) fn equation(table: &mut Classes, a: u64, b: u64) -> Result<Option<u64>, NoMemory>
     ensures grows { Grows table.old table.new }
     ensures is { IfOk result (λ found. IfSome found (Makes table.new Op2.Eq a b)) }
@@ -536,6 +495,9 @@ pub(crate) fn equation(table: &mut Classes, a: u64, b: u64) -> Result<Option<u64
     }
     if let Some(of) = literal(table, a) {
         return literal_equals(table, a, b, of);
+    }
+    if let Some(known) = decided(table, a, b)? {
+        return Ok(Some(known));
     }
     ordered(table, Op2::Eq, a, b)
 }

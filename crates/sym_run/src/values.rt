@@ -9,7 +9,8 @@ ghost use Rattle.tree_laws.specs.Classes.{Grows, width_in};
 use crate::known::Fact;
 use crate::low::low_bits;
 use crate::numbers::{are_same, first_node, number, number_of};
-use crate::sums::{difference, equation, listed_unary, negative, ordered, shifted, sum};
+use crate::products::{product, shifted};
+use crate::sums::{difference, equation, listed_unary, negative, ordered, sum};
 use rec_bits::{NoMemory, Op1, Op2, apply1, apply2, mask, result_width, sext, slice};
 use sym_expr::Node;
 use tree_laws::Classes;
@@ -168,6 +169,7 @@ pub(crate) fn binary_in_form(
         Op2::Add => sum(table, a, b),
         Op2::Sub => difference(table, a, b),
         Op2::Eq => equation(table, a, b),
+        Op2::Mul => product(table, a, b),
         Op2::Shl => shifted(table, a, b),
         _ => ordered(table, op, a, b),
     }

@@ -40,7 +40,7 @@ pub enum Walked {
 }
 
 /// The words of an image with their marked addresses, and the facts that hold in a segment. The
-/// program counter and the memory are the storages of these numbers.
+/// program counter, the memory and the register file are the storages of these numbers.
 #[derive(Clone, Copy)]
 pub struct Image<'a> {
     pub pool: &'a Pool,
@@ -49,6 +49,7 @@ pub struct Image<'a> {
     pub marks: &'a [u64],
     pub counter: u64,
     pub memory: u64,
+    pub file: u64,
 }
 
 impl Image<'_> {
@@ -96,7 +97,7 @@ impl Image<'_> {
             known,
             word: coded.word,
         };
-        step.next(alloc, table, coded.moves.as_slice(), self.memory)
+        step.next(alloc, table, coded.moves.as_slice(), self.memory, self.file)
     }
 
     /// Follows words to a marked address, which may be the first one: at most so many, behind the word

@@ -1,8 +1,8 @@
--- Which remarks fit a netlist's storages and an image, where a cell has so many bits. The names of variables are those of the image's
--- places, and a mark of the image is spoken of. What is hidden is hidden at a label that some mark has,
--- and none at address 0. A view's term is one over registers and cells, of any width; a holding's is one
--- over variables, as wide as the register, the temporary cell or the cell of the file; and a known
--- number has room in a cell, and is that of a variable of one cell.
+-- Which remarks fit a netlist's storages and an image, where a cell has so many bits. The names of
+-- variables are those of the image's places, and a mark of the image is spoken of. What is hidden is
+-- hidden at a label that some mark has, and none at address 0. A view's term is one over registers and
+-- cells, of any width; a holding's is one over variables, as wide as the register, the temporary cell or
+-- the cell of the file; and a known number has room in a cell, and is that of a variable of one cell.
 use Rattle.std.specs.Prelude.{ℕ, ◌^◌, ◌==◌, ◌&&◌, ◌||◌, not, nat_lt, if◌then◌else◌, Bool, true, false, List, [], ◌∷◌, Option, None, Some, position}
 use Rattle.std.specs.List.{list_any}
 use Rattle.std.specs.Str.{bytes_eq}
@@ -18,7 +18,10 @@ use Rattle.view_lines.specs.declared.remark.Holder.TheVariants.{Register as OfRe
 use Rattle.view_lines.specs.Remarks.{RemarkModel, hide, view, hold, know}
 use Rattle.view_terms.specs.Terms.{TermModel}
 use Rattle.view_scope.specs.declared.fitting.Spot.{Spot}
+use Rattle.view_scope.specs.declared.turn.HolderSpace.{HolderSpace}
+use Rattle.view_scope.specs.declared.turn.HolderSpace.TheVariants.{Registers, File as InFile, Memory as InMemory}
 use Rattle.view_scope.specs.declared.turn.Turn.{Turn}
+use Rattle.view_scope.specs.declared.turn.Turn.TheVariants.{HideAtTest, HideAtEnd, View, Hold, Know}
 use Rattle.view_scope.specs.Turns.{may_follow}
 use Rattle.view_scope.specs.Widths.{part_width, register_width, tree_width}
 
@@ -59,10 +62,10 @@ is_register_named name (File cells) = false
 unfoldable pub register_spot : List Storage → List ℕ → Option Spot
 register_spot storages name =
     position (is_register_named name) storages >>= λ index. register_width storages name >>= λ width.
-    Some (record { space = 0; index = index; width = width })
+    Some (record { space = Registers; index = index; width = width })
 
 -- one of the first cells, of which so many may hold values
-abbrev pub cell : Cells → ℕ → ℕ → ℕ → Option Spot
+abbrev pub cell : Cells → HolderSpace → ℕ → ℕ → Option Spot
 cell cells space at count =
     if nat_lt at count && nat_lt at cells.size then Some (record { space = space; index = at; width = cells.width })
     else None
@@ -72,9 +75,9 @@ abbrev pub cell_spot : List Storage → ℕ → List ℕ → ℕ → Option Spot
 cell_spot [] temps name at = None
 cell_spot (Register own width input when ∷ storages) temps name at = cell_spot storages temps name at
 cell_spot (Memory cells ∷ storages) temps name at =
-    if bytes_eq cells.name name then cell cells 2 at temps else cell_spot storages temps name at
+    if bytes_eq cells.name name then cell cells InMemory at temps else cell_spot storages temps name at
 cell_spot (File cells ∷ storages) temps name at =
-    if bytes_eq cells.name name then cell cells 1 at cells.size else cell_spot storages temps name at
+    if bytes_eq cells.name name then cell cells InFile at cells.size else cell_spot storages temps name at
 
 abbrev pub holder_spot : List Storage → Image → Holder → Option Spot
 holder_spot storages image (OfRegister name) = register_spot storages name
@@ -83,8 +86,8 @@ holder_spot storages image (OfCell cells at) = cell_spot storages image.temps ce
 -- ---- where a remark stands, if it fits
 
 abbrev pub hidden_turn : Option ℕ → ℕ → Turn
-hidden_turn (Some number) index = record { kind = 0; at = number; space = 0; index = index }
-hidden_turn None index = record { kind = 1; at = 0; space = 0; index = index }
+hidden_turn (Some test) index = HideAtTest test index
+hidden_turn None index = HideAtEnd index
 
 unfoldable pub hide_turn : Image → Option ℕ → List ℕ → Option Turn
 hide_turn image label name =
@@ -94,19 +97,19 @@ hide_turn image label name =
 unfoldable pub view_turn : List Storage → Image → ℕ → List ℕ → TermModel → Option Turn
 view_turn storages image at name value =
     place_index image.places name >>= λ index. part_width storages value >>= λ width.
-    Some (record { kind = 2; at = at; space = 0; index = index })
+    Some (View at index)
 
 unfoldable pub hold_turn : List Storage → Image → ℕ → ℕ → Holder → TermModel → Option Turn
 hold_turn storages image word at holder value =
     if is_marked image.marks at then
     (holder_spot storages image holder >>= λ spot. tree_width image.places word value >>= λ width.
-    if width == spot.width then Some (record { kind = 3; at = at; space = spot.space; index = spot.index }) else None)
+    if width == spot.width then Some (Hold at spot.space spot.index) else None)
     else None
 
 unfoldable pub know_turn : Image → ℕ → ℕ → List ℕ → ℕ → Option Turn
 know_turn image word at name value =
     if is_marked image.marks at && nat_lt value (2 ^ word) then
-    (plain_index image.places name >>= λ index. Some (record { kind = 4; at = at; space = 0; index = index }))
+    (plain_index image.places name >>= λ index. Some (Know at index))
     else None
 
 abbrev pub turn_of : List Storage → Image → ℕ → RemarkModel → Option Turn

@@ -1,9 +1,12 @@
--- Worked widths.
-use Rattle.std.specs.Prelude.{◌≡◌, ℕ, List, [], ◌∷◌, codes, None, Some, refl}
+-- Worked widths, and which remarks may stand behind others.
+use Rattle.std.specs.Prelude.{◌≡◌, ℕ, true, false, List, [], ◌∷◌, codes, None, Some, refl}
 use Rattle.net_model.specs.declared.hardware.Storage.{Storage}
 use Rattle.net_model.specs.declared.hardware.Storage.TheVariants.{Register}
 use Rattle.code_model.specs.declared.image.Place.{Place}
 use Rattle.view_terms.specs.Terms.{TermModel, name, number, constant, two, three}
+use Rattle.view_scope.specs.declared.turn.HolderSpace.TheVariants.{Registers, File}
+use Rattle.view_scope.specs.declared.turn.Turn.TheVariants.{HideAtTest, HideAtEnd, View, Hold, Know}
+use Rattle.view_scope.specs.Turns.{is_before, may_follow}
 use Rattle.view_scope.specs.Widths.{both_width, constant_width, element_read, element_width, extended_width, pair_width, part_width, sliced_width, three_width, tree_width, two_width}
 
 -- two registers, of 8 and of 16 bits
@@ -44,3 +47,31 @@ element = refl
 -- a register is no variable
 register : tree_width places 16 (name (codes "A")) ≡ None
 register = refl
+
+-- what is hidden at the end stands behind what is hidden at tests
+end_behind : may_follow (Some (HideAtTest 7 2)) (HideAtEnd 0) ≡ true
+unfolding may_follow is_before
+end_behind = refl
+
+-- a holding stands behind views, at whatever marks, and none of these behind it
+holding_behind : may_follow (Some (View 9 2)) (Hold 3 Registers 0) ≡ true
+unfolding may_follow is_before
+holding_behind = refl
+
+view_before : may_follow (Some (Hold 3 Registers 0)) (View 9 2) ≡ false
+unfolding may_follow is_before
+view_before = refl
+
+-- at one mark, cells of the file stand behind registers
+file_behind : may_follow (Some (Hold 3 Registers 7)) (Hold 3 File 0) ≡ true
+unfolding may_follow is_before
+file_behind = refl
+
+-- a view may have the turn of the one before, and a number may not
+again : may_follow (Some (View 3 1)) (View 3 1) ≡ true
+unfolding may_follow is_before
+again = refl
+
+not_again : may_follow (Some (Know 3 1)) (Know 3 1) ≡ false
+unfolding may_follow is_before
+not_again = refl

@@ -6,7 +6,7 @@ ghost use Rattle.view_terms.specs.Terms.{model_of_term};
 ghost use Rattle.view_scope.specs.Fits.{accepts, cell, cell_spot, has_label, hide_turn, hold_turn, holder_spot, is_hideable, is_marked, is_register_named, know_turn, place_index, plain_index, register_spot, same_label, starts_labelled, turn_of, view_turn};
 
 use crate::Turn;
-use crate::turn::{HIDE, HIDE_AT_END, HOLD, KNOW, VIEW, may_follow};
+use crate::turn::{HolderSpace, may_follow};
 use crate::widths::{part_width, register_width, tree_width};
 use code_model::{Image, Mark, Place};
 use net_model::{Cells, Storage};
@@ -14,21 +14,13 @@ use rec_bits::mask;
 use view_lines::{Holder, Remark};
 use view_terms::Term;
 
-/// What holds a value: the registers, the cells of the file and those of the memory, in this order,
-/// with the number of the one that does, and its width.
-#[derive(Clone, Copy, PartialEq, Eq)]
+/// What holds a value: the register or the cell of this number, and its width.
+#[derive(Clone, Copy)]
 pub struct Spot {
-    pub space: u8,
+    pub space: HolderSpace,
     pub index: usize,
     pub width: u8,
 }
-
-/// The spaces of what holds a value, in their order.
-const REGISTERS: u8 = 0;
-
-const FILE: u8 = 1;
-
-const MEMORY: u8 = 2;
 
 // Whether a mark has the label.
 fn same_label(mark: &Mark, label: Option<u32>) -> bool
@@ -121,14 +113,14 @@ pub fn register_spot(storages: &[Storage], name: &[u8]) -> Option<Spot>
     let index = register_index(storages, name)?;
     let width = register_width(storages, name)?;
     Some(Spot {
-        space: REGISTERS,
+        space: HolderSpace::Registers,
         index,
         width,
     })
 }
 
 // A cell of cells, where there are so many.
-fn cell(cells: &Cells, space: u8, at: u32, count: u32) -> Option<Spot>
+fn cell(cells: &Cells, space: HolderSpace, at: u32, count: u32) -> Option<Spot>
     ensures { result ≡ cell cells.now space at count }
 {
     if at < count && at < cells.size {
@@ -151,14 +143,14 @@ fn cell_spot(storages: &[Storage], temps: u32, name: &[u8], at: u32) -> Option<S
         Storage::Register { .. } => cell_spot(rest, temps, name, at),
         Storage::Memory(cells) => {
             if cells.name.as_slice() == name {
-                cell(cells, MEMORY, at, temps)
+                cell(cells, HolderSpace::Memory, at, temps)
             } else {
                 cell_spot(rest, temps, name, at)
             }
         }
         Storage::File(cells) => {
             if cells.name.as_slice() == name {
-                cell(cells, FILE, at, cells.size)
+                cell(cells, HolderSpace::File, at, cells.size)
             } else {
                 cell_spot(rest, temps, name, at)
             }
@@ -185,18 +177,11 @@ fn hide_turn(image: &Image, label: Option<u32>, name: &[u8]) -> Option<Turn>
     }
     let index = place_index(image.places.as_slice(), name)?;
     Some(match label {
-        Some(at) => Turn {
-            kind: HIDE,
-            at,
-            space: 0,
-            index,
+        Some(test) => Turn::HideAtTest {
+            test,
+            variable: index,
         },
-        None => Turn {
-            kind: HIDE_AT_END,
-            at: 0,
-            space: 0,
-            index,
-        },
+        None => Turn::HideAtEnd { variable: index },
     })
 }
 
@@ -212,11 +197,9 @@ fn view_turn(
 {
     let index = place_index(image.places.as_slice(), name)?;
     part_width(storages, value)?;
-    Some(Turn {
-        kind: VIEW,
-        at,
-        space: 0,
-        index,
+    Some(Turn::View {
+        address: at,
+        variable: index,
     })
 }
 
@@ -239,9 +222,8 @@ fn hold_turn(
     if width != spot.width {
         return None;
     }
-    Some(Turn {
-        kind: HOLD,
-        at,
+    Some(Turn::Hold {
+        address: at,
         space: spot.space,
         index: spot.index,
     })
@@ -257,11 +239,9 @@ fn know_turn(image: &Image, word: u8, at: u32, name: &[u8], value: u64) -> Optio
         return None;
     }
     let index = plain_index(image.places.as_slice(), name)?;
-    Some(Turn {
-        kind: KNOW,
-        at,
-        space: 0,
-        index,
+    Some(Turn::Know {
+        address: at,
+        variable: index,
     })
 }
 

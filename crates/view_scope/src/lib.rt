@@ -24,5 +24,5 @@ mod widths;
 
 pub use fitting::{Spot, accepts, register_spot};
 pub use operators::constant_width;
-pub use turn::Turn;
+pub use turn::{HolderSpace, Turn};
 pub use widths::{name_in, number_in};

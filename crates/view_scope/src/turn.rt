@@ -1,27 +1,72 @@
 //! The order of remarks.
 
 ghost use Rattle.std.specs.Prelude.{◌≡◌};
-ghost use Rattle.view_scope.specs.Turns.{is_before, may_follow};
+ghost use Rattle.view_scope.specs.Turns.{is_before, is_first_by, is_holder_before, is_view, may_follow};
 
-/// The kinds of remarks, in their order, where hiding at a test and at the end are two.
-pub const HIDE: u8 = 0;
+/// Where what holds a value is: among the registers, in the file, or in the memory. That is also their
+/// order.
+#[derive(Clone, Copy)]
+pub enum HolderSpace {
+    Registers,
+    File,
+    Memory,
+}
 
-pub const HIDE_AT_END: u8 = 1;
+/// Where a remark stands among others: by what it says, in the order of these variants; then by the
+/// number of its test, or the address of its mark; and then by the number of the variable, or by what
+/// holds the value, which is the register or the cell of this number.
+#[derive(Clone, Copy)]
+pub enum Turn {
+    HideAtTest {
+        test: u32,
+        variable: usize,
+    },
+    HideAtEnd {
+        variable: usize,
+    },
+    View {
+        address: u32,
+        variable: usize,
+    },
+    Hold {
+        address: u32,
+        space: HolderSpace,
+        index: usize,
+    },
+    Know {
+        address: u32,
+        variable: usize,
+    },
+}
 
-pub const VIEW: u8 = 2;
+// Whether a test or a mark comes before another, or is the same and what is remarked there comes
+// before.
+fn is_first_by(first: u32, second: u32, is_before: bool) -> bool
+    ensures { result ≡ is_first_by first second is_before }
+{
+    if first == second {
+        is_before
+    } else {
+        first < second
+    }
+}
 
-pub const HOLD: u8 = 3;
-
-pub const KNOW: u8 = 4;
-
-/// Where a remark stands among others: by its kind, by the address of its mark or the number of its
-/// test, by the kind of what holds a value, and by the number of the variable, register or cell.
-#[derive(Clone, Copy, PartialEq, Eq)]
-pub struct Turn {
-    pub kind: u8,
-    pub at: u32,
-    pub space: u8,
-    pub index: usize,
+// Whether a register or a cell comes before another.
+fn is_holder_before(
+    space: HolderSpace,
+    index: usize,
+    next_space: HolderSpace,
+    next_index: usize,
+) -> bool
+    ensures { result ≡ is_holder_before space index next_space next_index }
+{
+    match (space, next_space) {
+        (HolderSpace::Registers, HolderSpace::Registers)
+        | (HolderSpace::File, HolderSpace::File)
+        | (HolderSpace::Memory, HolderSpace::Memory) => index < next_index,
+        (HolderSpace::Registers, _) | (HolderSpace::File, HolderSpace::Memory) => true,
+        _ => false,
+    }
 }
 
 // Whether a turn comes before another.
@@ -29,15 +74,61 @@ pub struct Turn {
 fn is_before(first: Turn, second: Turn) -> bool
     ensures { result ≡ is_before first second }
 {
-    if first.kind != second.kind {
-        first.kind < second.kind
-    } else if first.at != second.at {
-        first.at < second.at
-    } else if first.space != second.space {
-        first.space < second.space
-    } else {
-        first.index < second.index
+    match (first, second) {
+        (
+            Turn::HideAtTest { test, variable },
+            Turn::HideAtTest {
+                test: next,
+                variable: other,
+            },
+        ) => is_first_by(test, next, variable < other),
+        (Turn::HideAtTest { .. }, _) => true,
+        (_, Turn::HideAtTest { .. }) => false,
+        (Turn::HideAtEnd { variable }, Turn::HideAtEnd { variable: other }) => variable < other,
+        (Turn::HideAtEnd { .. }, _) => true,
+        (_, Turn::HideAtEnd { .. }) => false,
+        (
+            Turn::View { address, variable },
+            Turn::View {
+                address: next,
+                variable: other,
+            },
+        ) => is_first_by(address, next, variable < other),
+        (Turn::View { .. }, _) => true,
+        (_, Turn::View { .. }) => false,
+        (
+            Turn::Hold {
+                address,
+                space,
+                index,
+            },
+            Turn::Hold {
+                address: next,
+                space: next_space,
+                index: next_index,
+            },
+        ) => is_first_by(
+            address,
+            next,
+            is_holder_before(space, index, next_space, next_index),
+        ),
+        (Turn::Hold { .. }, _) => true,
+        (_, Turn::Hold { .. }) => false,
+        (
+            Turn::Know { address, variable },
+            Turn::Know {
+                address: next,
+                variable: other,
+            },
+        ) => is_first_by(address, next, variable < other),
     }
+}
+
+// Whether a turn is a view's.
+fn is_view(turn: Turn) -> bool
+    ensures { result ≡ is_view turn }
+{
+    matches!(turn, Turn::View { .. })
 }
 
 /// Whether a remark may stand behind another: it comes later, or both are views of one variable at one
@@ -48,6 +139,6 @@ pub fn may_follow(last: Option<Turn>, next: Turn) -> bool
 {
     match last {
         None => true,
-        Some(last) => is_before(last, next) || (next.kind == VIEW && !is_before(next, last)),
+        Some(last) => is_before(last, next) || (is_view(next) && !is_before(next, last)),
     }
 }

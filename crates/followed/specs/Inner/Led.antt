@@ -1,9 +1,9 @@
 -- When all is ready for segments of an image to be asked for, and what is found of them.
 use Rattle.std.specs.Prelude.{ℕ, ◌≡◌, Bool, true, false, List, [], ◌∷◌, Option, Some, None, slice_get, slice_index}
 use Rattle.net_model.specs.declared.hardware.Netlist.{Netlist}
-use Rattle.net_model.specs.declared.hardware.Space.TheVariants.{Memory as InMemory}
+use Rattle.net_model.specs.declared.hardware.Space.TheVariants.{Memory as InMemory, File as InFile}
 use Rattle.net_model.specs.Control.{IsSound}
-use Rattle.net_model.specs.Nets.{counter_of, memory_size, memory_width, place_in}
+use Rattle.net_model.specs.Nets.{counter_of, memory_size, memory_width, place_in, size_in}
 use Rattle.src_model.specs.declared.program.Var.{Var as Declared}
 use Rattle.src_model.specs.Written.{ProgramModel}
 use Rattle.code_model.specs.declared.views.Viewed.{Viewed}
@@ -37,6 +37,8 @@ pub record IsReady (netlist : Netlist) (viewed : Viewed) (relation : ℕ → Rel
   pub sound : IsSound netlist
   pub counter : front.counter ≡ counter_of netlist.codes
   pub memory : front.memory ≡ place_in InMemory netlist.storages
+  pub file : front.file ≡ place_in InFile netlist.storages
+  pub file_cells : front.file_cells ≡ size_in InFile netlist.storages
   pub code : (a : ℕ) (coded : Coded) → slice_get front.code.now a ≡ Some coded → IsCodedAt netlist front.pool.now (slice_index (words_of viewed.image) a) coded
   pub modeless : netlist.special ≡ None
   pub word : front.word ≡ m.word

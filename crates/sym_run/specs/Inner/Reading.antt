@@ -4,8 +4,9 @@ use Rattle.net_model.specs.declared.states.State.{State}
 use Rattle.tree_laws.specs.declared.classes.Classes.{Classes}
 use Rattle.tree_laws.specs.Classes.{width_in}
 use Rattle.sym_run.specs.declared.known.Element.{Element}
+use Rattle.sym_run.specs.declared.known.Fact.{Fact}
 use Rattle.sym_run.specs.declared.known.Known.{Known}
-use Rattle.sym_run.specs.Known.{AreSame, HoldsWide, StandsFor}
+use Rattle.sym_run.specs.Known.{AreFacts, AreSame, Holds, HoldsWide, StandsFor}
 
 -- a class of this width
 pub record IsOfWidth (table : Classes) (class width c : ℕ) : Type 0 where
@@ -17,6 +18,12 @@ abbrev pub IsReg : Classes → Known → ℕ → ℕ → ℕ → Type 0
 IsReg table known r width c =
     (memory : List ℕ) (s : State) → StandsFor table memory known s →
     HoldsWide table memory c width (slice_index s.regs r)
+
+-- what the register file has in the cell of a class's value
+abbrev pub IsFileCell : Classes → List Fact → Known → ℕ → ℕ → ℕ → Type 0
+IsFileCell table facts known addr width c =
+    (memory : List ℕ) (s : State) (a : ℕ) → AreFacts table memory facts → StandsFor table memory known s →
+    Holds table memory addr a → HoldsWide table memory c width (slice_index s.file a)
 
 -- the class is of an address of one of a list, which is read by another class
 abbrev pub IsAlias : Classes → List Element → ℕ → ℕ → Type 0

@@ -4,7 +4,7 @@ use Rattle.std.specs.Prelude.{ℕ, ◌+◌, ◌%◌, ◌^◌, ◌<◌, ◌≡◌
 use Rattle.rec_bits.specs.declared.operator.Op1.{Op1}
 use Rattle.rec_bits.specs.declared.operator.Op2.{Op2}
 use Rattle.rec_bits.specs.declared.operator.Op2.TheVariants.{Add, Sub, Mul, And, Or, Xor, Eq}
-use Rattle.rec_bits.specs.Operators.{apply1_of, apply2_of, result_width}
+use Rattle.rec_bits.specs.Operators.{IsWidth, apply1_of, apply2_of, result_width}
 use Rattle.tree_laws.specs.declared.classes.Classes.{Classes}
 use Rattle.tree_laws.specs.Classes.{TableMeans, class_count, width_in}
 
@@ -46,14 +46,6 @@ pub record MakesOf (table : Classes) (op : Op1) (a c : ℕ) : Type 0 where
   pub value : (memory regs : List ℕ) → TableMeans table memory regs →
       slice_index regs c ≡ apply1_of op (width_in table a) (slice_index regs a)
 
--- classes of one width whose sum is 0
-pub record AreOpposite (table : Classes) (a b : ℕ) : Type 0 where
-  pub first : a < class_count table
-  pub second : b < class_count table
-  pub same : width_in table b ≡ width_in table a
-  pub value : (memory regs : List ℕ) → TableMeans table memory regs →
-      apply2_of Add (width_in table a) (slice_index regs a) (slice_index regs b) ≡ 0
-
 -- the class c has the value of an operator over the class a, of this width, and a number
 pub record MakesBy (table : Classes) (op : Op2) (a w n c : ℕ) : Type 0 where
   pub first : a < class_count table
@@ -62,6 +54,12 @@ pub record MakesBy (table : Classes) (op : Op2) (a w n c : ℕ) : Type 0 where
   pub wide : width_in table c ≡ result_width op w
   pub value : (memory regs : List ℕ) → TableMeans table memory regs →
       slice_index regs c ≡ apply2_of op w (slice_index regs a) n
+
+-- the class c is so many times the class a, of this width
+pub record IsMultiple (table : Classes) (a w n c : ℕ) : Type 0 where
+  pub is_width : IsWidth w
+  pub fits : n < 2 ^ w
+  pub makes : MakesBy table Mul a w n c
 
 -- the class c has the low bits of the class a, up to the bit hi
 pub record HasLow (table : Classes) (a hi c : ℕ) : Type 0 where

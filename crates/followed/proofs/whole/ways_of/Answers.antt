@@ -25,5 +25,6 @@ returns c =
     IfOk-weaker c.ways.result _ _
     (λ passed h. whole_follows netlist viewed width l _ _ passed h
     (c.as_slice-2.ensures ∙ ap (λ (p : Program). p.vars) c.program.ensures.value) c.netlist-netlist.ensures.sound c.requires.modeless (c.from-counter.ensures ∙ c.pc.ensures) (c.from-memory.ensures ∙ c.memory.ensures)
+    (c.from-file.ensures ∙ c.place.ensures) (c.from-file_cells.ensures ∙ c.size.ensures)
     c.requires.code (c.memory_width.ensures.width ∙ c.requires.word) c.requires.word refl c.requires.laid (c.as_slice-3.ensures ∙ c.in_ok-marks.ensures ∙ ap addresses c.as_slice.ensures) (c.as_slice-4.ensures ∙ c.requires.flow)
     (ap models_of_jobs c.as_slice-5.ensures.value ∙ c.requires.jobs) (omega (arith, some, count)) c.in-Some.coded.now (sym c.coded_at.ensures ∙ ap option_copied c.in-Some.is) (c.goes_to.ensures c.if-not-goes_to.false)) c.ways.ensures

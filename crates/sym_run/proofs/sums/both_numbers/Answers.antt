@@ -1,4 +1,5 @@
-use Rattle.std.proofs.Common.{[], subst}
+use Rattle.std.proofs.Common.{[], refl, subst}
+use Rattle.rec_bits.specs.declared.operator.Op2.TheVariants.{Add}
 use Rattle.sym_run.specs.Inner.Values.{IsSized}
 use Rattle.sym_run.proofs.Made.{if_found}
 use Rattle.sym_run.proofs.Summing.{number_raised}
@@ -10,5 +11,5 @@ returns-clause-is c =
     let n = c.args.own.number in
     let own = subst (λ v. IsSized t0 [] c.args.base v n) c.if-own-by.false c.requires.own in
     if_found c.number.result _ _
-    (λ k is. number_raised t0 c.number.new.table c.number.ensures.grows c.args.base c.args.by.width n c.args.by.number c.apply2.result k own c.apply2.ensures is)
+    (λ k is. number_raised t0 c.number.new.table c.number.ensures.grows Add c.args.base c.args.by.width n c.args.by.number c.apply2.result k refl own c.apply2.ensures is)
     c.number.ensures.is

@@ -1,5 +1,12 @@
-use Rattle.sym_run.proofs.Summing.{negative_back}
+use Rattle.std.proofs.Common.{arith}
+use Rattle.sym_run.proofs.Made.{if_found}
+use Rattle.sym_run.proofs.Multiplying.{negative_of_times}
 use Rattle.sym_run.proofs.sums.negated.Goals as goal
 
-pub returns-in-Some-clause-is : goal.returns-in-Some-clause-is
-returns-in-Some-clause-is c = negative_back c.args.table.now c.in-Some.opposite c.args.a c.in-Some.ensures
+pub returns-clause-is : goal.returns-clause-is
+returns-clause-is c =
+    let low = c.if-width-lt1.false in
+    let high = c.if-width-gt64.false in
+    if_found c.multiplied.result _ _
+    (λ k h. negative_of_times c.multiplied.new.table c.args.a c.in-Some.width c.mask.result k h (omega (arith, low), omega (arith, high)) c.mask.ensures)
+    c.multiplied.ensures.is

@@ -1,15 +1,4 @@
-use Rattle.std.proofs.Common.{refl, subst, Bool}
-use Rattle.segment.specs.Proved.{IsAtOne}
-use Rattle.segment.specs.Runs.{IsAgreed}
 use Rattle.segment.proofs.run.Segment.comes.Goals as goal
 
-pub returns-then-branch : goal.returns-then-branch
-returns-then-branch c =
-    let seg = c.args.self.now in
-    let arrival = c.args.arrival in
-    record {
-      here = refl;
-      rest = refl;
-      agrees = subst (λ (said : Bool). IsAgreed (record { facts = c.args.facts; machine = arrival.known; vars = c.args.vars }) (IsAtOne seg.pool.now arrival.address seg.label seg.hints.now) c.args.table.now c.arrives.new.table said)
-          c.if-branch.true c.in_ok-arrives.ensures;
-    }
+pub returns : goal.returns
+returns c = c.meets.ensures

@@ -1,6 +1,3 @@
-use Rattle.sym_run.proofs.Walking.{answer_of}
-use Rattle.segment.specs.declared.run.Run.{Run}
-use Rattle.segment.specs.Runs.{IsOverPath}
 use Rattle.segment.proofs.Agreement.{if_end}
 use Rattle.segment.proofs.Leading.{came}
 use Rattle.segment.proofs.run.Segment.leads.Goals as goal
@@ -13,8 +10,8 @@ returns c =
     let t1 = c.over_path.new.table in
     let t2 = c.cross.new.table in
     let t3 = c.ends.new.table in
-    let after = c.in-Some.run' in
+    let after = c.over_path.new.run in
     if_end c.ends.result _ _
     (λ address left e. came seg t0 t1 t2 t3 run after c.as_slice.result c.as_slice.ensures c.in_ok-walked.walked address left
-    (answer_of (λ (n : Run). IsOverPath seg t0 t1 run n) c.in_ok-run.field-0 after c.in-Some.is c.in_ok-run.ensures)
+    (c.in_ok-over_path.ensures c.if-not-branch.false)
     c.in_ok-walked.ensures.grows c.in_ok-walked.ensures.crosses e) c.ends.ensures

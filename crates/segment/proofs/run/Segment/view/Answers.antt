@@ -1,24 +1,12 @@
-use Rattle.std.proofs.Common.{subst, sym}
-use Rattle.sym_run.specs.Known.{Holds}
-use Rattle.sym_run.proofs.Walking.{answer_of}
+use Rattle.std.proofs.Common.{subst}
 use Rattle.segment.specs.Marked.{IsSpotShown, SeenBy}
-use Rattle.segment.specs.Runs.{IsKeptClass}
-use Rattle.segment.proofs.Learning.{learnt_none, machine_learnt}
+use Rattle.segment.specs.Runs.{IsViewOf}
+use Rattle.segment.proofs.Learning.{learnt_as}
 use Rattle.segment.proofs.run.Segment.view.Goals as goal
 
-pub returns-then-view-len : goal.returns-then-view-len
-returns-then-view-len c =
-    let t = c.kept.new.table in
+pub returns-in_ok-seen_view : goal.returns-in_ok-seen_view
+returns-in_ok-seen_view c =
     let spot = c.args.spot in
-    let is = answer_of (IsKeptClass t spot.address) c.in_ok-found.found c.in-Some-found.class c.in-Some-found.is c.in_ok-found.ensures.is in
-    machine_learnt c.args.self.now (IsSpotShown c.args.self.now.pool.now spot) c.args.table.now t c.in_ok-found.ensures.grows c.args.run.now c.learn.new.known
-    (c.learn.ensures.arrays c.args.self.now.from.now.spots)
-    (λ s cells m h k n.
-    (let seen = subst (λ o. SeenBy c.args.self.now.pool.now o spot.address spot.len s cells) c.in-Some.is (h c.if-spot.false) in
-    c.learn.ensures.told t cells s n (subst (Holds t cells c.in-Some-found.class) (sym seen.1) (is cells))))
-
-pub returns-else-view-len : goal.returns-else-view-len
-returns-else-view-len c = learnt_none c.args.self.now _ c.args.table.now c.kept.new.table c.args.run.now c.in_ok-found.ensures.grows
-
-pub returns-in_default-found : goal.returns-in_default-found
-returns-in_default-found c = learnt_none c.args.self.now _ c.args.table.now c.kept.new.table c.args.run.now c.in_ok-found.ensures.grows
+    let pool = c.args.self.now.pool.now in
+    learnt_as c.args.self.now (IsViewOf pool c.in-Some.view spot.address) (IsSpotShown pool spot) c.args.table.now c.seen_view.new.table c.args.run.now c.seen_view.new.run
+    (λ s cells h. (subst (λ o. SeenBy pool o spot.address spot.len s cells) c.in-Some.is (h c.if-spot.false)).1) c.in_ok-seen_view.ensures

@@ -2,6 +2,7 @@ use Rattle.std.proofs.Common.{◌<◌, sym, ◌∙◌, arith}
 use Rattle.sym_run.specs.declared.known.Known.{Known}
 use Rattle.sym_run.specs.declared.walk.Arrival.{Arrival}
 use Rattle.sym_run.specs.Walks.{Turns}
+use Rattle.sym_run.proofs.Keeping.{grows_on}
 use Rattle.sym_run.proofs.Walking.{answer_of, arrived, if_arrives, walked_on}
 use Rattle.sym_run.proofs.walk.Image.+walk.Goals as goal
 
@@ -19,3 +20,6 @@ returns-clause-arrives t c =
     let turns : Turns t0 t1 image known next = answer_of (λ (n : Known). Turns t0 t1 image known n) c.in_ok-next.field-0 next c.in-Some-2.is c.in_ok-next.ensures.turns in
     let more : 0 < c.args.clocks = omega (arith, c.if-clocks-eq0.false) in
     if_arrives c.walk.result _ _ (λ (arrival : Arrival) a. walked_on image t0 t1 t2 c.turn.ensures.grows known next turns c.in-Some.address c.args.clocks arrival c.in-Some.ensures (sym c.is_marked.ensures ∙ c.if-is_marked.false) more a) c.walk.ensures.arrives
+
+pub returns-clause-grows : goal.returns-clause-grows
+returns-clause-grows t c = grows_on c.args.table.now c.turn.new.table c.walk.new.table c.turn.ensures.grows c.walk.ensures.grows
