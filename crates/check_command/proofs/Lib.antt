@@ -1,5 +1,6 @@
 pub mod CheckLaws
 mod EndLemmas
+mod Ordered
 mod PartLaws
 mod PlaceLemmas
 mod ReadLemmas

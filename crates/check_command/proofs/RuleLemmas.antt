@@ -1,8 +1,8 @@
 -- What the rules of an image ask of its memory and of its last word.
-use Rattle.std.proofs.Common.{◌≡◌, ℕ, zero, suc, ◌+◌, ◌≤◌, ◌^◌, List, [], ◌∷◌, map, length, Some, option_map, ap, subst, ◌∙◌, arith, slice_get, slice_index}
+use Rattle.std.proofs.Common.{◌≡◌, ℕ, zero, suc, ◌+◌, ◌-◌, ◌<◌, ◌≤◌, ◌^◌, List, [], ◌∷◌, map, length, Some, option_map, ap, subst, ◌∙◌, arith, get_or, slice_get, slice_index}
 use Rattle.std.specs.List.{AllByRecursion}
 use Rattle.std.proofs.lemmas.List.{length-map}
-use Rattle.std.proofs.lemmas.Option.{get_or_from_slice_get, slice_get-map, slice_get_within}
+use Rattle.std.proofs.lemmas.Option.{get_or_from_slice_get, slice_get-get_or, slice_get-map, slice_get_within}
 use Rattle.rec_bits.proofs.Options.{same_Some}
 use Rattle.net_model.specs.declared.hardware.Netlist.{Netlist}
 use Rattle.net_model.specs.declared.hardware.Space.TheVariants.{Memory as InMemory}
@@ -54,6 +54,12 @@ fits_at netlist (w ∷ words) h (suc k) word e = fits_at netlist words h.1 k wor
 pub word_fits : (netlist : Netlist) (order : List ℕ) → KeepsRules netlist order → (image : Image) → IsFitting (limits_of netlist) image → (k : ℕ) (word : Word) → slice_get image.words k ≡ Some word
     → WordFits netlist word.word
 word_fits netlist order keeps image fits k word e = fits_at netlist image.words (words_fit netlist order keeps image.words fits.words) k word e
+
+-- the last of some words, as it is found by its number
+pub last_there : (words all : List Word) (other : Word) → 0 < length words → words ≡ all → slice_get all (length words - 1) ≡ Some (get_or words (length words - 1) other)
+last_there words all other some same =
+    subst (λ (ws : List Word). slice_get ws (length words - 1) ≡ Some (get_or words (length words - 1) other)) same
+    (slice_get-get_or words (length words - 1) other (omega (arith, some)))
 
 module _ (netlist : Netlist) (image : Image) (last : ℕ) (word : Word) (there : slice_get image.words last ≡ Some word) (long : length image.words ≡ last + 1) where
   same_word : slice_index (words_of image) last ≡ word.word

@@ -1,5 +1,6 @@
 -- What no public contract cites: what the functions of the crate tell one another, and what only
 -- proofs speak of.
+pub mod Ascending
 pub mod Faults
 pub mod Marked
 pub mod Moves

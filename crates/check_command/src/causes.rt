@@ -5,8 +5,8 @@ ghost use Rattle.std.specs.Prelude.{IfOk};
 ghost use Rattle.check_command.specs.Inner.Readings.{IsFollowStop};
 
 use crate::fault::{Cause, CheckFault, CheckStop, Origin};
-use crate::hints::{Remarks, is_hidden};
-use code_model::Mark;
+use crate::hints::{Remarks, hidden_behind, hidden_from};
+use follow::label_at;
 use rec_bits::{Items, Name, NoMemory};
 use segment::{Equation, Why};
 use std::alloc::Global;
@@ -24,51 +24,24 @@ fn nameless<'a>(cause: Cause) -> Reason<'a> {
     Reason { cause, name: None }
 }
 
-// A holder as the remark of this number at an address tells it.
-fn holder_at(remarks: &[Remark], at: u64, number: u32) -> Option<&Holder> {
-    let mut left = number;
-    for remark in remarks {
-        if let Remark::Hold {
+// The holder of a remark that tells what is held at an address.
+fn holder_in(remark: &Remark, at: u64) -> Option<&Holder> {
+    match remark {
+        Remark::Hold {
             address,
             holder,
             ..
-        } = remark
-        {
-            if u64::from(*address) == at {
-                if left == 0 {
-                    return Some(holder);
-                }
-                left -= 1;
-            }
-        }
+        } if u64::from(*address) == at => Some(holder),
+        _ => None,
     }
-    None
 }
 
-// The label of the mark of an address.
-fn label_at(marks: &[Mark], address: u32) -> Option<Option<u32>> {
-    for mark in marks {
-        if mark.address == address {
-            return Some(mark.label);
-        }
+// The variable of a remark that tells its number at an address.
+fn known_in(remark: &Remark, at: u64) -> Option<&Name> {
+    match remark {
+        Remark::Know { address, name, .. } if u64::from(*address) == at => Some(name),
+        _ => None,
     }
-    None
-}
-
-// The variable whose number the remark of this number at an address tells.
-fn known_at(remarks: &[Remark], at: u64, number: u32) -> Option<&Name> {
-    let mut left = number;
-    for remark in remarks {
-        if let Remark::Know { address, name, .. } = remark {
-            if u64::from(*address) == at {
-                if left == 0 {
-                    return Some(name);
-                }
-                left -= 1;
-            }
-        }
-    }
-    None
 }
 
 // The register or the storage of a holder.
@@ -117,9 +90,13 @@ impl<'a> Remarks<'a> {
             return None;
         };
         let label = label_at(self.viewed.image.marks.as_slice(), address)?;
+        let mut hidden = hidden_from(self.viewed.hidden.as_slice(), label);
         for var in self.memory.vars {
-            if var.len.is_some() && is_hidden(self.viewed.hidden.as_slice(), label, &var.name) {
-                return Some(&var.name);
+            if let Some(rest) = hidden_behind(hidden, label, &var.name) {
+                if var.len.is_some() {
+                    return Some(&var.name);
+                }
+                hidden = rest;
             }
         }
         None
@@ -132,18 +109,30 @@ impl<'a> Remarks<'a> {
                 cause: Cause::Variable,
                 name: self.variable_name(number),
             },
-            Equation::Holding(number) => holding(holder_at(self.remarks, at, number)),
-            Equation::Number(number) => Reason {
-                cause: Cause::Number,
-                name: known_at(self.remarks, at, number),
-            },
+            Equation::Holding(number) => {
+                let mut holders = self
+                    .remarks
+                    .iter()
+                    .filter_map(|remark| holder_in(remark, at));
+                holding(holders.nth(number as usize))
+            }
+            Equation::Number(number) => {
+                let mut names = self
+                    .remarks
+                    .iter()
+                    .filter_map(|remark| known_in(remark, at));
+                Reason {
+                    cause: Cause::Number,
+                    name: names.nth(number as usize),
+                }
+            }
         }
     }
 
     // Why it isn't known where words lead.
     fn reason(&self, origin: Origin, why: Why) -> Reason<'a> {
         match why {
-            Why::Test => nameless(Cause::Much),
+            Why::Full | Why::Test => nameless(Cause::Much),
             Why::Array => Reason {
                 cause: Cause::Variable,
                 name: self.hidden_array(origin),

@@ -8,6 +8,7 @@ ghost use Rattle.code_model.specs.ImageFits.{IsFitting, limits_of};
 ghost use Rattle.view_lines.specs.Remarks.{model_of_remark};
 ghost use Rattle.viewed_text.specs.Texts.{AreRemarks};
 ghost use Rattle.view_parts.specs.Said.{hidden_said, model_of_view, views_said};
+ghost use Rattle.followed.specs.Inner.Ascending.{ComeFrom};
 ghost use Rattle.check_command.specs.Checked.{IsAccepted, IsCheckStop, IsChecked};
 ghost use Rattle.check_command.specs.Inner.Readings.{IsFollowStop, IsNetRead, IsNetStop, IsPassed, IsReadStop, IsSrcStop, IsViewedStop};
 ghost use Rattle.check_command.specs.Inner.Stops.{IsTaskStop, task_of};
@@ -16,10 +17,10 @@ ghost use Rattle.check_command.specs.Tasks.{IsCheckTask, IsViewedText};
 use crate::fault::{CheckFault, CheckStop};
 use crate::hints::Remarks;
 use crate::report::report;
-use crate::rules::{addr_width, broken_rule};
+use crate::rules::broken_rule;
 use crate::trees::Memory;
 use code_model::{Image, Viewed};
-use followed::{Claim, Passed, passes};
+use followed::{Claim, Passed, addr_width, passes};
 use net_front::read_taken;
 use net_model::Checked;
 use rec_bits::NoMemory;
@@ -166,6 +167,7 @@ impl Read {
     fn accepted(&self, alloc: Global, img: &[u8]) -> Result<Vec<u8>, CheckStop>
         requires fits { IsFitting (limits_of self.now.checked.netlist) self.now.found.viewed.image }
         requires word { memory_width self.now.checked.netlist.storages ≡ self.now.typed.width }
+        requires views { ComeFrom 0 self.now.found.viewed.views }
         ensures accepted { IfOk result (λ out. IsAccepted img.now out.items (task_of self.now.checked.netlist self.now.typed self.now.found.viewed)) }
         ensures refused { IfErr result (IsTaskStop (task_of self.now.checked.netlist self.now.typed self.now.found.viewed)) }
     {

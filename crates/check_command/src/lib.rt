@@ -24,12 +24,12 @@
 //! - `checking`: all together, `check`.
 //! - `specs/`, cited by public contracts: `Tasks` (what three texts say together), `Places`, `Views`
 //!   (a view does no work: eight nodes at most, and operators of the netlist; `WorkedViews`),
-//!   `EndWords`, `Rules`, `Reports`, `Checked`. `specs/Inner/`: `Faults`, `Moves`, `Marked`, `Stops`,
-//!   `Readings`, which go with the functions here.
+//!   `EndWords`, `Rules`, `Reports`, `Checked`. `specs/Inner/`: `Faults`, `Moves`, `Marked`,
+//!   `Ascending`, `Stops`, `Readings`, which go with the functions here.
 //! - `proofs/`: `PlaceLemmas`, `ViewLemmas`, `EndLemmas` and `RuleLemmas` for the rules of images;
-//!   `PartLaws`: remarks that fit say views; `ReadLemmas`: from what was read of each text to all
-//!   three; `Telling` for the report's lines of views; `CheckLaws`: the answers on three texts exclude
-//!   each other.
+//!   `PartLaws`: remarks that fit say views; `Ordered`: these go up the addresses; `ReadLemmas`: from
+//!   what was read of each text to all three; `Telling` for the report's lines of views; `CheckLaws`:
+//!   the answers on three texts exclude each other.
 #![tactic(auto)]
 
 mod causes;

@@ -1,14 +1,12 @@
 //! The first rule that an image with views breaks.
 
-ghost use Rattle.std.specs.Prelude.{◌≡◌, ◌≤◌, ◌↔◌, IfOk, IfNone, IfSome, IsTrue, Some, option_copied};
-ghost use Rattle.net_model.specs.CheckedRules.{KeepsRules};
-ghost use Rattle.net_model.specs.Nets.{addr_width_in, memory_size, memory_width};
-ghost use Rattle.net_model.specs.declared.hardware.Space.TheVariants.{Memory as InMemory};
+ghost use Rattle.std.specs.Prelude.{◌≡◌, ◌≤◌, ◌↔◌, IfOk, IfNone, IfSome, IsTrue, Some};
+ghost use Rattle.net_model.specs.Nets.{memory_size, memory_width};
 ghost use Rattle.src_model.specs.Written.{model_of_program};
 ghost use Rattle.code_model.specs.ImageFits.{IsFitting, limits_of};
 ghost use Rattle.src_trees.specs.Flows.{program_flow};
 ghost use Rattle.follow.specs.MarkFaults.{AreMarksRight, IsMarkFault};
-ghost use Rattle.followed.specs.Inner.Memories.{storage_addr_bits};
+ghost use Rattle.followed.specs.Inner.Ascending.{ComeFrom};
 ghost use Rattle.check_command.specs.Inner.Stops.{IsBroken, IsPlaceStop, task_of};
 ghost use Rattle.check_command.specs.Places.{ArePlacesRight};
 ghost use Rattle.check_command.specs.Rules.{ArePlaced, EndsPlainly, HasTemps};
@@ -18,9 +16,10 @@ use crate::end_word::is_end_word;
 use crate::fault::{CheckFault, CheckStop, RuleFault};
 use crate::places::place_fault;
 use crate::views::view_fault;
-use code_model::{Image, Place, Places, Viewed};
-use follow::{MarkFault, mark_fault};
-use net_model::{Checked, Space, Storage};
+use code_model::{Image, Viewed};
+use follow::{MarkFault, mark_fault, places_of};
+use followed::addr_width;
+use net_model::{Checked, Space};
 use rec_bits::{Items, Name, NoMemory};
 use src_model::Typed;
 use src_trees::lower;
@@ -54,58 +53,6 @@ fn place_stop(
         return Ok(Some(CheckStop::from(CheckFault::Rule(RuleFault::Temps))));
     }
     Ok(None)
-}
-
-// A place of its own.
-fn place_of(alloc: Global, place: &Place) -> Result<Place, NoMemory>
-    ensures { IfOk result (λ made. made ≡ place.now) }
-{
-    let name = Items::from_slice(alloc, place.name.as_slice())?;
-    Ok(Place {
-        name,
-        address: place.address,
-        len: place.len,
-    })
-}
-
-// Places of their own.
-fn list_of(alloc: Global, places: &[Place]) -> Result<Items<Place>, NoMemory>
-    ensures { IfOk result (λ made. made ≡ places.now) }
-{
-    let mut made = Items::new(alloc);
-    for place in places {
-        made.push(place_of(alloc, place)?)?;
-    }
-    Ok(made)
-}
-
-// The places of an image, of their own.
-fn places_of(alloc: Global, image: &Image) -> Result<Places, NoMemory>
-    ensures { IfOk result (λ made. made ≡ record { temps = image.now.temps; list = image.now.places }) }
-{
-    let list = list_of(alloc, image.places.as_slice())?;
-    Ok(Places {
-        temps: image.temps,
-        list,
-    })
-}
-
-// The bits of an address of a memory.
-fn addr_bits(storage: Option<&Storage>) -> u8
-    ensures { result ≡ storage_addr_bits (option_copied storage.entry) }
-{
-    match storage {
-        Some(Storage::Memory(cells)) => cells.addr_width,
-        _ => 0,
-    }
-}
-
-/// The number of bits of an address of the data memory.
-pub fn addr_width(checked: &Checked) -> u8
-    ensures width { result ≡ addr_width_in InMemory checked.now.netlist.storages }
-    ensures rules { KeepsRules checked.now.netlist checked.now.order }
-{
-    addr_bits(checked.netlist().storage(checked.memory()))
 }
 
 // What is wrong with the marks.
@@ -153,6 +100,7 @@ fn behind_places(
     requires word { memory_width checked.now.netlist.storages ≡ typed.now.width }
     requires placed { ArePlaced (task_of checked.now.netlist typed.now viewed.now) }
     requires temps { HasTemps (task_of checked.now.netlist typed.now viewed.now) }
+    requires views { ComeFrom 0 viewed.now.views }
     ensures { IfOk result (IsBroken (task_of checked.now.netlist typed.now viewed.now)) }
 {
     let image = &viewed.image;
@@ -168,7 +116,7 @@ fn behind_places(
     Ok(None)
 }
 
-/// The first rule that an image with views breaks, if it breaks one.
+/// The first rule that an image with views breaks, if it breaks one; its views go up the addresses.
 pub fn broken_rule(
     alloc: Global,
     checked: &Checked,
@@ -177,6 +125,7 @@ pub fn broken_rule(
 ) -> Result<Option<CheckStop>, NoMemory>
     requires fits { IsFitting (limits_of checked.now.netlist) viewed.now.image }
     requires word { memory_width checked.now.netlist.storages ≡ typed.now.width }
+    requires views { ComeFrom 0 viewed.now.views }
     ensures { IfOk result (IsBroken (task_of checked.now.netlist typed.now viewed.now)) }
 {
     if let Some(stop) = place_stop(alloc, checked, typed, &viewed.image)? {

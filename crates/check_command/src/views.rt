@@ -1,22 +1,25 @@
 //! The first view that isn't right: plain, modest, and the last of its variable and mark.
 
-ghost use Rattle.std.specs.Prelude.{◌≡◌, ◌↔◌, ℕ, ◌^◌, ◌≤◌, ◌==◌, ◌&&◌, IfNone, IfSome, IsTrue, MatchOption, option_copied};
+ghost use Rattle.std.specs.Prelude.{◌≡◌, ◌↔◌, ℕ, ◌^◌, ◌<◌, ◌≤◌, ◌==◌, ◌&&◌, IfNone, IfSome, IsTrue, MatchOption, Some, length, option_copied, slice_get};
 ghost use Rattle.net_model.specs.Exprs.{expr_width, model_of_expr};
 ghost use Rattle.net_model.specs.Nets.{memory_width};
 ghost use Rattle.rec_bits.specs.Faults.{same_name};
 ghost use Rattle.rec_bits.specs.Operators.{result_width};
 ghost use Rattle.code_model.specs.Places.{label_at};
 ghost use Rattle.code_model.specs.Views.{IsPlainView, is_literal, is_of_registers, place_named};
+ghost use Rattle.followed.specs.Inner.Ascending.{ComeFrom};
 ghost use Rattle.check_command.specs.Views.{AreViewsRight, IsLastAt, IsRightView, IsViewFault};
+ghost use Rattle.check_command.specs.Inner.Ascending.{SayOf};
 ghost use Rattle.check_command.specs.Inner.Marked.{is_test};
 
 use crate::modest::is_modest;
 use code_model::{Image, Mark, Place, View};
+use follow::{label_at, marks_from};
 use net_model::{Checked, Expr};
 use rec_bits::{Name, Op2};
 
-// Whether two names are one.
-fn same_name(name: &Name, other: &Name) -> bool
+/// Whether two names are one.
+pub fn same_name(name: &Name, other: &Name) -> bool
     ensures { result ≡ same_name name.now other.now }
 {
     name.as_slice() == other.as_slice()
@@ -26,13 +29,10 @@ fn same_name(name: &Name, other: &Name) -> bool
 fn is_test_at(marks: &[Mark], address: u32) -> bool
     ensures { result ≡ is_test (label_at marks.now address) }
 {
-    let Some((mark, rest)) = marks.split_first() else {
-        return false;
-    };
-    if mark.address == address {
-        return mark.label.is_some();
+    match label_at(marks, address) {
+        Some(Some(_tree)) => true,
+        Some(None) | None => false,
     }
-    is_test_at(rest, address)
 }
 
 // The place of a variable.
@@ -110,8 +110,9 @@ fn is_cell_wide(checked: &Checked, expr: &Expr) -> bool
     }
 }
 
-// Whether a view is plain.
-fn is_plain_view(checked: &Checked, image: &Image, view: &View) -> bool
+// Whether a view is plain; `marks` say of its address what the image's do.
+fn is_plain_view(checked: &Checked, image: &Image, marks: &[Mark], view: &View) -> bool
+    requires { label_at marks.now view.now.address ≡ label_at image.now.marks view.now.address }
     ensures { IsTrue result ↔ IsPlainView checked.now.netlist image.now view.now }
 {
     let Some(place) = place_named(image.places.as_slice(), &view.name) else {
@@ -129,7 +130,7 @@ fn is_plain_view(checked: &Checked, image: &Image, view: &View) -> bool
     if !is_cell_wide(checked, &view.value) {
         return false;
     }
-    is_test_at(image.marks.as_slice(), view.address)
+    is_test_at(marks, view.address)
 }
 
 // Whether two views are of one variable at one mark.
@@ -139,12 +140,20 @@ fn are_of_one(view: &View, other: &View) -> bool
     view.address == other.address && same_name(&view.name, &other.name)
 }
 
-// Whether no later view is of the variable at the mark of the view of this number.
+// Whether no later view is of the variable at the mark of the view of this number: of the views behind
+// it, those of its mark come first.
 fn is_last_at(views: &[View], at: usize, view: &View) -> bool
+    requires ascend { ComeFrom 0 views.now }
+    requires inside { at < length views.now }
+    requires there { slice_get views.now at ≡ Some view.now }
     ensures { IsTrue result ↔ IsLastAt views.now at view.now }
 {
-    for later in 0..views.len() {
-        if later > at && are_of_one(view, &views[later]) {
+    for later in at + 1..views.len() {
+        let other = &views[later];
+        if other.address != view.address {
+            return true;
+        }
+        if are_of_one(view, other) {
             return false;
         }
     }
@@ -152,28 +161,41 @@ fn is_last_at(views: &[View], at: usize, view: &View) -> bool
 }
 
 // Whether the view of this number is plain and modest, and the only one of its variable and mark from
-// there on.
-fn is_right_view(checked: &Checked, image: &Image, views: &[View], at: usize) -> bool
+// there on; `marks` say of its address what the image's do.
+fn is_right_view(
+    checked: &Checked,
+    image: &Image,
+    marks: &[Mark],
+    views: &[View],
+    at: usize,
+) -> bool
+    requires ascend { ComeFrom 0 views.now }
+    requires marks { SayOf views.now image.now.marks marks.now at }
+    requires inside { at < length views.now }
     ensures { IsTrue result ↔ IsRightView checked.now.netlist image.now views.now at }
 {
     let Some(view) = views.get(at) else {
         return false;
     };
-    is_plain_view(checked, image, view)
+    is_plain_view(checked, image, marks, view)
         && is_modest(checked.netlist(), &view.value)
         && is_last_at(views, at, view)
 }
 
 /// The first view of an image that isn't plain or modest, or that is of the variable and the mark of a
-/// later one.
+/// later one, where views go up the addresses.
 pub fn view_fault<'a>(checked: &Checked, image: &Image, views: &'a [View]) -> Option<&'a View>
+    requires { ComeFrom 0 views.now }
     ensures fault { IfSome result (λ view.
         IsViewFault checked.now.netlist image.now views.now view.now.address view.now.name) }
     ensures right { IfNone result (AreViewsRight checked.now.netlist image.now views.now) }
 {
+    let mut marks = image.marks.as_slice();
     for at in 0..views.len() {
-        if !is_right_view(checked, image, views, at) {
-            return Some(&views[at]);
+        let view = &views[at];
+        marks = marks_from(marks, view.address);
+        if !is_right_view(checked, image, marks, views, at) {
+            return Some(view);
         }
     }
     None

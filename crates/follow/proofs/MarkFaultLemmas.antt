@@ -12,7 +12,7 @@ use Rattle.form_model.specs.declared.flow.Flow.{Flow}
 use Rattle.form_model.specs.declared.flow.Flow.TheVariants.{Assign, Test, Jump, End}
 use Rattle.follow.specs.Inner.Marked.{AreLabelled, AreLabelsTested, AreOnLast, HasLabel, IsBare, IsFirstStray, tested_tree}
 use Rattle.follow.specs.MarkFaults.{AreMarksRight, AreTestsMarked, HasEnd, IsMarkFault, IsUnmarked}
-use Rattle.follow.specs.RightByViews.{HasMark, HasMarksOf, IsTestOf}
+use Rattle.follow.specs.RightByViews.{HasMark, HasMarksOf}
 use Rattle.follow.specs.declared.mark_faults.MarkFault.{MarkFault}
 use Rattle.follow.proofs.MarkLemmas.{behind, found_label, label_is_end, label_is_test, label_there}
 

@@ -14,7 +14,6 @@ use Rattle.code_model.specs.Places.{words_of}
 use Rattle.code_model.specs.WorkedViews.{bare_counter, hidden_counter, hidden_plain, passed}
 use Rattle.src_trees.specs.Flows.{program_flow}
 use Rattle.src_trees.specs.Held.{HoldsCells}
-use Rattle.form_model.specs.Forms.{cell}
 use Rattle.src_model.specs.Trace.{strace, run_stmt, run_in, run_else}
 use Rattle.src_model.specs.Ways.{Passed}
 use Rattle.code_model.specs.Right.{ShowsBy, passed_of}

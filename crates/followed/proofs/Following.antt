@@ -7,7 +7,7 @@ use Rattle.net_model.specs.declared.hardware.Space.TheVariants.{Memory as InMemo
 use Rattle.net_model.specs.declared.states.State.{State}
 use Rattle.net_model.specs.Control.{IsSound}
 use Rattle.net_model.specs.Fixed.{mode_in}
-use Rattle.net_model.specs.Nets.{counter_of, memory_width, place_in, size_in}
+use Rattle.net_model.specs.Nets.{counter_of, memory_width, place_in, size_in, width_in}
 use Rattle.net_model.specs.Transfers.{Moved, cells_moved, reg_moved}
 use Rattle.net_model.proofs.Effects.{moved}
 use Rattle.src_model.specs.declared.checkpoint.Checkpoint.TheVariants.{At}
@@ -33,7 +33,7 @@ use Rattle.follow.specs.Followed.{IsFollowed, IsSegment, IsStart}
 use Rattle.follow.specs.Paths.{Path, path_from}
 use Rattle.follow.specs.Relations.{Relation}
 use Rattle.follow.specs.RightByViews.{IsLaidFor, image_memory}
-use Rattle.segment.specs.declared.hints.Hint.{Hint}
+use Rattle.mark_start.specs.declared.hints.Hint.{Hint}
 use Rattle.segment.specs.Asked.{AreHintsOf, ArePlaces, AreSpots, IsHintOf}
 use Rattle.segment.specs.declared.way.Way.{Way}
 use Rattle.segment.specs.declared.way.Way.TheVariants.{Never, Takes, Unknown}
@@ -227,14 +227,14 @@ module _ (netlist : Netlist) (viewed : Viewed) (relation : ℕ → Relation) (m 
 pub whole_follows : (netlist : Netlist) (viewed : Viewed) (width : ℕ) (l : ProgramModel) (vars : List Declared) (front : Front) (passed : Passed)
     → IsWhole viewed vars front passed → vars ≡ l.vars
     → IsSound netlist → netlist.special ≡ None → front.counter ≡ counter_of netlist.codes → front.memory ≡ place_in InMemory netlist.storages
-    → front.file ≡ place_in InFile netlist.storages → front.file_cells ≡ size_in InFile netlist.storages
+    → front.file ≡ place_in InFile netlist.storages → front.file_cells ≡ size_in InFile netlist.storages → front.storages.now ≡ netlist.storages → front.file_word ≡ width_in InFile netlist.storages
     → AreWordsOf netlist front.pool.now (words_of viewed.image) front.code.now → front.word ≡ width → memory_width netlist.storages ≡ width → front.temps ≡ viewed.image.temps
     → IsLaidFor netlist width l viewed.image → front.marks.now ≡ addresses viewed.image.marks → front.flow.now ≡ program_flow l
     → models_of_jobs front.jobs.now ≡ program_jobs (image_memory netlist width viewed.image) l → length viewed.image.words ≡ front.clocks + 1
     → (coded : Coded) → slice_get front.code.now front.clocks ≡ Some coded
     → ((netlist : Netlist) (word : ℕ) → IsCodedAt netlist front.pool.now word coded → front.counter ≡ counter_of netlist.codes → front.memory ≡ place_in InMemory netlist.storages → DoesGoto netlist word front.clocks)
     → HasFollowed netlist width l viewed (relation_at front.pool.now front.hints.now) passed
-whole_follows netlist viewed width l vars front passed was ea sound none counter memory file file_cells words word wide temps laid addrs flow jobs long coded there ends =
+whole_follows netlist viewed width l vars front passed was ea sound none counter memory file file_cells storages file_word words word wide temps laid addrs flow jobs long coded there ends =
     record {
       followed = ways_follow netlist viewed relation m viewed.image.temps l front.clocks passed.first passed.turns first turns longer ending;
       ways = record { most = front.clocks; long = longer; first = first; turns = turns };
@@ -261,7 +261,9 @@ whole_follows netlist viewed width l vars front passed was ea sound none counter
       counter = counter;
       memory = memory;
       file = file;
+      storages = storages;
       file_cells = file_cells;
+      file_word = file_word;
       code = λ a one e. (words a one e).is;
       modeless = none;
       word = word;

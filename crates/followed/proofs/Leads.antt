@@ -21,7 +21,7 @@ use Rattle.follow.specs.Relations.{Relation}
 use Rattle.follow.specs.Trails.{all_jobs, one_more, path_of, path_to, trail_from}
 use Rattle.follow.proofs.OnePath.{one_path}
 use Rattle.follow.proofs.TrailLemmas.{path_is}
-use Rattle.segment.specs.declared.hints.Hint.{Hint}
+use Rattle.mark_start.specs.declared.hints.Hint.{Hint}
 use Rattle.segment.specs.declared.run.Segment.{Segment}
 use Rattle.segment.specs.Asked.{ArePlaces, IsAskedOf, IsHintOf}
 use Rattle.segment.specs.declared.way.Way.{Way}
@@ -71,23 +71,26 @@ more_jobs jobs number rest all e lt h =
 
 abbrev pub segment_of : Front → Bor Hint → ℕ → Bool → Bor (List ℕ) → Option ℕ → Segment
 segment_of front from test answer path label = record {
-  pool = front.pool;
-  code = front.code;
+  start = record {
+    pool = front.pool;
+    code = front.code;
+    storages = front.storages;
+    counter = front.counter;
+    memory = front.memory;
+    file = front.file;
+    file_cells = front.file_cells;
+    file_word = front.file_word;
+    counter_width = front.counter_width;
+    word = front.word;
+    addr = front.addr;
+    temps = front.temps;
+    from = from;
+    answer = answer;
+  };
   marks = front.marks;
-  counter = front.counter;
-  memory = front.memory;
-  file = front.file;
-  storages = front.storages;
-  file_cells = front.file_cells;
-  counter_width = front.counter_width;
-  word = front.word;
-  addr = front.addr;
-  temps = front.temps;
   hints = front.hints;
   jobs = front.jobs;
-  from = from;
   test = test;
-  answer = answer;
   path = path;
   label = label;
   clocks = front.clocks;
@@ -105,7 +108,7 @@ module _ (front : Front) (from : Bor Hint) (test : ℕ) (answer : Bool) (path : 
       ∙ ap (λ ts. path_to trail.to (all_jobs (program_jobs m l) ts)) (sym trees) ∙ ap (path_to trail.to) now in
       let same : p ≡ record { jobs = jobs.0; to = trail.to } = one_path (program_flow l) (program_jobs m l) n (length front.flow.now) at p (record { jobs = jobs.0; to = trail.to }) e other in
       record {
-        code = record { sound = r.sound; counter = r.counter; memory = r.memory; file = r.file; file_cells = r.file_cells; code = r.code };
+        code = record { sound = r.sound; counter = r.counter; memory = r.memory; file = r.file; storages = r.storages; file_cells = r.file_cells; file_word = r.file_word; code = r.code };
         modeless = r.modeless;
         word = r.word;
         temps_are = r.temps_are;

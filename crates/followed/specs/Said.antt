@@ -2,7 +2,7 @@
 use Rattle.std.specs.Prelude.{ℕ, ◌==◌, if◌then◌else◌, List, [], ◌∷◌, map}
 use Rattle.sym_expr.specs.declared.pool.Node.{Node}
 use Rattle.follow.specs.Relations.{Relation}
-use Rattle.segment.specs.declared.hints.Hint.{Hint}
+use Rattle.mark_start.specs.declared.hints.Hint.{Hint}
 use Rattle.segment.specs.Asked.{holding_of, known_of}
 
 abbrev pub relation_of : List Node → Hint → Relation

@@ -1,8 +1,8 @@
 //! What is checked.
 
 use code_model::Viewed;
+use mark_start::Hint;
 use net_model::Checked;
-use segment::Hint;
 use src_model::Typed;
 
 /// An image with views that is claimed to be right code for a program on a netlist, and hints of its

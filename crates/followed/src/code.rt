@@ -9,7 +9,6 @@ ghost use Rattle.code_model.specs.Words.{DoesGoto, IsFixedAt};
 ghost use Rattle.sym_expr.specs.Pools.{Grows, expr_of_id};
 ghost use Rattle.sym_run.specs.Moves.{AreWithin};
 ghost use Rattle.sym_run.specs.Walks.{IsCodedAt};
-ghost use Rattle.word_moves.specs.declared.moves.StorageMove.{StorageMove as TheMove};
 ghost use Rattle.followed.specs.Inner.Coded.{AreWordsOf, IsWordOf, move_of};
 
 use crate::fault::CheckFault;

@@ -1,6 +1,6 @@
 //! The segments of an image, one after the other.
 
-ghost use Rattle.std.specs.Prelude.{◌≡◌, ◌<◌, ◌^◌, ◌++◌, ℕ, List, true, false, length, IfOk, IfSome, OnOk, Some, slice_get};
+ghost use Rattle.std.specs.Prelude.{◌≡◌, ◌<◌, ◌^◌, ◌++◌, List, true, false, length, IfOk, IfSome, OnOk, Some, slice_get};
 ghost use Rattle.rec_bits.specs.Operators.{IsWidth};
 ghost use Rattle.code_model.specs.Places.{checkpoint_of};
 ghost use Rattle.follow.specs.Paths.{checkpoint_at};
@@ -17,8 +17,10 @@ use crate::passed::Turn;
 use code_model::Mark;
 use follow::trail_from;
 use form_model::{Flow, Job};
+use mark_start::{Hint, Start};
+use net_model::Storage;
 use rec_bits::Items;
-use segment::{Hint, Segment, Way, Why};
+use segment::{Segment, Way, Why};
 use std::alloc::Global;
 use sym_expr::Pool;
 use sym_run::Coded;
@@ -30,11 +32,12 @@ pub(crate) struct Front<'a> {
     pub code: &'a [Coded],
     // The marked addresses.
     pub marks: &'a [u64],
+    pub storages: &'a [Storage],
     pub counter: u64,
     pub memory: u64,
     pub file: u64,
-    pub storages: u64,
     pub file_cells: u64,
+    pub file_word: u8,
     pub counter_width: u8,
     pub word: u8,
     pub addr: u8,
@@ -192,23 +195,26 @@ impl Front<'_> {
             return Ok(Way::Unknown(Why::Path));
         }
         let segment = Segment {
-            pool: self.pool,
-            code: self.code,
+            start: Start {
+                pool: self.pool,
+                code: self.code,
+                storages: self.storages,
+                counter: self.counter,
+                memory: self.memory,
+                file: self.file,
+                file_cells: self.file_cells,
+                file_word: self.file_word,
+                counter_width: self.counter_width,
+                word: self.word,
+                addr: self.addr,
+                temps: self.temps,
+                from,
+                answer,
+            },
             marks: self.marks,
-            counter: self.counter,
-            memory: self.memory,
-            file: self.file,
-            storages: self.storages,
-            file_cells: self.file_cells,
-            counter_width: self.counter_width,
-            word: self.word,
-            addr: self.addr,
-            temps: self.temps,
             hints: self.hints,
             jobs: self.jobs,
-            from,
             test,
-            answer,
             path: trail.trees.as_slice(),
             label,
             clocks: self.clocks,
@@ -233,23 +239,26 @@ impl Front<'_> {
             return Ok(Way::Unknown(Why::Path));
         }
         let segment = Segment {
-            pool: self.pool,
-            code: self.code,
+            start: Start {
+                pool: self.pool,
+                code: self.code,
+                storages: self.storages,
+                counter: self.counter,
+                memory: self.memory,
+                file: self.file,
+                file_cells: self.file_cells,
+                file_word: self.file_word,
+                counter_width: self.counter_width,
+                word: self.word,
+                addr: self.addr,
+                temps: self.temps,
+                from,
+                answer: false,
+            },
             marks: self.marks,
-            counter: self.counter,
-            memory: self.memory,
-            file: self.file,
-            storages: self.storages,
-            file_cells: self.file_cells,
-            counter_width: self.counter_width,
-            word: self.word,
-            addr: self.addr,
-            temps: self.temps,
             hints: self.hints,
             jobs: self.jobs,
-            from,
             test: 0,
-            answer: false,
             path: trail.trees.as_slice(),
             label,
             clocks: self.clocks,

@@ -1,6 +1,6 @@
 //! Whether the variables of a program stand at an image's places.
 
-ghost use Rattle.std.specs.Prelude.{◌≡◌, ◌≤◌, true, option_copied};
+ghost use Rattle.std.specs.Prelude.{◌≡◌, true, option_copied};
 ghost use Rattle.net_model.specs.CheckedRules.{KeepsRules};
 ghost use Rattle.net_model.specs.Nets.{addr_width_in};
 ghost use Rattle.net_model.specs.declared.hardware.Space.TheVariants.{Memory as InMemory};

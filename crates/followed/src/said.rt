@@ -14,9 +14,9 @@ ghost use Rattle.followed.specs.Inner.Hinted.{AreHere, IsHere};
 use crate::later::{Later, later_from, same_name, view_at};
 use code_model::{Hidden, Place, View, Viewed};
 use follow::label_at;
+use mark_start::{Hint, Spot};
 use net_model::Expr;
 use rec_bits::Name;
-use segment::{Hint, Spot};
 use src_model::Var;
 use sym_expr::{ExprId, Node, Pool};
 

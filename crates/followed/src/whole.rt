@@ -1,6 +1,6 @@
 //! The ways of an image's words.
 
-ghost use Rattle.std.specs.Prelude.{◌≡◌, ◌<◌, ◌^◌, ℕ, None, true, map, length, IfOk, option_copied, slice_get};
+ghost use Rattle.std.specs.Prelude.{◌≡◌, ◌<◌, ◌^◌, None, map, length, IfOk, option_copied, slice_get};
 ghost use Rattle.rec_bits.specs.Operators.{IsWidth};
 ghost use Rattle.net_model.specs.Nets.{memory_width};
 ghost use Rattle.src_model.specs.Written.{model_of_program};
@@ -25,9 +25,9 @@ use crate::passed::Passed;
 use crate::said::{Seen, are_arrays, are_bare, first_low};
 use code_model::{Mark, Place};
 use form_model::Blocks;
+use mark_start::{Hint, Spot};
 use net_model::{Netlist, Space, Storage};
 use rec_bits::{Items, NoMemory};
-use segment::{Hint, Spot};
 use src_model::Var;
 use std::alloc::Global;
 use sym_expr::Pool;
@@ -166,11 +166,12 @@ pub(crate) fn ways_of(
         pool,
         code,
         marks: marks.as_slice(),
+        storages: netlist.storages.as_slice(),
         counter,
         memory,
         file,
-        storages: netlist.storages.len() as u64,
         file_cells,
+        file_word: checked.width(Space::File),
         counter_width: counter_width(netlist, checked.pc()),
         word: checked.memory_width(),
         addr: addr_width(netlist, checked.memory()),

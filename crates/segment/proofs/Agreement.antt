@@ -1,6 +1,6 @@
 -- What is known agrees with a hint, step by step.
-use Rattle.std.proofs.Common.{not, nat_eq, eq-eqb, ◌≡◌, ◌≢◌, ℕ, ◌+◌, ◌-◌, ◌<◌, inl, inr, Bool, true, false, List, Some, ◌∙◌, sym, ap, subst, slice_get, slice_index, arith, Result, Ok, Err}
-use Rattle.std.specs.Prelude.{IfOk, OnOk}
+use Rattle.std.proofs.Common.{refl, not, nat_eq, eq-eqb, ◌≡◌, ◌≢◌, ℕ, ◌+◌, ◌-◌, ◌<◌, inl, inr, Bool, true, false, List, [], Some, ◌∙◌, sym, ap, subst, slice_get, slice_index, arith, Result, Ok, Err}
+use Rattle.std.specs.Prelude.{IfOk}
 use Rattle.std.proofs.lemmas.Bool.{cases_lt}
 use Rattle.net_model.specs.declared.states.State.{State}
 use Rattle.net_model.specs.Exprs.{ExprModel}
@@ -9,26 +9,31 @@ use Rattle.src_trees.specs.Seen.{tree_value}
 use Rattle.tree_laws.specs.declared.classes.Classes.{Classes}
 use Rattle.tree_laws.specs.Classes.{Grows, cell_bits}
 use Rattle.tree_laws.specs.Equal.{CellsFit, memory_alone}
-use Rattle.sym_expr.specs.declared.pool.Node.TheVariants.{Read}
-use Rattle.tree_laws.specs.Classes.{NodeStands}
 use Rattle.sym_run.specs.declared.known.Cell.TheVariants.{Kept, Array}
 use Rattle.sym_run.specs.declared.known.Put.{Put}
-use Rattle.sym_run.proofs.SamePuts.{arrays_agree}
-use Rattle.sym_run.specs.declared.known.Fact.{Fact}
+use Rattle.sym_run.proofs.Keeping.{wrote_kept}
+use Rattle.sym_run.proofs.SamePuts.{arrays_agree, same_puts}
+use Rattle.sym_run.specs.Arrivals.{LeaveSame}
+use Rattle.class_values.specs.declared.facts.Fact.{Fact}
 use Rattle.sym_run.specs.declared.known.Known.{Known}
-use Rattle.sym_run.specs.Known.{ArePutsSame, cell_at, AreFacts, AreSame, CellStands, Evaluates, HasNumber, Holds, cell_of}
-use Rattle.sym_run.specs.Reading.{IsCell}
-use Rattle.sym_run.specs.Values.{IsNumber}
-use Rattle.sym_run.proofs.Grown.{stands_below}
-use Rattle.sym_run.proofs.Keeping.{facts_kept, grows_on, grows_same, holds_kept, known_kept}
-use Rattle.sym_run.proofs.Made.{same_holds}
+use Rattle.class_values.specs.Values.{AreFacts, AreSame, HasNumber, Holds, IsNumber}
+use Rattle.sym_run.specs.Known.{ArePutsSame, HaveWritten, cell_at, CellStands, cell_of}
+use Rattle.class_values.proofs.Keeping.{grows_on, grows_same, holds_kept}
+use Rattle.class_values.proofs.Made.{same_holds}
 use Rattle.sym_run.proofs.Writing.{number_is}
-use Rattle.segment.specs.declared.run.Run.{Run}
+use Rattle.mark_start.specs.declared.run.Run.{Run}
+use Rattle.mark_start.specs.declared.hints.Hint.{Hint}
+use Rattle.mark_start.specs.declared.hints.Holding.{Holding}
+use Rattle.mark_start.specs.declared.hints.Numbered.{Numbered}
+use Rattle.mark_start.specs.declared.hints.Spot.{Spot}
+use Rattle.mark_start.specs.Marked.{AllHeld, AllNumbered, IsAsHinted, SpotsSeen}
+use Rattle.sym_expr.specs.declared.pool.Node.{Node}
 use Rattle.segment.specs.declared.way.End.{End}
 use Rattle.segment.specs.declared.way.End.TheVariants.{Lost, Mark}
 use Rattle.segment.specs.Proved.{IfFound}
-use Rattle.segment.specs.Runs.{AreCellsAlike, AreEqualOf, IsAgreed, IsExprOf, IsInCell, IsAlikeIn, IsKeptClass, IsOldIn, IsTreeOf, Stands}
-use Rattle.segment.proofs.Learning.{stands_kept}
+use Rattle.segment.specs.Runs.{AreCellsAlike, AreEqualOf, IsAgreed, IsAligned, IsAlikeIn, IsOldIn}
+use Rattle.mark_start.specs.Runs.{IsExprOf, IsInCell, IsTreeOf, Stands}
+use Rattle.mark_start.proofs.Learning.{stands_kept}
 
 -- ---- classes
 
@@ -39,30 +44,45 @@ pub equal_numbers : (t : Classes) (facts : List Fact) (a b n m : ℕ) → HasNum
 equal_numbers t facts a b n m p q e memory x y fits f h k =
     number_is t memory fits a x n h (p memory f) ∙ e ∙ number_is t memory fits b m y (q memory f) k
 
--- the class of a cell at a number
-pub in_cell : (first middle last : Classes) → Grows first middle → (facts : List Fact) (known : Known) (width address at c wide : ℕ) → IsNumber middle width address at → IsCell middle last facts known at wide c → IsInCell first last facts known address c
-in_cell first middle last g facts known width address at c wide is cell memory s f k =
-    (cell memory s address (facts_kept first middle g memory facts f) (known_kept first middle g memory known s k) (is memory).holds).holds
-
-pub kept_class : (middle last : Classes) → Grows middle last → (width address at wide c : ℕ) → IsNumber middle width address at → NodeStands last (Read at wide) c → IsKeptClass last address c
-kept_class middle last g width address at wide c is stands memory = record {
-  below = stands_below last (Read at wide) c stands;
-  value = λ regs m. sym (stands memory regs m).value ∙ ap (slice_index memory) ((holds_kept middle last g memory at address (is memory).holds).value regs m);
-}
-
-pub tree_of : (old new : Classes) (run : Run) (facts : List Fact) (tree : ExprModel) (c : ℕ) → facts ≡ run.facts → Evaluates old new facts run.vars 0 tree c → IsTreeOf old new run tree c
-tree_of old new run facts tree c e is memory now f k = (is memory (memory_alone now) (subst (AreFacts old memory) (sym e) f) k).holds
-
-pub expr_of : (old new : Classes) (run : Run) (facts : List Fact) (expr : ExprModel) (c : ℕ) → facts ≡ run.facts → Evaluates old new facts run.machine 0 expr c → IsExprOf old new run expr c
-expr_of old new run facts expr c e is memory s f k = (is memory s (subst (AreFacts old memory) (sym e) f) k).holds
-
 pub old_kept : (known : Known) (address : ℕ) → slice_get known.cells address ≡ Some Kept → IsOldIn known address
 old_kept known address e table memory s k = subst (λ o. CellStands table memory (cell_of o) (slice_index s.cells address) (slice_index memory address)) e (k.cells address)
 
 pub arrays_alike : (t : Classes) (run : Run) (near far : List Put) (address : ℕ) → near ≡ run.machine.puts → far ≡ run.vars.puts → cell_at run.machine.cells address ≡ Array → cell_at run.vars.cells address ≡ Array → ArePutsSame t near far → IsAlikeIn t run address
 arrays_alike t run near far address e f a b same memory s now k =
-    arrays_agree t memory k.machine.fits run.machine.cells run.vars.cells run.machine.puts run.vars.puts s.cells now
-    (subst (λ (ps : List Put). ArePutsSame t ps run.vars.puts) e (subst (λ (ps : List Put). ArePutsSame t near ps) f same)) k.machine.arrays k.vars.arrays address a b
+    arrays_agree t [] run.machine run.vars
+    (same_puts [] run.machine run.vars t (subst (λ (ps : List Put). ArePutsSame t ps run.vars.puts) e (subst (λ (ps : List Put). ArePutsSame t near ps) f same)))
+    memory s (memory_alone now) tt k.machine k.vars address a b
+
+-- the program's writes may be said to be the machine's, where both leave the same
+pub aligned : (old new : Classes) → Grows old new → (run : Run) (facts : List Fact) (puts : List Put) → facts ≡ run.facts → puts ≡ run.vars.puts → LeaveSame old facts run.machine run.vars
+    → IsAligned old new run (record { facts = run.facts; machine = record { regs = run.machine.regs; cells = run.machine.cells; inside = run.machine.inside; puts = puts; file = run.machine.file }; vars = run.vars })
+aligned old new g run facts puts e f same = record {
+  grows = g;
+  stands = λ memory s now k.
+      (let n = stands_kept old new g run memory s now k in
+      let told : AreFacts old memory facts = subst (AreFacts old memory) (sym e) k.facts in
+      record {
+        facts = n.facts;
+        machine = record {
+          fits = n.machine.fits;
+          room = n.machine.room;
+          regs = n.machine.regs;
+          cells = n.machine.cells;
+          inside = n.machine.inside;
+          arrays = record {
+            log = k.vars.arrays.log;
+            wrote = subst (λ (ps : List Put). HaveWritten new memory ps k.vars.arrays.log) (sym f) (wrote_kept old new g memory run.vars.puts k.vars.arrays.log k.vars.arrays.wrote);
+            are = λ a array. k.machine.arrays.are a array
+                ∙ same memory run.machine.cells run.vars.cells a k.machine.fits told k.machine.inside k.vars.inside k.machine.arrays.log k.vars.arrays.log k.machine.arrays.wrote k.vars.arrays.wrote;
+          };
+          file = n.machine.file;
+        };
+        vars = n.vars;
+      });
+}
+
+pub not_aligned : (old new : Classes) → Grows old new → (run : Run) → IsAligned old new run run
+not_aligned old new g run = record { grows = g; stands = λ memory s now k. stands_kept old new g run memory s now k }
 
 -- ---- agreement
 
@@ -105,17 +125,6 @@ module _ (run : Run) where
           (q memory s now (stands_kept first middle g run memory s now k));
     }
 
-  -- a number of the program's
-  pub number_agreed : (first last : Classes) (g : Grows first last) (facts : List Fact) (Y : List ℕ → ℕ) (b n : ℕ) (said : Bool) → facts ≡ run.facts
-      → ((memory : List ℕ) (s : State) (now : List ℕ) → Stands first run memory s now → Holds last memory b (Y now))
-      → (said ≡ true → HasNumber last facts b n) → IsAgreed run (λ s now. Y now ≡ n) first last said
-  number_agreed first last g facts Y b n said same q number = record {
-    grows = g;
-    holds = λ e memory s now k.
-        (let l = stands_kept first last g run memory s now k in
-        number_is last memory l.machine.fits b (Y now) n (q memory s now k) (number e memory (subst (AreFacts last memory) (sym same) l.facts)));
-  }
-
 -- one more cell
 pub alike_none : (address : ℕ) (s : State) (now : List ℕ) → AreCellsAlike address 0 s now
 alike_none address s now k lt = absurd (omega arith)
@@ -151,19 +160,17 @@ module _ (run : Run) (first middle last : Classes) (g : Grows first middle) (h :
       both_equal run first middle last g h facts same (λ s. mean expr s 0) (λ now. tree_value now tree) a b said
       (λ memory s now k. p memory s k.facts k.machine) (λ memory s now k. q memory now k.facts k.vars) equal
 
-pub number_equal : (run : Run) (first last : Classes) (g : Grows first last) (facts : List Fact) → facts ≡ run.facts → (address b n : ℕ) (said : Bool) → IsInCell first last facts run.vars address b
-    → (said ≡ true → HasNumber last facts b n) → IsAgreed run (λ s now. slice_index now address ≡ n) first last said
-number_equal run first last g facts same address b n said q number =
-    number_agreed run first last g facts (λ now. slice_index now address) b n said same
-    (λ memory s now k. q memory (memory_alone now) (subst (AreFacts first memory) (sym same) k.facts) k.vars) number
+-- a number of the program's
+pub number_equal : (run : Run) (first middle last : Classes) → Grows first middle → Grows middle last → (facts : List Fact) → facts ≡ run.facts → (width address n a b : ℕ) (said : Bool)
+    → IsNumber middle width n a → IsInCell middle last facts run.vars address b → (said ≡ true → AreEqualOf last facts a b) → IsAgreed run (λ s now. slice_index now address ≡ n) first last said
+number_equal run first middle last g h facts same width address n a b said p q equal =
+    agreed_as run (λ s now. n ≡ slice_index now address) (λ s now. slice_index now address ≡ n) first last said (λ s now e. sym e)
+    (both_equal run first middle last g h facts same (λ s. n) (λ now. slice_index now address) a b said
+    (λ memory s now k. (p memory).holds) (λ memory s now k. q memory (memory_alone now) (middle_facts run first middle last g h facts same memory s now k) k.vars) equal)
 
 pub if_yes : {E : Type 0} (r : Result Bool E) (P Q : Bool → Type 0) → ((x : Bool) → P x → Q x) → IfOk r P → IfOk r Q
 if_yes (Err e) P Q f h = tt
 if_yes (Ok x) P Q f h = f x h
-
-pub on_ok : {A : Type 0} {E : Type 0} (r : Result A E) (P Q : Type 0) → (P → Q) → OnOk r P → OnOk r Q
-on_ok (Err e) P Q f h = tt
-on_ok (Ok x) P Q f h = f h
 
 pub agreed_later : (run : Run) (Here : State → List ℕ → Type 0) (a b d : Classes) (said : Bool) → Grows a b → IsAgreed run Here b d said → IsAgreed run Here a d said
 agreed_later run Here a b d said g h = record { grows = grows_on a b d g h.grows; holds = λ e memory s now k. h.holds e memory s now (stands_kept a b g run memory s now k) }
@@ -190,3 +197,19 @@ found_as (Lost why) P Q f h = tt
 pub if_end : {E : Type 0} (r : Result End E) (P Q : ℕ → ℕ → Type 0) → ((address left : ℕ) → P address left → Q address left) → IfOk r (λ end. IfFound end P) → IfOk r (λ end. IfFound end Q)
 if_end (Err e) P Q f h = tt
 if_end (Ok end) P Q f h = found_as end P Q f h
+
+-- ---- hints
+
+pub hinted_all : (run : Run) (pool : List Node) (hint : Hint) (a b d e : Classes) (spots : List Spot) (holdings : List Holding) (numbers : List Numbered)
+    → spots ≡ hint.spots → holdings ≡ hint.holdings → numbers ≡ hint.numbers
+    → IsAgreed run (SpotsSeen pool spots) a b true → IsAgreed run (AllHeld pool holdings) b d true → IsAgreed run (λ s now. AllNumbered numbers now) d e true
+    → IsAgreed run (IsAsHinted pool hint) a e true
+hinted_all run pool hint a b d e spots holdings numbers seen held known first second third =
+    let later = agreed_on run (AllHeld pool holdings) (λ s now. AllNumbered numbers now) b d e true true refl second third in
+    let all = agreed_on run (SpotsSeen pool spots) (λ s now. AllHeld pool holdings s now × AllNumbered numbers now) a b e true true refl first later in
+    agreed_as run (λ s now. SpotsSeen pool spots s now × (AllHeld pool holdings s now × AllNumbered numbers now)) (IsAsHinted pool hint) a e true
+    (λ s now k. record {
+      seen = subst (λ (xs : List Spot). SpotsSeen pool xs s now) seen k.0;
+      holds = subst (λ (xs : List Holding). AllHeld pool xs s now) held k.1.0;
+      numbers = subst (λ (xs : List Numbered). AllNumbered xs now) known k.1.1;
+    }) all

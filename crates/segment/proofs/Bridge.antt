@@ -36,18 +36,19 @@ use Rattle.follow.specs.Paths.{Path}
 use Rattle.follow.specs.Relations.{AllHold, AllKnown, AreShownAs, Holding, IsRelated, IsSeenAs, IsShownAs, Known, Relation}
 use Rattle.follow.specs.Safe.{GoesToElement, AllReadElements, AreSafe, IsElement, IsLiteralOrElement, IsTestSafe, ReadsElements, base_in}
 use Rattle.follow.specs.Trails.{all_jobs}
-use Rattle.segment.specs.declared.hints.Hint.{Hint}
-use Rattle.segment.specs.declared.hints.Holding.{Holding as Held}
-use Rattle.segment.specs.declared.hints.Numbered.{Numbered}
-use Rattle.segment.specs.declared.hints.Spot.{Spot}
+use Rattle.mark_start.specs.declared.hints.Hint.{Hint}
+use Rattle.mark_start.specs.declared.hints.Holding.{Holding as Held}
+use Rattle.mark_start.specs.declared.hints.Numbered.{Numbered}
+use Rattle.mark_start.specs.declared.hints.Spot.{Spot}
 use Rattle.segment.specs.declared.run.Segment.{Segment}
 use Rattle.segment.specs.declared.way.End.{End}
 use Rattle.segment.specs.declared.way.End.TheVariants.{Lost, Mark}
 use Rattle.segment.specs.declared.way.Way.{Way}
 use Rattle.segment.specs.declared.way.Way.TheVariants.{Never, Takes, Unknown}
-use Rattle.segment.specs.Marked.{GoesIn, AllHeld, AllNumbered, AllReadArrays, AreReads, IsAddress, IsAsHinted, IsFirst, IsInArrayAt, ReadsArrays, SeenBy, SpotsSeen, SpotsWithin}
-use Rattle.segment.specs.Runs.{HasAnswer, IsAtMark, PathReads, TestReads}
-use Rattle.segment.specs.Proved.{ComesAt, IfFound, IsAtOne, IsBegun, IsDenied, IsProved, IsTaken, IsFoundWay}
+use Rattle.mark_start.specs.Marked.{GoesIn, AllHeld, AllNumbered, AllReadArrays, AreReads, IsAddress, IsAsHinted, IsFirst, IsInArrayAt, ReadsArrays, SeenBy, SpotsSeen, SpotsWithin}
+use Rattle.segment.specs.Runs.{HasAnswer, PathReads, TestReads}
+use Rattle.mark_start.specs.Runs.{IsAtMark}
+use Rattle.segment.specs.Proved.{ComesAt, IfFound, IsAtOne, IsBegun, IsDenied, IsFoundFirst, IsFoundWay, IsProved, IsTaken}
 use Rattle.segment.specs.Timed.{ArrivesIn, CrossesIn, IsAnswered, IsFirstWay, IsWay}
 use Rattle.segment.specs.Asked.{ArePlaces, AreArrays, AreHintsOf, AreSpots, IsAskedOf, IsHintOf, holding_of, known_of}
 
@@ -222,7 +223,7 @@ module _ (names : List (List ℕ)) (view : List ℕ → Option ExprModel) (pool 
   test_reads temps now jobs (Some test) h = λ job e. all_reads now job.trees (h job e).reads
 
   pub path_reads : (segment : Segment) (netlist : Netlist) (viewed : Viewed) (relation : ℕ → Relation) (temps : ℕ) (l : ProgramModel) (path : Path) → IsAskedOf netlist viewed relation m temps l path segment
-      → spots ≡ segment.from.now.spots → (cells : List ℕ) → AreSafe m temps vars cells path.jobs → IsTestSafe m temps vars (program_jobs m l) (label_of l path) (all_done path.jobs cells) → PathReads segment cells path.jobs
+      → spots ≡ segment.start.from.now.spots → (cells : List ℕ) → AreSafe m temps vars cells path.jobs → IsTestSafe m temps vars (program_jobs m l) (label_of l path) (all_done path.jobs cells) → PathReads segment cells path.jobs
   path_reads segment netlist viewed relation temps l path asked own cells safe asks =
       let now : List ℕ = all_done path.jobs cells in
       let to = test_reads temps now (program_jobs m l) segment.label (subst (λ label. IsTestSafe m temps vars (program_jobs m l) label now) asked.to asks) in
@@ -242,7 +243,7 @@ arrives_in : (segment : Segment) (netlist : Netlist) (viewed : Viewed) (relation
     → (now : List ℕ) (s : State) (address left : ℕ) → ComesAt netlist (words_of viewed.image) segment address left now s
     → ArrivesIn netlist viewed relation m segment.clocks (label_of l path) now (segment.clocks - left) address s
 arrives_in segment netlist viewed relation m temps l path asked now s address left c =
-    let x = arrived_at segment.pool.now c.last now viewed relation m l.vars address segment.label segment.hints.now asked.hints c.hinted in
+    let x = arrived_at segment.start.pool.now c.last now viewed relation m l.vars address segment.label segment.hints.now asked.hints c.hinted in
     let w = c.within in
     record {
       arrives = record {
@@ -260,7 +261,7 @@ arrives_in segment netlist viewed relation m temps l path asked now s address le
     }
 
 file_long : (segment : Segment) (netlist : Netlist) (viewed : Viewed) (relation : ℕ → Relation) (m : MemoryMap) (temps : ℕ) (l : ProgramModel) (path : Path) → IsAskedOf netlist viewed relation m temps l path segment
-    → (s : State) → IsState netlist s → segment.file_cells ≤ length s.file
+    → (s : State) → IsState netlist s → segment.start.file_cells ≤ length s.file
 file_long segment netlist viewed relation m temps l path asked s state =
     let long : length s.file ≡ size_in InFile netlist.storages = state.cells InFile in
     let count = asked.code.file_cells in
@@ -270,9 +271,9 @@ one_job : (jobs : List JobModel) (k : ℕ) (a b : JobModel) → slice_get jobs k
 one_job jobs k a b e f = cc
 
 module _ (segment : Segment) (netlist : Netlist) (viewed : Viewed) (relation : ℕ → Relation) (m : MemoryMap) (temps : ℕ) (l : ProgramModel) (path : Path) (asked : IsAskedOf netlist viewed relation m temps l path segment)
-    (from : IsHintOf viewed relation m l.vars segment.pool.now segment.from.now) (s : State) (cells : List ℕ)
-    (h : IsAnswered netlist viewed relation m temps l segment.from.now.address segment.test segment.answer s cells) where
-  marked : IsAtMark segment s cells
+    (from : IsHintOf viewed relation m l.vars segment.start.pool.now segment.start.from.now) (s : State) (cells : List ℕ)
+    (h : IsAnswered netlist viewed relation m temps l segment.start.from.now.address segment.test segment.start.answer s cells) where
+  marked : IsAtMark segment.start s cells
   marked =
       let t = asked.temps_are in
       let long : length s.cells ≡ memory_size netlist.storages = h.calm.here.state.cells InMemory in
@@ -281,18 +282,18 @@ module _ (segment : Segment) (netlist : Netlist) (viewed : Viewed) (relation : �
         fits = λ k. subst (λ w. slice_index cells k < 2 ^ w) (sym asked.word) (h.holds.words k);
         temps = (let b = h.holds.room.below in omega (arith, t, b));
         machine_temps = (let b = asked.room.below in omega (arith, t, b, long));
-        within = spots_within (hidden_in viewed segment.from.now.address) (view_at viewed.views segment.from.now.address) segment.pool.now temps (length cells) m.places segment.from.now.spots from.spots h.holds.room.within;
-        machine_within = spots_within (hidden_in viewed segment.from.now.address) (view_at viewed.views segment.from.now.address) segment.pool.now temps (length s.cells) m.places segment.from.now.spots from.spots
+        within = spots_within (hidden_in viewed segment.start.from.now.address) (view_at viewed.views segment.start.from.now.address) segment.start.pool.now temps (length cells) m.places segment.start.from.now.spots from.spots h.holds.room.within;
+        machine_within = spots_within (hidden_in viewed segment.start.from.now.address) (view_at viewed.views segment.start.from.now.address) segment.start.pool.now temps (length s.cells) m.places segment.start.from.now.spots from.spots
             (subst (λ n. LieWithin temps n m.places) (sym long) asked.room.within);
         file_there = file_long segment netlist viewed relation m temps l path asked s h.calm.here.state;
-        hinted = hinted segment.pool.now s cells viewed relation m l.vars segment.from.now from h.related;
+        hinted = hinted segment.start.pool.now s cells viewed relation m l.vars segment.start.from.now from h.related;
       }
 
   answered : HasAnswer segment cells
   answered other e =
-      subst (λ (j : JobModel). AllReadArrays segment.from.now.spots cells j.trees × AllAre (bit_of segment.answer) cells j.trees)
+      subst (λ (j : JobModel). AllReadArrays segment.start.from.now.spots cells j.trees × AllAre (bit_of segment.start.answer) cells j.trees)
       (one_job (program_jobs m l) segment.test h.job other h.is (ap (λ (js : List JobModel). slice_get js segment.test) (sym asked.jobs) ∙ e))
-      (all_reads (hidden_in viewed segment.from.now.address) (view_at viewed.views segment.from.now.address) segment.pool.now m l.vars segment.from.now.spots from.spots from.arrays asked.stand cells h.job.trees h.safe.reads, h.answers)
+      (all_reads (hidden_in viewed segment.start.from.now.address) (view_at viewed.views segment.start.from.now.address) segment.start.pool.now m l.vars segment.start.from.now.spots from.spots from.arrays asked.stand cells h.job.trees h.safe.reads, h.answers)
 
   denied_way : IsDenied segment → ⊥
   denied_way denied = denied netlist (words_of viewed.image) s cells asked.code h.calm.here.state marked answered
@@ -301,7 +302,7 @@ module _ (segment : Segment) (netlist : Netlist) (viewed : Viewed) (relation : �
       → IsTestSafe m temps l.vars (program_jobs m l) (label_of l path) (all_done path.jobs cells)
       → CrossesIn netlist viewed relation m segment.clocks (label_of l path) (all_done path.jobs cells) (segment.clocks - left + 1) address s
   crosses_in address left proved safe asks =
-      let reads = path_reads (hidden_in viewed segment.from.now.address) (view_at viewed.views segment.from.now.address) segment.pool.now m l.vars segment.from.now.spots from.spots from.arrays asked.stand
+      let reads = path_reads (hidden_in viewed segment.start.from.now.address) (view_at viewed.views segment.start.from.now.address) segment.start.pool.now m l.vars segment.start.from.now.spots from.spots from.arrays asked.stand
       segment netlist viewed relation temps l path asked refl cells safe asks in
       let c = proved netlist (words_of viewed.image) s cells path.jobs asked.code h.calm.here.state marked answered reads (ap (λ (js : List JobModel). all_jobs js segment.path.now) asked.jobs ∙ asked.path_is) in
       let a = arrives_in segment netlist viewed relation m temps l path asked (all_done path.jobs cells) c.after address left c.comes in
@@ -320,8 +321,8 @@ found_way segment (Mark address left) (Takes clocks to) t p = (left, t.1, subst 
 
 pub way_is : (segment : Segment) (way : Way) → IsFoundWay segment way
     → (netlist : Netlist) (viewed : Viewed) (relation : ℕ → Relation) (m : MemoryMap) (temps : ℕ) (l : ProgramModel) (path : Path)
-    → IsAskedOf netlist viewed relation m temps l path segment → IsHintOf viewed relation m l.vars segment.pool.now segment.from.now
-    → IsWay netlist viewed relation m temps l segment.clocks segment.from.now.address segment.test segment.answer path way
+    → IsAskedOf netlist viewed relation m temps l path segment → IsHintOf viewed relation m l.vars segment.start.pool.now segment.start.from.now
+    → IsWay netlist viewed relation m temps l segment.clocks segment.start.from.now.address segment.test segment.start.answer path way
 way_is segment (Unknown why) p netlist viewed relation m temps l path asked from = tt
 way_is segment Never p netlist viewed relation m temps l path asked from = λ s cells h. denied_way segment netlist viewed relation m temps l path asked from s cells h p
 way_is segment (Takes clocks to) p netlist viewed relation m temps l path asked from = λ s cells h safe asks.
@@ -334,18 +335,18 @@ none_seen : (s : State) (places : List Place) → AreShownAs [] (λ name. None) 
 none_seen s [] = tt
 none_seen s (place ∷ places) = (λ k lt. refl, none_seen s places)
 
-pub arrives_first : (segment : Segment) (address left : ℕ) → IsBegun segment address left → IsFirst segment.from.now → (netlist : Netlist) (viewed : Viewed) (relation : ℕ → Relation) (m : MemoryMap) (temps : ℕ) (l : ProgramModel) (path : Path)
-    → IsAskedOf netlist viewed relation m temps l path segment → ArePlaces m l.vars segment.pool.now segment.from.now.spots → memory_width netlist.storages ≡ m.word
+pub arrives_first : (segment : Segment) (address left : ℕ) → IsBegun segment address left → IsFirst segment.start.from.now → (netlist : Netlist) (viewed : Viewed) (relation : ℕ → Relation) (m : MemoryMap) (temps : ℕ) (l : ProgramModel) (path : Path)
+    → IsAskedOf netlist viewed relation m temps l path segment → ArePlaces m l.vars segment.start.pool.now segment.start.from.now.spots → memory_width netlist.storages ≡ m.word
     → (s : State) → IsCalm netlist 0 s → AreSafe m temps l.vars s.cells path.jobs → IsTestSafe m temps l.vars (program_jobs m l) (label_of l path) (all_done path.jobs s.cells)
     → ArrivesIn netlist viewed relation m segment.clocks (label_of l path) (all_done path.jobs s.cells) (segment.clocks - left) address s
 arrives_first segment address left begun first netlist viewed relation m temps l path asked places wide s calm safe asks =
-    let pool = segment.pool.now in
-    let spots = segment.from.now.spots in
+    let pool = segment.start.pool.now in
+    let spots = segment.start.from.now.spots in
     let t = asked.temps_are in
     let long : length s.cells ≡ memory_size netlist.storages = calm.here.state.cells InMemory in
     let b = asked.room.below in
     let within = spots_within [] (λ name. None) pool temps (length s.cells) m.places spots places.spots_are (subst (λ n. LieWithin temps n m.places) (sym long) asked.room.within) in
-    let mark : IsAtMark segment s s.cells = record {
+    let mark : IsAtMark segment.start s s.cells = record {
       counter = ap (slice_index s.regs) asked.code.counter ∙ calm.here.counter ∙ sym first.here;
       fits = λ k. subst (λ w. slice_index s.cells k < 2 ^ w) (wide ∙ sym asked.word) (calm.here.state.fits.cells InMemory k);
       temps = omega (arith, t, b, long);
@@ -363,15 +364,19 @@ arrives_first segment address left begun first netlist viewed relation m temps l
     arrives_in segment netlist viewed relation m temps l path asked (all_done path.jobs s.cells) s address left
     (begun netlist (words_of viewed.image) s s.cells path.jobs asked.code calm.here.state mark reads (ap (λ (js : List JobModel). all_jobs js segment.path.now) asked.jobs ∙ asked.path_is))
 
-pub first_way_is : (segment : Segment) (end : End) (way : Way) → IsTaken segment.clocks 0 end way → IfFound end (IsBegun segment) → IsFirst segment.from.now
+-- the way, by what is found of it
+pub found_first : (segment : Segment) (end : End) (way : Way) → IsTaken segment.clocks 0 end way → IfFound end (IsBegun segment) → IsFoundFirst segment way
+found_first segment end (Unknown why) t p = tt
+found_first segment end Never t p = absurd t
+found_first segment (Lost why) (Takes clocks to) t p = absurd t
+found_first segment (Mark address left) (Takes clocks to) t p = (left, (let e = t.1 in omega (arith, e)), subst (λ a. IsBegun segment a left) (sym t.0) p)
+
+pub first_way_is : (segment : Segment) (way : Way) → IsFoundFirst segment way → IsFirst segment.start.from.now
     → (netlist : Netlist) (viewed : Viewed) (relation : ℕ → Relation) (m : MemoryMap) (temps : ℕ) (l : ProgramModel) (path : Path)
-    → IsAskedOf netlist viewed relation m temps l path segment → ArePlaces m l.vars segment.pool.now segment.from.now.spots → memory_width netlist.storages ≡ m.word
+    → IsAskedOf netlist viewed relation m temps l path segment → ArePlaces m l.vars segment.start.pool.now segment.start.from.now.spots → memory_width netlist.storages ≡ m.word
     → IsFirstWay netlist viewed relation m temps l segment.clocks path way
-first_way_is segment end (Unknown why) t p first netlist viewed relation m temps l path asked places wide = tt
-first_way_is segment end Never t p first netlist viewed relation m temps l path asked places wide = absurd t
-first_way_is segment (Lost why) (Takes clocks to) t p first netlist viewed relation m temps l path asked places wide = absurd t
-first_way_is segment (Mark address left) (Takes clocks to) t p first netlist viewed relation m temps l path asked places wide = λ s calm safe asks.
-    let e = t.1 in
-    subst (λ a. ArrivesIn netlist viewed relation m segment.clocks (label_of l path) (all_done path.jobs s.cells) clocks a s) (sym t.0)
-    (subst (λ n. ArrivesIn netlist viewed relation m segment.clocks (label_of l path) (all_done path.jobs s.cells) n address s) (omega (arith, e))
-    (arrives_first segment address left p first netlist viewed relation m temps l path asked places wide s calm safe asks))
+first_way_is segment (Unknown why) p first netlist viewed relation m temps l path asked places wide = tt
+first_way_is segment Never p first netlist viewed relation m temps l path asked places wide = absurd p
+first_way_is segment (Takes clocks to) p first netlist viewed relation m temps l path asked places wide = λ s calm safe asks.
+    subst (λ n. ArrivesIn netlist viewed relation m segment.clocks (label_of l path) (all_done path.jobs s.cells) n to s) (sym p.1)
+    (arrives_first segment to p.0 p.2 first netlist viewed relation m temps l path asked places wide s calm safe asks)

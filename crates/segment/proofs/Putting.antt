@@ -18,20 +18,23 @@ use Rattle.tree_laws.specs.Classes.{Grows}
 use Rattle.tree_laws.specs.Equal.{memory_alone}
 use Rattle.sym_run.specs.declared.known.Cell.{Cell}
 use Rattle.sym_run.specs.declared.known.Put.{Put}
-use Rattle.sym_run.specs.declared.known.Fact.{Fact}
+use Rattle.class_values.specs.declared.facts.Fact.{Fact}
 use Rattle.sym_run.specs.declared.known.Known.{Known}
-use Rattle.sym_run.specs.Known.{AreFacts, Evaluates, HoldsOf, StandsFor}
+use Rattle.class_values.specs.Values.{AreFacts}
+use Rattle.sym_run.specs.Known.{Evaluates, HoldsOf, StandsFor}
 use Rattle.sym_run.specs.Moves.{AreNextCells, IsNextPut, IsWritten, NextCells, cell_for}
-use Rattle.sym_run.proofs.Keeping.{grows_on, grows_same, known_kept}
+use Rattle.class_values.proofs.Keeping.{grows_on, grows_same}
+use Rattle.sym_run.proofs.Keeping.{known_kept}
 use Rattle.sym_run.proofs.Writing.{set_cells}
 use Rattle.std.specs.Prelude.{IfSome}
 use Rattle.follow.specs.Trails.{all_jobs, one_more}
-use Rattle.segment.specs.declared.run.Run.{Run}
+use Rattle.mark_start.specs.declared.run.Run.{Run}
 use Rattle.segment.specs.declared.run.Segment.{Segment}
-use Rattle.segment.specs.Marked.{AllReadArrays, AreReads, GoesIn}
-use Rattle.segment.specs.Runs.{AreDone, IsDone, IsGathered, IsOverPath, IsPut, IsPutIn, Stands, TestReads}
-use Rattle.segment.proofs.Learning.{gathered_as, stands_kept}
-use Rattle.segment.proofs.Places.{write_arrays}
+use Rattle.mark_start.specs.Marked.{AllReadArrays, AreReads, GoesIn}
+use Rattle.segment.specs.Runs.{AreDone, IsDone, IsOverPath, IsPut, IsPutIn, TestReads}
+use Rattle.mark_start.specs.Runs.{IsGathered, Stands}
+use Rattle.mark_start.proofs.Learning.{gathered_as, stands_kept}
+use Rattle.mark_start.proofs.Places.{write_arrays}
 
 -- ---- one job
 
@@ -92,13 +95,13 @@ put_numbered old new facts known job tree first puts width address e h = record 
 module _ (segment : Segment) where
   -- the addresses of a job's trees, and then its value
   pub after_put : (job : JobModel) (trees : List ExprModel) → trees ≡ job.trees → (a b d : Classes) (run next : Run) (facts : List Fact) (cells : List Cell)
-      → IsGathered segment (λ now. AllReadArrays segment.from.now.spots now trees × GoesIn segment.from.now.spots now job.destination) a b run next → facts ≡ next.facts → IsPut job b d facts next.vars cells
+      → IsGathered segment.start (λ now. AllReadArrays segment.start.from.now.spots now trees × GoesIn segment.start.from.now.spots now job.destination) a b run next → facts ≡ next.facts → IsPut job b d facts next.vars cells
       → IsDone segment job a d run (record { facts = next.facts; machine = next.machine; vars = record { regs = next.vars.regs; cells = cells; inside = next.vars.inside; puts = next.vars.puts; file = next.vars.file } })
   after_put job trees same a b d run next facts cells gathered own p = record {
     grows = grows_on a b d gathered.grows p.grows;
-    arrays = λ k. (let n = gathered.arrays k in record { machine = n.machine; vars = p.arrays segment.from.now.spots n.vars });
+    arrays = λ k. (let n = gathered.arrays k in record { machine = n.machine; vars = p.arrays segment.start.from.now.spots n.vars });
     stands = λ memory s now reads k w.
-        (let x = gathered.stands memory s now (subst (λ (xs : List ExprModel). AllReadArrays segment.from.now.spots now xs) (sym same) reads.0, reads.1) k w in
+        (let x = gathered.stands memory s now (subst (λ (xs : List ExprModel). AllReadArrays segment.start.from.now.spots now xs) (sym same) reads.0, reads.1) k w in
         let y = stands_kept b d p.grows next memory s now x in
         let n = p.cells memory now (subst (AreFacts b memory) (sym own) x.facts) x.vars in
         record {
@@ -109,13 +112,13 @@ module _ (segment : Segment) where
   }
 
   pub after_element : (job : JobModel) (trees : List ExprModel) → trees ≡ job.trees → (a b d : Classes) (run next : Run) (facts : List Fact) (puts : List Put)
-      → IsGathered segment (λ now. AllReadArrays segment.from.now.spots now trees × GoesIn segment.from.now.spots now job.destination) a b run next → facts ≡ next.facts → Grows b d → IsPutIn job b d facts next.vars puts
+      → IsGathered segment.start (λ now. AllReadArrays segment.start.from.now.spots now trees × GoesIn segment.start.from.now.spots now job.destination) a b run next → facts ≡ next.facts → Grows b d → IsPutIn job b d facts next.vars puts
       → IsDone segment job a d run (record { facts = next.facts; machine = next.machine; vars = record { regs = next.vars.regs; cells = next.vars.cells; inside = next.vars.inside; puts = puts; file = next.vars.file } })
   after_element job trees same a b d run next facts puts gathered own g p = record {
     grows = grows_on a b d gathered.grows g;
     arrays = λ k. (let n = gathered.arrays k in record { machine = n.machine; vars = n.vars });
     stands = λ memory s now reads k w.
-        (let x = gathered.stands memory s now (subst (λ (xs : List ExprModel). AllReadArrays segment.from.now.spots now xs) (sym same) reads.0, reads.1) k w in
+        (let x = gathered.stands memory s now (subst (λ (xs : List ExprModel). AllReadArrays segment.start.from.now.spots now xs) (sym same) reads.0, reads.1) k w in
         let y = stands_kept b d g next memory s now x in
         let n = p.cells memory now (subst (AreFacts b memory) (sym own) x.facts) x.vars in
         record {
@@ -156,7 +159,7 @@ module _ (segment : Segment) where
     stands = λ memory s now later e r k w.
         (let jobs = models_of_jobs segment.jobs.now in
         let v = split_later (slice_get jobs x) (model_of_job job) (all_jobs jobs rest) later (job_there segment.jobs.now x job there) e in
-        let reads = subst (λ (l : List JobModel). AreReads segment.from.now.spots now l) v.2 r in
+        let reads = subst (λ (l : List JobModel). AreReads segment.start.from.now.spots now l) v.2 r in
         subst (λ (l : List JobModel). Stands d last memory s (all_done l now)) (sym v.2)
         (more.stands memory s (done (model_of_job job) now) v.0 v.1 reads.1 (first.arrays k) (first.stands memory s now reads.0 k w)));
   }
@@ -165,18 +168,18 @@ module _ (segment : Segment) where
 
 module _ (segment : Segment) where
   abbrev Asks : List ℕ → Type 0
-  Asks now = TestReads segment.from.now.spots (models_of_jobs segment.jobs.now) segment.label now
+  Asks now = TestReads segment.start.from.now.spots (models_of_jobs segment.jobs.now) segment.label now
 
   -- what a test reads is that of its job
   pub test_gathered : (x : ℕ) (job : Job) (trees : List ExprModel) → segment.label ≡ Some x → slice_get segment.jobs.now x ≡ Some job → trees ≡ (model_of_job job).trees → (a b : Classes) (run next : Run)
-      → IsGathered segment (λ now. AllReadArrays segment.from.now.spots now trees) a b run next → IsGathered segment Asks a b run next
+      → IsGathered segment.start (λ now. AllReadArrays segment.start.from.now.spots now trees) a b run next → IsGathered segment.start Asks a b run next
   test_gathered x job trees labelled there same a b run next h =
-      gathered_as segment (λ now. AllReadArrays segment.from.now.spots now trees) Asks a b run next
+      gathered_as segment.start (λ now. AllReadArrays segment.start.from.now.spots now trees) Asks a b run next
       (λ now asks.
-      subst (λ (xs : List ExprModel). AllReadArrays segment.from.now.spots now xs) (sym same)
-      (subst (λ o. TestReads segment.from.now.spots (models_of_jobs segment.jobs.now) o now) labelled asks (model_of_job job) (job_there segment.jobs.now x job there))) h
+      subst (λ (xs : List ExprModel). AllReadArrays segment.start.from.now.spots now xs) (sym same)
+      (subst (λ o. TestReads segment.start.from.now.spots (models_of_jobs segment.jobs.now) o now) labelled asks (model_of_job job) (job_there segment.jobs.now x job there))) h
 
-  pub over_path : (a b d : Classes) (run next last : Run) → AreDone segment segment.path.now a b run next → IsGathered segment Asks b d next last → IsOverPath segment a d run last
+  pub over_path : (a b d : Classes) (run next last : Run) → AreDone segment segment.path.now a b run next → IsGathered segment.start Asks b d next last → IsOverPath segment a d run last
   over_path a b d run next last jobs test = record {
     grows = grows_on a b d jobs.grows test.grows;
     stands = λ memory s now later e r k w. test.stands memory s (all_done later now) r.1 (jobs.arrays k) (jobs.stands memory s now later e r.0 k w);

@@ -24,12 +24,12 @@ use Rattle.follow.specs.Followed.{label_of}
 use Rattle.follow.specs.Paths.{Path}
 use Rattle.follow.specs.Relations.{Holding, Known, Relation}
 use Rattle.follow.specs.Trails.{all_jobs}
-use Rattle.segment.specs.declared.hints.Hint.{Hint}
-use Rattle.segment.specs.declared.hints.Holding.{Holding as Held}
-use Rattle.segment.specs.declared.hints.Numbered.{Numbered}
-use Rattle.segment.specs.declared.hints.Spot.{Spot}
+use Rattle.mark_start.specs.declared.hints.Hint.{Hint}
+use Rattle.mark_start.specs.declared.hints.Holding.{Holding as Held}
+use Rattle.mark_start.specs.declared.hints.Numbered.{Numbered}
+use Rattle.mark_start.specs.declared.hints.Spot.{Spot}
 use Rattle.segment.specs.declared.run.Segment.{Segment}
-use Rattle.segment.specs.Proved.{IsCode}
+use Rattle.mark_start.specs.Runs.{IsCode}
 
 -- ---- hints
 
@@ -82,14 +82,14 @@ pub record ArePlaces (m : MemoryMap) (vars : List Declared) (pool : List Node) (
 pub record IsAskedOf (netlist : Netlist) (viewed : Viewed) (relation : ℕ → Relation) (m : MemoryMap) (temps : ℕ)
     (l : ProgramModel)
     (path : Path) (segment : Segment) : Type 0 where
-  pub code : IsCode netlist (words_of viewed.image) segment
+  pub code : IsCode netlist (words_of viewed.image) segment.start
   pub modeless : netlist.special ≡ None
-  pub word : segment.word ≡ m.word
-  pub temps_are : segment.temps ≡ temps
+  pub word : segment.start.word ≡ m.word
+  pub temps_are : segment.start.temps ≡ temps
   pub stand : StandFor m.places l.vars
   pub room : HasCellRoom temps m (memory_size netlist.storages)
   pub marks : (a : ℕ) → is_mark segment.marks.now a ≡ false → label_at viewed.image.marks a ≡ None
-  pub hints : AreHintsOf viewed relation m l.vars segment.pool.now segment.hints.now
+  pub hints : AreHintsOf viewed relation m l.vars segment.start.pool.now segment.hints.now
   pub jobs : models_of_jobs segment.jobs.now ≡ program_jobs m l
   pub path_is : all_jobs (program_jobs m l) segment.path.now ≡ Some path.jobs
   pub to : label_of l path ≡ Some (checkpoint_of segment.label)

@@ -1,5 +1,5 @@
-pub mod Marked
 pub mod Runs
+pub mod Copied
 pub mod Proved
 pub mod Asked
 pub mod Timed

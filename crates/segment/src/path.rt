@@ -3,13 +3,16 @@
 ghost use Rattle.std.specs.Prelude.{◌≡◌, true, IfOk, IfSome, OnOk, option_copied, slice_get};
 ghost use Rattle.tree_laws.specs.Classes.{Grows};
 ghost use Rattle.src_trees.specs.Jobs.{model_of_job, models_of_jobs};
-ghost use Rattle.segment.specs.Runs.{AreDone, IsDone, IsGathered, IsOverPath, IsPut, IsPutIn, TestReads};
+ghost use Rattle.segment.specs.Runs.{AreDone, IsDone, IsOverPath, IsPut, IsPutIn, TestReads};
+ghost use Rattle.mark_start.specs.Runs.{IsGathered};
 
-use crate::run::{Run, Segment};
+use crate::run::Segment;
+use class_values::{Fact, number_of};
 use form_model::{Aim, Job};
+use mark_start::Run;
 use rec_bits::{Items, NoMemory};
 use std::alloc::Global;
-use sym_run::{Cell, Fact, Known, Put, Store, number_of, written};
+use sym_run::{Cell, Known, Put, Store, written};
 use tree_laws::Classes;
 
 // The job of a number.
@@ -88,14 +91,14 @@ impl Segment<'_> {
     ) -> Result<bool, NoMemory>
         ensures { IfOk result (λ could. could ≡ true → IsDone self.now (model_of_job job.now) table.old table.new run.old run.new) }
     {
-        self.all_elements(table, run, job.trees.as_slice())?;
-        self.aim_elements(table, run, &job.aim)?;
+        self.start.all_elements(table, run, job.trees.as_slice())?;
+        self.start.aim_elements(table, run, &job.aim)?;
         let elements = put_in_array(
             alloc,
             table,
             run.facts.as_slice(),
             &run.vars,
-            self.addr,
+            self.start.addr,
             job,
         )?;
         if let Some(puts) = elements {
@@ -133,7 +136,7 @@ impl Segment<'_> {
 
     // The addresses of arrays in the test at the path's end.
     fn test_elements(&self, table: &mut Classes, run: &mut Run) -> Result<(), NoMemory>
-        ensures { OnOk result (IsGathered self.now (TestReads self.now.from.now.spots (models_of_jobs self.now.jobs.now) self.now.label)
+        ensures { OnOk result (IsGathered self.now.start (TestReads self.now.start.from.now.spots (models_of_jobs self.now.jobs.now) self.now.label)
             table.old table.new run.old run.new) }
     {
         let Some(number) = self.label else {
@@ -142,7 +145,7 @@ impl Segment<'_> {
         let Some(job) = job_at(self.jobs, number) else {
             return Ok(());
         };
-        self.all_elements(table, run, job.trees.as_slice())
+        self.start.all_elements(table, run, job.trees.as_slice())
     }
 
     // Does the jobs of the path, and gathers what the test at its end reads.

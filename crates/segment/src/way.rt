@@ -1,6 +1,8 @@
 //! What is found of the words behind a mark.
 
+ghost use Rattle.std.specs.Prelude.{◌≡◌, if◌then◌else◌};
 ghost use Rattle.segment.specs.Proved.{IsTaken};
+ghost use Rattle.segment.specs.declared.way.Why.{Why as TheWhy};
 
 /// Where words lead from a mark, where its test has an answer, or from the first word.
 #[derive(Clone, Copy, PartialEq, Eq)]
@@ -16,6 +18,8 @@ pub enum Way {
 /// Why it isn't known where words lead.
 #[derive(Clone, Copy, PartialEq, Eq)]
 pub enum Why {
+    /// More expressions than are taken on lie between the mark and the next.
+    Full,
     /// There is no job of the test's number.
     Test,
     /// An array isn't shown in its place at the mark from which they lead.
@@ -47,9 +51,11 @@ pub(crate) enum End {
     Lost(Why),
 }
 
-// The way to an end, which took the clocks that aren't left of the most, and some first ones.
-pub(crate) fn way_to(end: End, most: u64, first: u64) -> Way
-    ensures { IsTaken most first end result }
+// The way to an end, which took the clocks that aren't left of the most, and some first ones. Where
+// the table is full, that is why a mark isn't known.
+pub(crate) fn way_to(end: End, is_full: bool, most: u64, first: u64) -> Way
+    ensures taken { IsTaken most first end result }
+    ensures lost { (why : TheWhy) → end ≡ End.Lost why → result ≡ Way.Unknown (if is_full then Why.Full else why) }
 {
     match end {
         End::Mark { address, left } => match most.saturating_sub(left).checked_add(first) {
@@ -59,6 +65,7 @@ pub(crate) fn way_to(end: End, most: u64, first: u64) -> Way
             },
             None => Way::Unknown(Why::Clocks),
         },
+        End::Lost(_) if is_full => Way::Unknown(Why::Full),
         End::Lost(why) => Way::Unknown(why),
     }
 }

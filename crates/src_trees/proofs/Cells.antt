@@ -42,7 +42,7 @@ set_past k [] x le = refl
 set_past zero (c ∷ cells) x le = absurd (omega arith)
 set_past (suc k) (c ∷ cells) x le = ap (λ (xs : List ℕ). c ∷ xs) (set_past k cells x (omega arith))
 
-abbrev IsOutside : VariablePlace → ℕ → Type 0
+abbrev pub IsOutside : VariablePlace → ℕ → Type 0
 IsOutside p k = (k < p.address) ⊎ (p.address + p.len ≤ k)
 
 part_outside : (p : VariablePlace) (k : ℕ) (cells : List ℕ) (x : ℕ) → IsOutside p k → cells_of_place p (slice_set cells k x) ≡ cells_of_place p cells
@@ -78,7 +78,7 @@ base_within first end (p ∷ places) (u ∷ vars) name v s w e =
     by more false true q e = absurd (cc)
 
 -- and its cells are none of a place that is alone
-base_outside : (p : VariablePlace) (places : List VariablePlace) (vars : List Declared) (name : List ℕ) (v : Declared) (i : ℕ) → StandFor places vars → IsAlone p places → declared vars name ≡ Some v → i < cells_in v
+pub base_outside : (p : VariablePlace) (places : List VariablePlace) (vars : List Declared) (name : List ℕ) (v : Declared) (i : ℕ) → StandFor places vars → IsAlone p places → declared vars name ≡ Some v → i < cells_in v
     → IsOutside p (base_of places name + i)
 base_outside p [] [] name v i s h e lt = absurd (cc e)
 base_outside p [] (u ∷ vars) name v i s h e lt = absurd s

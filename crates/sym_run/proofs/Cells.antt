@@ -5,16 +5,17 @@ use Rattle.sym_expr.specs.declared.pool.Node.TheVariants.{Read}
 use Rattle.tree_laws.specs.declared.classes.Classes.{Classes}
 use Rattle.tree_laws.specs.Classes.{Grows, NodeStands, TableMeans, width_in}
 use Rattle.sym_run.specs.declared.known.Element.{Element}
-use Rattle.sym_run.specs.declared.known.Fact.{Fact}
+use Rattle.class_values.specs.declared.facts.Fact.{Fact}
 use Rattle.sym_run.specs.declared.known.Known.{Known}
 use Rattle.sym_run.specs.declared.known.Cell.{Cell}
 use Rattle.sym_run.specs.declared.known.Cell.TheVariants.{Kept, Array, Is}
-use Rattle.sym_run.specs.Known.{AreFacts, AreInside, AreSame, CellStands, HasNumber, Holds, HoldsOf, StandsFor, cell_at, cell_of, entry, entry_of}
+use Rattle.class_values.specs.Values.{AreFacts, AreSame, HasNumber, Holds}
+use Rattle.sym_run.specs.Known.{AreInside, CellStands, HoldsOf, StandsFor, cell_at, cell_of, entry, entry_of}
 use Rattle.sym_run.specs.Reading.{IsCell}
 use Rattle.sym_run.specs.Inner.Reading.{IsAlias, IsFileCell, IsOfWidth, IsReg}
-use Rattle.sym_run.proofs.Grown.{stands_below, stands_width}
-use Rattle.sym_run.proofs.Keeping.{grows_same, holds_kept}
-use Rattle.sym_run.proofs.Made.{same_holds}
+use Rattle.class_values.proofs.Grown.{stands_below, stands_width}
+use Rattle.class_values.proofs.Keeping.{grows_same, holds_kept}
+use Rattle.class_values.proofs.Made.{same_holds}
 
 pub has_at : (t : Classes) (class : ℕ) (elements : List Element) (k : ℕ) (d : Element) → k < length elements → AreSame t class (get_or elements k d).class → IsAlias t elements class (get_or elements k d).like
 has_at t class [] k d l s = absurd (omega arith)

@@ -10,14 +10,15 @@ use Rattle.net_model.specs.Exprs.{ExprModel, cell, word, reg, const, read, un, b
 use Rattle.net_model.specs.Meaning.{mean}
 use Rattle.tree_laws.specs.declared.classes.Classes.{Classes}
 use Rattle.tree_laws.specs.Classes.{Grows, TableMeans}
-use Rattle.sym_run.specs.declared.known.Fact.{Fact}
+use Rattle.class_values.specs.declared.facts.Fact.{Fact}
 use Rattle.sym_run.specs.declared.known.Known.{Known}
-use Rattle.sym_run.specs.Known.{AreFacts, Evaluates, HasNumber, HoldsWide, StandsFor}
+use Rattle.class_values.specs.Values.{AreFacts, HasNumber, HoldsWide, IsNumber}
+use Rattle.sym_run.specs.Known.{Evaluates, StandsFor}
 use Rattle.sym_run.specs.Reading.{IsCell}
-use Rattle.sym_run.specs.Values.{IsNumber}
-use Rattle.sym_run.specs.Inner.Values.{IsBin, IsSext, IsSlice, IsUn, IsZext}
+use Rattle.class_values.specs.Operators.{IsBin, IsSext, IsSlice, IsUn, IsZext}
 use Rattle.sym_run.specs.Inner.Reading.{IsFileCell, IsReg}
-use Rattle.sym_run.proofs.Keeping.{facts_kept, known_kept, wide_kept}
+use Rattle.class_values.proofs.Keeping.{facts_kept, wide_kept}
+use Rattle.sym_run.proofs.Keeping.{known_kept}
 use Rattle.sym_run.proofs.Cells.{one_value}
 
 module _ (facts : List Fact) (known : Known) (i : ℕ) where

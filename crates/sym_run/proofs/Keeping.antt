@@ -1,59 +1,36 @@
 -- What is known stays known when the table grows.
-use Rattle.std.proofs.Common.{ℕ, ◌<◌, List, [], ◌∷◌, ◌∙◌, ◌^◌, sym, subst, refl, Option, Some, None, slice_index, arith}
+use Rattle.std.proofs.Common.{ℕ, ◌<◌, List, [], ◌∷◌, ◌^◌, sym, subst, Option, Some, None, slice_index}
 use Rattle.net_model.specs.declared.states.State.{State}
 use Rattle.tree_laws.specs.declared.classes.Classes.{Classes}
 use Rattle.tree_laws.specs.Classes.{Grows}
 use Rattle.sym_run.specs.declared.known.Element.{Element}
-use Rattle.sym_run.specs.declared.known.Fact.{Fact}
 use Rattle.sym_run.specs.declared.known.Known.{Known}
 use Rattle.sym_run.specs.declared.known.Put.{Put}
 use Rattle.sym_run.specs.declared.known.Cell.{Cell}
 use Rattle.sym_run.specs.declared.known.Cell.TheVariants.{Unknown, Kept, Array, Is}
-use Rattle.sym_run.specs.Known.{ArraysStand, HaveWritten, Wrote, AreFacts, AreInside, CellStands, FileStands, Holds, HoldsOf, HoldsWide, StandsFor, cell_at, entry}
-use Rattle.sym_run.proofs.Grown.{value_kept}
-
-pub grows_same : (t : Classes) → Grows t t
-grows_same t = record { bits = refl; longer = omega arith; widths = λ c h. refl; heads = λ c h. refl; listed = λ node c e. e }
-
-pub grows_on : (a b d : Classes) → Grows a b → Grows b d → Grows a d
-grows_on a b d g h = record {
-  bits = h.bits ∙ g.bits;
-  longer = omega (arith, g.longer, h.longer);
-  widths = λ c l. h.widths c (omega (arith, l, g.longer)) ∙ g.widths c l;
-  heads = λ c l. h.heads c (omega (arith, l, g.longer)) ∙ g.heads c l;
-  listed = λ node c e. h.listed node c (g.listed node c e);
-}
+use Rattle.sym_run.specs.Known.{ArraysStand, HaveWritten, Wrote, AreInside, CellStands, FileStands, HoldsOf, StandsFor, cell_at, entry}
+use Rattle.class_values.proofs.Keeping.{holds_kept}
 
 module _ (old new : Classes) (g : Grows old new) (memory : List ℕ) where
-  pub holds_kept : (c n : ℕ) → Holds old memory c n → Holds new memory c n
-  holds_kept c n h = record { below = omega (arith, h.below, g.longer); value = value_kept old new g memory c n h.below h.value }
-
-  pub wide_kept : (c w n : ℕ) → HoldsWide old memory c w n → HoldsWide new memory c w n
-  wide_kept c w n h = record { holds = holds_kept c n h.holds; width = g.widths c h.holds.below ∙ h.width }
-
   pub of_kept : (o : Option ℕ) (n : ℕ) → HoldsOf old memory o n → HoldsOf new memory o n
   of_kept None n h = tt
-  of_kept (Some c) n h = holds_kept c n h
-
-  pub facts_kept : (facts : List Fact) → AreFacts old memory facts → AreFacts new memory facts
-  facts_kept [] h = tt
-  facts_kept (fact ∷ facts) h = (holds_kept fact.class fact.number h.0, facts_kept facts h.1)
+  of_kept (Some c) n h = holds_kept old new g memory c n h
 
   pub cell_kept : (cell : Cell) (n was : ℕ) → CellStands old memory cell n was → CellStands new memory cell n was
   cell_kept Unknown n was h = tt
   cell_kept Kept n was h = h
   cell_kept Array n was h = tt
-  cell_kept (Is c) n was h = holds_kept c n h
+  cell_kept (Is c) n was h = holds_kept old new g memory c n h
 
   pub inside_kept : (cells : List Cell) (elements : List Element) → AreInside old memory cells elements → AreInside new memory cells elements
   inside_kept cells [] h = tt
-  inside_kept cells (e ∷ es) h = (record { address = h.0.address; holds = holds_kept e.class h.0.address h.0.holds; alike = holds_kept e.like h.0.address h.0.alike; array = h.0.array; behind = h.0.behind; within = h.0.within }, inside_kept cells es h.1)
+  inside_kept cells (e ∷ es) h = (record { address = h.0.address; holds = holds_kept old new g memory e.class h.0.address h.0.holds; alike = holds_kept old new g memory e.like h.0.address h.0.alike; array = h.0.array; behind = h.0.behind; within = h.0.within }, inside_kept cells es h.1)
 
   pub wrote_kept : (puts : List Put) (log : List Wrote) → HaveWritten old memory puts log → HaveWritten new memory puts log
   wrote_kept [] [] h = tt
   wrote_kept [] (x ∷ log) h = absurd h
   wrote_kept (p ∷ puts) [] h = absurd h
-  wrote_kept (p ∷ puts) (x ∷ log) h = (holds_kept p.address x.address h.0, holds_kept p.value x.value h.1, wrote_kept puts log h.2)
+  wrote_kept (p ∷ puts) (x ∷ log) h = (holds_kept old new g memory p.address x.address h.0, holds_kept old new g memory p.value x.value h.1, wrote_kept puts log h.2)
 
   pub arrays_kept : (cells : List Cell) (puts : List Put) (held : List ℕ) → ArraysStand old memory cells puts held → ArraysStand new memory cells puts held
   arrays_kept cells puts held h = record { log = h.log; wrote = wrote_kept puts h.log h.wrote; are = h.are }

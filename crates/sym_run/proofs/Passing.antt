@@ -1,37 +1,34 @@
 -- What arrays' cells hold behind writes.
 use Rattle.std.proofs.Common.{◌≡◌, ◌≢◌, ◌==◌, if◌then◌else◌, ◌⊎◌, inl, inr, ℕ, ◌+◌, ◌-◌, ◌*◌, ◌/◌, ◌%◌, ◌^◌, ◌<◌, ◌≤◌, List, [], ◌∷◌, length, get_or, zero, suc, Some, ◌∙◌, sym, ap, refl, subst, slice_get, slice_index, arith, eq-eqb}
-use Rattle.std.proofs.Math.Bridge.{le_prop}
 use Rattle.std.proofs.Math.Logic.{∥∥₁_elim}
-use Rattle.std.proofs.Math.Nat.{ℕ_set, add-mod-mod, add-mod_right, add-mul-mod_self_left, div-add-mod, mod-add-mod, mod-eq_of_lt, mod-lt}
+use Rattle.std.proofs.Math.Nat.{ℕ_set, add-mod_right, add-mul-mod_self_left, div-add-mod, mod-add-mod, mod-eq_of_lt, mod-lt}
 use Rattle.std.proofs.lemmas.Bool.{cases_eq, ne_eqb}
 use Rattle.std.proofs.lemmas.Nat.{pow_pos}
-use Rattle.rec_bits.specs.declared.operator.Op2.TheVariants.{Add, Sub, Mul, Eq}
-use Rattle.rec_bits.specs.Operators.{apply2_of, bit_of}
+use Rattle.rec_bits.specs.declared.operator.Op2.TheVariants.{Eq}
+use Rattle.rec_bits.specs.Operators.{bit_of}
 use Rattle.sym_expr.specs.declared.pool.Node.TheVariants.{Read}
+use Rattle.net_model.specs.declared.states.State.{State}
 use Rattle.tree_laws.specs.declared.classes.Classes.{Classes}
-use Rattle.tree_laws.specs.Classes.{Grows, NodeStands, cell_bits, class_count, width_in}
-use Rattle.tree_laws.specs.Equal.{CellsFit}
+use Rattle.tree_laws.specs.Classes.{Grows, NodeStands, width_in}
 use Rattle.sym_run.specs.declared.known.Cell.TheVariants.{Array}
 use Rattle.sym_run.specs.declared.known.Element.{Element}
-use Rattle.sym_run.specs.declared.known.Fact.{Fact}
+use Rattle.class_values.specs.declared.facts.Fact.{Fact}
 use Rattle.sym_run.specs.declared.known.Known.{Known}
 use Rattle.sym_run.specs.declared.known.Put.{Put}
-use Rattle.sym_run.specs.Known.{AreSame, HasNumber, Holds, HoldsWide, cell_at, cell_of}
+use Rattle.class_values.specs.Values.{AreFacts, AreSame, HasNumber, Holds, HoldsWide}
+use Rattle.sym_run.specs.Known.{StandsFor, cell_at, cell_of}
 use Rattle.sym_run.specs.Reading.{IsCell}
 use Rattle.sym_run.specs.Inner.Reading.{IsAlias, IsListedAs, IsOfWidth}
-use Rattle.sym_run.specs.Inner.Passed.{AreApart, ArePassed, IsChosen, IsElementAt, IsOffset, IsPassed, IsRange}
-use Rattle.sym_run.specs.Inner.Values.{IsBin, IsSum, IsZext}
+use Rattle.class_values.specs.Operators.{IsOffset, IsBin}
+use Rattle.sym_run.specs.Inner.Passed.{AreApart, ArePassed, IsChosen, IsLeftAt, IsPassed, IsRange}
 use Rattle.sym_run.proofs.Cells.{find_inside}
-use Rattle.sym_run.proofs.Grown.{stands_below, stands_width}
-use Rattle.sym_run.proofs.Keeping.{facts_kept, holds_kept, inside_kept, wide_kept, wrote_kept}
-use Rattle.sym_run.proofs.Made.{same_holds}
+use Rattle.class_values.proofs.Grown.{stands_below, stands_width}
+use Rattle.class_values.proofs.Keeping.{facts_kept, holds_kept, wide_kept}
+use Rattle.sym_run.proofs.Keeping.{inside_kept, wrote_kept}
+use Rattle.class_values.proofs.Made.{same_holds}
 use Rattle.sym_run.proofs.Writing.{number_is}
 
 -- ---- numbers
-
-pub value_fits : (t : Classes) (memory : List ℕ) → CellsFit (cell_bits t) memory → (c w n : ℕ) → HoldsWide t memory c w n → n < 2 ^ w
-value_fits t memory fits c w n h = ∥∥₁_elim t.meanings le_prop (λ m. let x = m memory fits in
-    subst (λ k. k < 2 ^ w) (h.holds.value x.0 x.1) (subst (λ u. slice_index x.0 c < 2 ^ u) h.width (x.1.values c h.holds.below)))
 
 -- the number added is told from the sum
 from_sum : (b n w : ℕ) → 0 < w → n < w → ((b + n) % w + (w - b % w)) % w ≡ n
@@ -43,19 +40,6 @@ from_sum b n w pos less =
 
 same_number : (b n k w : ℕ) → 0 < w → n < w → k < w → (b + n) % w ≡ (b + k) % w → n ≡ k
 same_number b n k w pos p q e = sym (from_sum b n w pos p) ∙ ap (λ z. (z + (w - b % w)) % w) e ∙ from_sum b k w pos q
-
-one_chosen : (w v x : ℕ) → v < 2 ^ w → x < 2 ^ w → apply2_of Add w x (apply2_of Mul w 1 (apply2_of Sub w v x)) ≡ v
-one_chosen w v x p q =
-    let d = (v + 2 ^ w - x) % 2 ^ w in
-    let e : 1 * d ≡ d = omega arith in
-    let s : x + (v + 2 ^ w - x) ≡ v + 2 ^ w = omega (arith, q) in
-    add-mod-mod x (1 * d) (2 ^ w) ∙ ap (λ z. (x + z) % 2 ^ w) e ∙ add-mod-mod x (v + 2 ^ w - x) (2 ^ w) ∙ ap (λ z. z % 2 ^ w) s ∙ add-mod_right v (2 ^ w) ∙ mod-eq_of_lt p
-
-none_chosen : (w v x : ℕ) → x < 2 ^ w → apply2_of Add w x (apply2_of Mul w 0 (apply2_of Sub w v x)) ≡ x
-none_chosen w v x q =
-    let d = (v + 2 ^ w - x) % 2 ^ w in
-    let e : x + 0 * d ≡ x = omega arith in
-    add-mod-mod x (0 * d) (2 ^ w) ∙ ap (λ z. z % 2 ^ w) e ∙ mod-eq_of_lt q
 
 -- ---- addresses that differ
 
@@ -91,21 +75,6 @@ module _ (t : Classes) (facts : List Fact) where
       let m = y.1 in
       absurd (omega (arith, l, m, o, e))
 
-  pub sum_offset : (class w base by n : ℕ) → IsSum t facts class w base by n → IsOffset t facts class w base n
-  sum_offset class w base by n sum = record {
-    small = sum.small;
-    value = λ memory regs f m. sum.same.value memory regs m ∙ sym (sum.stands memory regs m).value ∙ (λ i. apply2_of Add (sum.wide i) (slice_index regs base) ((sum.number memory f).value regs m i));
-  }
-
-  pub own_offset : (class w : ℕ) → class < class_count t → width_in t class ≡ w → IsOffset t facts class w class 0
-  own_offset class w below wide = record {
-    small = pow_pos w;
-    value = λ memory regs f m.
-        (let less : slice_index regs class < 2 ^ w = subst (λ u. slice_index regs class < 2 ^ u) wide (m.values class below) in
-        let e : slice_index regs class ≡ slice_index regs class + 0 = omega arith in
-        sym (mod-eq_of_lt less) ∙ ap (λ z. z % 2 ^ w) e);
-  }
-
   pub offsets_apart : (elements : List Element) (a b w base other n k : ℕ) → IsOffset t facts a w base n → IsOffset t facts b w other k → n ≢ k → AreSame t base other → AreApart t facts elements a b
   offsets_apart elements a b w base other n k p q differ same memory cells x y fits f i ha hb e =
       differ (∥∥₁_elim t.meanings (ℕ_set _ _) (λ m.
@@ -115,26 +84,6 @@ module _ (t : Classes) (facts : List Fact) where
       same_number (slice_index z.0 base) n k (2 ^ w) (pow_pos w) p.small q.small (first ∙ e ∙ sym second)))
 
 -- ---- cells behind writes
-
-module _ (t0 t1 t2 t3 t4 : Classes) (g1 : Grows t0 t1) (g2 : Grows t1 t2) (g3 : Grows t2 t3) (g4 : Grows t3 t4) (facts : List Fact) (bit width value was factor change part c : ℕ) where
-  pub chosen_made : IsZext t0 t1 facts bit width factor → IsBin t1 t2 facts Sub value was change → IsBin t2 t3 facts Mul factor change part → IsBin t3 t4 facts Add was part c → IsChosen t0 t4 facts bit width value was c
-  chosen_made z d m s memory v x fits f hv hx =
-      let f1 = facts_kept t0 t1 g1 memory facts f in
-      let f2 = facts_kept t1 t2 g2 memory facts f1 in
-      let f3 = facts_kept t2 t3 g3 memory facts f2 in
-      let v1 = wide_kept t0 t1 g1 memory value width v hv in
-      let x1 = wide_kept t0 t1 g1 memory was width x hx in
-      let x3 = wide_kept t2 t3 g3 memory was width x (wide_kept t1 t2 g2 memory was width x x1) in
-      let less : v < 2 ^ width = value_fits t0 memory fits value width v hv in
-      let small : x < 2 ^ width = value_fits t0 memory fits was width x hx in
-      let dif : HoldsWide t2 memory change width (apply2_of Sub width v x) = subst (λ w. HoldsWide t2 memory change w (apply2_of Sub w v x)) v1.width (d memory v x f1 v1.holds x1.holds) in
-      let whole : (n : ℕ) → Holds t0 memory bit n → HoldsWide t4 memory c width (apply2_of Add width x (apply2_of Mul width n (apply2_of Sub width v x))) = λ n h.
-      (let k = wide_kept t1 t2 g2 memory factor width n (z memory n f h) in
-      let p : HoldsWide t3 memory part width (apply2_of Mul width n (apply2_of Sub width v x)) = subst (λ w. HoldsWide t3 memory part w (apply2_of Mul w n (apply2_of Sub width v x))) k.width (m memory n (apply2_of Sub width v x) f2 k.holds dif.holds) in
-      subst (λ w. HoldsWide t4 memory c w (apply2_of Add w x (apply2_of Mul width n (apply2_of Sub width v x)))) x3.width (s memory x (apply2_of Mul width n (apply2_of Sub width v x)) f3 x3.holds p.holds)) in (
-        λ h. subst (HoldsWide t4 memory c width) (one_chosen width v x less small) (whole 1 h),
-        λ h. subst (HoldsWide t4 memory c width) (none_chosen width v x small) (whole 0 h),
-      )
 
 module _ (facts : List Fact) (elements : List Element) (put : Put) (at width was : ℕ) where
   pub passed_same : (t : Classes) (c : ℕ) → AreSame t at put.address → IsOfWidth t put.value width c → IsPassed t t facts elements put at width was c
@@ -171,22 +120,27 @@ module _ (facts : List Fact) (elements : List Element) (at width : ℕ) where
 -- ---- elements
 
 module _ (facts : List Fact) (known : Known) (at width : ℕ) where
-  pub element_made : (t0 t1 t2 : Classes) → Grows t0 t1 → (was c : ℕ) → NodeStands t1 (Read at width) was → ArePassed t1 t2 facts known.inside known.puts at width was c → IsElementAt t0 t2 facts known at width c
-  element_made t0 t1 t2 g was c stands passed memory s a f h hat array =
+  pub element_made : (t0 t1 t2 : Classes) → Grows t0 t1 → (was c : ℕ) → NodeStands t1 (Read at width) was → ArePassed t1 t2 facts known.inside known.puts at width was c → IsLeftAt t0 t2 facts known at width c
+  element_made t0 t1 t2 g was c stands passed memory cells log a fits f i h hat =
       let own = holds_kept t0 t1 g memory at a hat in
       let old : HoldsWide t1 memory was width (slice_index memory a) = record {
         holds = record { below = stands_below t1 (Read at width) was stands; value = λ regs m. sym (stands memory regs m).value ∙ ap (slice_index memory) (own.value regs m) };
         width = sym (stands_width t1 (Read at width) was stands);
       } in
-      subst (HoldsWide t2 memory c width) (sym (h.arrays.are a array))
-      (passed memory known.cells h.arrays.log a (slice_index memory a) (λ k. subst (λ w. slice_index memory k < 2 ^ w) (sym g.bits) (h.fits k)) (facts_kept t0 t1 g memory facts f)
-      (inside_kept t0 t1 g memory known.cells known.inside h.inside) (wrote_kept t0 t1 g memory known.puts h.arrays.log h.arrays.wrote) own old)
+      passed memory cells log a (slice_index memory a) (λ k. subst (λ w. slice_index memory k < 2 ^ w) (sym g.bits) (fits k)) (facts_kept t0 t1 g memory facts f)
+      (inside_kept t0 t1 g memory cells known.inside i) (wrote_kept t0 t1 g memory known.puts log h) own old
 
-  pub cell_inside : (t0 t1 : Classes) (addr c : ℕ) → IsElementAt t0 t1 facts known at width c → IsAlias t0 known.inside addr at → IsCell t0 t1 facts known addr width c
+  -- what is left in an array's cell is what the cell holds
+  left_held : (t0 t1 : Classes) (c : ℕ) → IsLeftAt t0 t1 facts known at width c → (memory : List ℕ) (s : State) (a : ℕ) → AreFacts t0 memory facts → StandsFor t0 memory known s → Holds t0 memory at a
+      → cell_at known.cells a ≡ Array → HoldsWide t1 memory c width (slice_index s.cells a)
+  left_held t0 t1 c left memory s a f h hat array =
+      subst (HoldsWide t1 memory c width) (sym (h.arrays.are a array)) (left memory known.cells h.arrays.log a h.fits f h.inside h.arrays.wrote hat)
+
+  pub cell_inside : (t0 t1 : Classes) (addr c : ℕ) → IsLeftAt t0 t1 facts known at width c → IsAlias t0 known.inside addr at → IsCell t0 t1 facts known addr width c
   cell_inside t0 t1 addr c is alias memory s a f h k =
       let i = find_inside t0 memory known.cells known.inside addr at alias h.inside in
-      subst (λ n. HoldsWide t1 memory c width (slice_index s.cells n)) (number_is t0 memory h.fits addr i.address a i.holds k) (is memory s i.address f h i.alike i.array)
+      subst (λ n. HoldsWide t1 memory c width (slice_index s.cells n)) (number_is t0 memory h.fits addr i.address a i.holds k) (left_held t0 t1 c is memory s i.address f h i.alike i.array)
 
-  pub cell_array : (t0 t1 : Classes) (number c : ℕ) → IsElementAt t0 t1 facts known at width c → HasNumber t0 facts at number → slice_get known.cells number ≡ Some Array → IsCell t0 t1 facts known at width c
+  pub cell_array : (t0 t1 : Classes) (number c : ℕ) → IsLeftAt t0 t1 facts known at width c → HasNumber t0 facts at number → slice_get known.cells number ≡ Some Array → IsCell t0 t1 facts known at width c
   cell_array t0 t1 number c is has there memory s a f h k =
-      is memory s a f h k (ap (cell_at known.cells) (number_is t0 memory h.fits at a number k (has memory f)) ∙ ap cell_of there)
+      left_held t0 t1 c is memory s a f h k (ap (cell_at known.cells) (number_is t0 memory h.fits at a number k (has memory f)) ∙ ap cell_of there)

@@ -15,17 +15,18 @@ use Rattle.net_model.specs.Value.{value_of}
 use Rattle.net_model.proofs.Effects.{moved}
 use Rattle.tree_laws.specs.declared.classes.Classes.{Classes}
 use Rattle.tree_laws.specs.Classes.{Grows}
-use Rattle.sym_run.specs.declared.known.Fact.{Fact}
+use Rattle.class_values.specs.declared.facts.Fact.{Fact}
 use Rattle.sym_run.specs.declared.known.Known.{Known}
 use Rattle.sym_run.specs.declared.walk.Arrival.{Arrival}
 use Rattle.sym_run.specs.declared.walk.Coded.{Coded}
 use Rattle.sym_run.specs.declared.walk.Image.{Image}
 use Rattle.sym_run.specs.declared.walk.Walked.{Walked}
 use Rattle.sym_run.specs.declared.walk.Walked.TheVariants.{Arrives as Arrived, Late, Lost}
-use Rattle.sym_run.specs.Known.{HasNumber, HoldsOf, entry}
+use Rattle.class_values.specs.Values.{HasNumber}
+use Rattle.sym_run.specs.Known.{HoldsOf, entry}
 use Rattle.sym_run.specs.Moves.{IsMoved, LeadsOn}
 use Rattle.sym_run.specs.Walks.{Arrives, Crosses, IfArrives, IsNextAddress, Turns, is_mark}
-use Rattle.sym_run.proofs.Keeping.{facts_kept}
+use Rattle.class_values.proofs.Keeping.{facts_kept}
 use Rattle.sym_run.proofs.Writing.{number_is}
 
 -- a fact of an answer by another

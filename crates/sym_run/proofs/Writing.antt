@@ -16,17 +16,19 @@ use Rattle.tree_laws.specs.Classes.{Grows, cell_bits}
 use Rattle.sym_expr.specs.declared.pool.Node.{Node}
 use Rattle.sym_run.specs.declared.moves.Move.{Move}
 use Rattle.sym_run.specs.declared.known.Element.{Element}
-use Rattle.sym_run.specs.declared.known.Fact.{Fact}
+use Rattle.class_values.specs.declared.facts.Fact.{Fact}
 use Rattle.sym_run.specs.declared.known.Known.{Known}
 use Rattle.sym_run.specs.declared.known.Cell.{Cell}
 use Rattle.sym_run.specs.declared.known.Cell.TheVariants.{Unknown, Array}
-use Rattle.sym_run.specs.Known.{ArraysStand, AreFacts, AreInside, CellStands, Evaluates, FileStands, HasNumber, Holds, HoldsOf, StandsFor, cell_at, cell_of, entry}
+use Rattle.class_values.specs.Values.{AreFacts, HasNumber, Holds}
+use Rattle.sym_run.specs.Known.{ArraysStand, AreInside, CellStands, Evaluates, FileStands, HoldsOf, StandsFor, cell_at, cell_of, entry}
 use Rattle.sym_run.specs.Moves.{AreNextCells, AreNextRegs, AreUnknown, IsNextFile, IsNextPut, IsOfArray, IsOneMore, IsWritten, LeadsOn, NextCells, cell_for, transfer_of}
 use Rattle.sym_run.specs.declared.known.Put.{Put}
 use Rattle.sym_run.specs.Inner.Reading.{SomeAlias}
 use Rattle.sym_run.proofs.PutLemmas.{element_put, plain_put}
 use Rattle.sym_run.proofs.Cells.{find_inside}
-use Rattle.sym_run.proofs.Keeping.{arrays_kept, cell_kept, facts_kept, file_kept, holds_kept, inside_kept, known_kept, of_kept}
+use Rattle.class_values.proofs.Keeping.{facts_kept, holds_kept}
+use Rattle.sym_run.proofs.Keeping.{arrays_kept, cell_kept, file_kept, inside_kept, known_kept, of_kept}
 
 moved_long : (move : TransferModel) (s : State) (i : ℕ) (held : List ℕ) → length (cells_moved move s i held) ≡ length held
 moved_long keep s i held = refl

@@ -1,5 +1,3 @@
-pub mod Values
 pub mod Reading
 pub mod Passed
-pub mod Limbs
-pub mod Sums
+pub mod Parts

@@ -1,53 +1,26 @@
--- What is known of a machine's state. In one memory, the store at the mark where a segment begins,
--- a class of trees has a value: the same whatever values the table's classes can have there. What
--- is known stands for a state where each class that it gives has what the state holds.
+-- What is known of a machine's state, by classes of trees over one memory, the store at the mark where
+-- a segment begins. It stands for a state where each class that it gives has what the state holds.
 use Rattle.std.specs.Prelude.{◌==◌, if◌then◌else◌, ℕ, ◌≡◌, ◌<◌, ◌≤◌, length, List, [], ◌∷◌, Option, Some, None, slice_get, slice_index}
 use Rattle.net_model.specs.declared.states.State.{State}
 use Rattle.net_model.specs.Exprs.{ExprModel, expr_width}
 use Rattle.net_model.specs.Meaning.{mean}
 use Rattle.tree_laws.specs.declared.classes.Classes.{Classes}
-use Rattle.tree_laws.specs.Classes.{TableMeans, cell_bits, class_count, width_in}
+use Rattle.tree_laws.specs.Classes.{cell_bits}
 use Rattle.tree_laws.specs.Equal.{CellsFit}
+use Rattle.class_values.specs.Values.{AreFacts, AreSame, Holds, HoldsWide}
+use Rattle.class_values.specs.declared.facts.Fact.{Fact}
 use Rattle.sym_run.specs.declared.known.Element.{Element}
-use Rattle.sym_run.specs.declared.known.Fact.{Fact}
 use Rattle.sym_run.specs.declared.known.Known.{Known}
 use Rattle.sym_run.specs.declared.known.Put.{Put}
 use Rattle.sym_run.specs.declared.known.Cell.{Cell}
 use Rattle.sym_run.specs.declared.known.Cell.TheVariants.{Unknown, Kept, Array, Is}
 
--- ---- classes
-
--- in this memory the class has this value
-pub record Holds (table : Classes) (memory : List ℕ) (c n : ℕ) : Type 0 where
-  pub below : c < class_count table
-  pub value : (regs : List ℕ) → TableMeans table memory regs → slice_index regs c ≡ n
-
--- and the class has this width
-pub record HoldsWide (table : Classes) (memory : List ℕ) (c w n : ℕ) : Type 0 where
-  pub holds : Holds table memory c n
-  pub width : width_in table c ≡ w
+-- ---- states
 
 -- the class that may be given has this value
 abbrev pub HoldsOf : Classes → List ℕ → Option ℕ → ℕ → Type 0
 HoldsOf table memory None n = Unit {0}
 HoldsOf table memory (Some c) n = Holds table memory c n
-
--- two classes that have one value in every memory
-pub record AreSame (table : Classes) (a b : ℕ) : Type 0 where
-  pub first : a < class_count table
-  pub second : b < class_count table
-  pub value : (memory regs : List ℕ) → TableMeans table memory regs → slice_index regs a ≡ slice_index regs b
-
--- the facts hold in this memory
-abbrev pub AreFacts : Classes → List ℕ → List Fact → Type 0
-AreFacts table memory [] = Unit {0}
-AreFacts table memory (fact ∷ facts) = Holds table memory fact.class fact.number × AreFacts table memory facts
-
--- the class has this number as its value where the facts hold
-abbrev pub HasNumber : Classes → List Fact → ℕ → ℕ → Type 0
-HasNumber table facts c n = (memory : List ℕ) → AreFacts table memory facts → Holds table memory c n
-
--- ---- states
 
 -- an entry, and unknown past the last
 abbrev pub entry_of : Option (Option ℕ) → Option ℕ

@@ -1,6 +1,4 @@
 pub mod Known
-pub mod Values
-pub mod Symbols
 pub mod Reading
 pub mod Moves
 pub mod Walks

@@ -10,13 +10,14 @@ use Rattle.sym_expr.specs.Pools.{expr_of_id}
 use Rattle.tree_laws.specs.declared.classes.Classes.{Classes}
 use Rattle.sym_run.specs.declared.known.Element.{Element}
 use Rattle.sym_run.specs.declared.known.Put.{Put}
-use Rattle.sym_run.specs.declared.known.Fact.{Fact}
+use Rattle.class_values.specs.declared.facts.Fact.{Fact}
 use Rattle.sym_run.specs.declared.known.Known.{Known}
 use Rattle.sym_run.specs.declared.moves.Move.{Move}
 use Rattle.sym_run.specs.declared.moves.Move.TheVariants.{Keep, Write, WriteAt}
 use Rattle.sym_run.specs.declared.known.Cell.{Cell}
 use Rattle.sym_run.specs.declared.known.Cell.TheVariants.{Unknown, Array, Is}
-use Rattle.sym_run.specs.Known.{AreFacts, AreInside, ArraysStand, CellStands, FileStands, Holds, HoldsOf, StandsFor, cell_at, entry}
+use Rattle.class_values.specs.Values.{AreFacts, Holds}
+use Rattle.sym_run.specs.Known.{AreInside, ArraysStand, CellStands, FileStands, HoldsOf, StandsFor, cell_at, entry}
 
 -- ---- moves
 

@@ -2,9 +2,10 @@
 use Rattle.std.specs.Prelude.{ℕ, List, slice_index}
 use Rattle.net_model.specs.declared.states.State.{State}
 use Rattle.tree_laws.specs.declared.classes.Classes.{Classes}
-use Rattle.sym_run.specs.declared.known.Fact.{Fact}
+use Rattle.class_values.specs.declared.facts.Fact.{Fact}
 use Rattle.sym_run.specs.declared.known.Known.{Known}
-use Rattle.sym_run.specs.Known.{AreFacts, Holds, HoldsWide, StandsFor}
+use Rattle.class_values.specs.Values.{AreFacts, Holds, HoldsWide}
+use Rattle.sym_run.specs.Known.{StandsFor}
 
 -- wherever the facts hold, and for every state that what is known stands for, the class of the new
 -- table has what the state holds in the cell whose address another class gives

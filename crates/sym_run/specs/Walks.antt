@@ -11,14 +11,15 @@ use Rattle.net_model.specs.Transfers.{IsClean}
 use Rattle.net_model.specs.Widths.{IsState}
 use Rattle.tree_laws.specs.declared.classes.Classes.{Classes}
 use Rattle.sym_expr.specs.declared.pool.Node.{Node}
-use Rattle.sym_run.specs.declared.known.Fact.{Fact}
+use Rattle.class_values.specs.declared.facts.Fact.{Fact}
 use Rattle.sym_run.specs.declared.known.Known.{Known}
 use Rattle.sym_run.specs.declared.walk.Arrival.{Arrival}
 use Rattle.sym_run.specs.declared.walk.Coded.{Coded}
 use Rattle.sym_run.specs.declared.walk.Image.{Image}
 use Rattle.sym_run.specs.declared.walk.Walked.{Walked}
 use Rattle.sym_run.specs.declared.walk.Walked.TheVariants.{Arrives as Arrived, Late, Lost}
-use Rattle.sym_run.specs.Known.{AreFacts, StandsFor}
+use Rattle.class_values.specs.Values.{AreFacts}
+use Rattle.sym_run.specs.Known.{StandsFor}
 use Rattle.sym_run.specs.Moves.{AreMoves, AreWithin}
 
 -- ---- code

@@ -1,14 +1,14 @@
 //! What arrays' cells hold behind writes.
 
 ghost use Rattle.std.specs.Prelude.{◌≡◌, ◌≢◌, ◌≤◌, ◌⊎◌, true, IfOk, IfSome};
-ghost use Rattle.sym_run.specs.Inner.Passed.{AreApart, ArePassed, IsChosen, IsElementAt, IsOffset, IsPassed, IsRange};
+ghost use Rattle.sym_run.specs.Inner.Passed.{AreApart, ArePassed, IsChosen, IsLeftAt, IsPassed, IsRange};
 ghost use Rattle.sym_run.specs.Inner.Reading.{IsListedAs};
 ghost use Rattle.tree_laws.specs.Classes.{Grows};
 
+use crate::choices::chosen;
 use crate::eval::of_width;
-use crate::known::{Element, Fact, Known, Put};
-use crate::numbers::{are_same, number_of};
-use crate::values::{binary, sum_of, zero_extended};
+use crate::known::{Element, Known, Put};
+use class_values::{Fact, Offset, are_same, binary, class_of, number_of, offset_of};
 use rec_bits::{NoMemory, Op2};
 use sym_expr::Node;
 use tree_laws::Classes;
@@ -80,33 +80,6 @@ fn are_disjoint(x: Range, y: Range) -> bool
     x.end <= y.first || y.end <= x.first
 }
 
-// A class as a base and a number added to it.
-#[derive(Clone, Copy)]
-struct Offset {
-    width: u8,
-    base: u64,
-    number: u64,
-}
-
-// A class as a sum with a number, which may be 0.
-fn offset_of(table: &Classes, facts: &[Fact], class: u64) -> Option<Offset>
-    ensures { IfSome result (λ o. IsOffset table.now facts.now class o.width o.base o.number) }
-{
-    let width = table.width(class)?;
-    match sum_of(table, facts, class, width) {
-        Some(sum) => Some(Offset {
-            width,
-            base: sum.base,
-            number: sum.number,
-        }),
-        None => Some(Offset {
-            width,
-            base: class,
-            number: 0,
-        }),
-    }
-}
-
 // Whether the values of two classes are sums of one value with different numbers.
 fn are_at_others(table: &Classes, facts: &[Fact], elements: &[Element], a: u64, b: u64) -> bool
     ensures { result ≡ true → AreApart table.now facts.now elements.now a b }
@@ -148,30 +121,6 @@ fn are_apart(table: &Classes, facts: &[Fact], elements: &[Element], a: u64, b: u
 struct Spot {
     at: u64,
     width: u8,
-}
-
-// The class of `value` where the bit is 1, and of `old` where it is 0: `old + bit * (value - old)`.
-fn chosen(
-    table: &mut Classes,
-    facts: &[Fact],
-    bit: u64,
-    width: u8,
-    value: u64,
-    old: u64,
-) -> Result<Option<u64>, NoMemory>
-    ensures grows { Grows table.old table.new }
-    ensures is { IfOk result (λ found. IfSome found (IsChosen table.old table.new facts.now bit width value old)) }
-{
-    let Some(factor) = zero_extended(table, facts, bit, width)? else {
-        return Ok(None);
-    };
-    let Some(change) = binary(table, facts, Op2::Sub, value, old)? else {
-        return Ok(None);
-    };
-    let Some(part) = binary(table, facts, Op2::Mul, factor, change)? else {
-        return Ok(None);
-    };
-    binary(table, facts, Op2::Add, old, part)
 }
 
 // The class of what a cell holds behind a write that may have gone to it.
@@ -237,7 +186,7 @@ fn all_passed(
     all_passed(table, facts, elements, rest, spot, next)
 }
 
-// The class of what an array's cell holds, whose address has the class.
+// The class of what all known writes leave in an array's cell, whose address has the class.
 pub(crate) fn element(
     table: &mut Classes,
     facts: &[Fact],
@@ -246,9 +195,9 @@ pub(crate) fn element(
     width: u8,
 ) -> Result<Option<u64>, NoMemory>
     ensures grows { Grows table.old table.new }
-    ensures is { IfOk result (λ found. IfSome found (IsElementAt table.old table.new facts.now known.now at width)) }
+    ensures is { IfOk result (λ found. IfSome found (IsLeftAt table.old table.new facts.now known.now at width)) }
 {
-    let Some(old) = table.add(Node::Read(at, width))? else {
+    let Some(old) = class_of(table, Node::Read(at, width))? else {
         return Ok(None);
     };
     all_passed(

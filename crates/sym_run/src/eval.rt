@@ -8,9 +8,12 @@ ghost use Rattle.sym_run.specs.Inner.Reading.{SomeAlias, IsAlias, IsFileCell, Is
 ghost use Rattle.tree_laws.specs.Classes.{Grows};
 
 use crate::behind::element;
-use crate::known::{Cell, Element, Fact, Known};
-use crate::numbers::{are_same, number, number_of};
-use crate::values::{binary, sign_extended, sliced, unary, zero_extended};
+use crate::choices::{either, joined};
+use crate::known::{Cell, Element, Known};
+use class_values::{
+    Fact, are_same, binary, class_of, number, number_of, sign_extended, sliced, unary,
+    zero_extended,
+};
 use rec_bits::NoMemory;
 use sym_expr::{ExprId, Node, Pool};
 use tree_laws::Classes;
@@ -112,7 +115,7 @@ pub fn cell(
     };
     match known.cells.get(at as usize) {
         Some(Cell::Is(class)) => Ok(of_width(table, *class, width)),
-        Some(Cell::Kept) => table.add(Node::Read(addr, width)),
+        Some(Cell::Kept) => class_of(table, Node::Read(addr, width)),
         Some(Cell::Array) => element(table, facts, known, addr, width),
         _ => Ok(None),
     }
@@ -173,13 +176,23 @@ impl Step<'_> {
                 let Some(c) = self.eval(table, c)? else {
                     return Ok(None);
                 };
-                let Some(way) = number_of(table, self.facts, c) else {
-                    return Ok(None);
-                };
-                if way == 1 {
-                    self.eval(table, a)
-                } else {
-                    self.eval(table, b)
+                match number_of(table, self.facts, c) {
+                    Some(way) => {
+                        if way == 1 {
+                            self.eval(table, a)
+                        } else {
+                            self.eval(table, b)
+                        }
+                    }
+                    None => {
+                        let Some(a) = self.eval(table, a)? else {
+                            return Ok(None);
+                        };
+                        let Some(b) = self.eval(table, b)? else {
+                            return Ok(None);
+                        };
+                        either(table, self.facts, c, a, b)
+                    }
                 }
             }
             Node::Cell(addr, width) => {
@@ -188,7 +201,15 @@ impl Step<'_> {
                 };
                 Ok(file_cell(table, self.facts, self.known, addr, width))
             }
-            Node::Cat(..) => Ok(None),
+            Node::Cat(a, b) => {
+                let Some(a) = self.eval(table, a)? else {
+                    return Ok(None);
+                };
+                let Some(b) = self.eval(table, b)? else {
+                    return Ok(None);
+                };
+                joined(table, self.facts, a, b)
+            }
         }
     }
 }

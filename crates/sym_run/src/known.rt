@@ -2,13 +2,6 @@
 
 use rec_bits::Items;
 
-/// A class of trees whose value is known to be a number.
-#[derive(Clone, Copy)]
-pub struct Fact {
-    pub class: u64,
-    pub number: u64,
-}
-
 /// What is known of a cell of the memory.
 #[derive(Clone, Copy)]
 pub enum Cell {

@@ -10,8 +10,8 @@ ghost use Rattle.sym_run.specs.Inner.Reading.{SomeAlias};
 ghost use Rattle.tree_laws.specs.Classes.{Grows};
 
 use crate::eval::{Step, is_alias};
-use crate::known::{Cell, Fact, Known, Put};
-use crate::numbers::number_of;
+use crate::known::{Cell, Known, Put};
+use class_values::{Fact, number_of};
 use rec_bits::{Items, NoMemory};
 use std::alloc::Global;
 use sym_expr::ExprId;

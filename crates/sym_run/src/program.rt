@@ -8,10 +8,9 @@ ghost use Rattle.sym_run.specs.Moves.{AreNextCells, IsNextPut};
 ghost use Rattle.tree_laws.specs.Classes.{Grows};
 
 use crate::eval::cell;
-use crate::known::{Cell, Fact, Known, Put};
+use crate::known::{Cell, Known, Put};
 use crate::moves::{one_more, written};
-use crate::numbers::{number, number_of};
-use crate::values::{binary, sign_extended, sliced, unary, zero_extended};
+use class_values::{Fact, binary, number, number_of, sign_extended, sliced, unary, zero_extended};
 use form_model::Tree;
 use rec_bits::{Items, NoMemory};
 use std::alloc::Global;

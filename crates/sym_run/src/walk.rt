@@ -5,9 +5,9 @@ ghost use Rattle.sym_run.specs.Walks.{AreAllWithin, Arrives, Crosses, IfArrives,
 ghost use Rattle.tree_laws.specs.Classes.{Grows};
 
 use crate::eval::Step;
-use crate::known::{Fact, Known};
+use crate::known::Known;
 use crate::moves::{Move, held};
-use crate::numbers::number_of;
+use class_values::{Fact, number_of};
 use rec_bits::{Items, NoMemory};
 use std::alloc::Global;
 use sym_expr::Pool;

@@ -3,7 +3,7 @@
 -- hidden at a label that some mark has, and none at address 0. A view's term is one over registers and
 -- cells, of any width; a holding's is one over variables, as wide as the register, the temporary cell or
 -- the cell of the file; and a known number has room in a cell, and is that of a variable of one cell.
-use Rattle.std.specs.Prelude.{ℕ, ◌^◌, ◌==◌, ◌&&◌, ◌||◌, not, nat_lt, if◌then◌else◌, Bool, true, false, List, [], ◌∷◌, Option, None, Some, position}
+use Rattle.std.specs.Prelude.{ℕ, ◌^◌, ◌==◌, ◌&&◌, not, nat_lt, if◌then◌else◌, Bool, true, false, List, [], ◌∷◌, Option, None, Some, position}
 use Rattle.std.specs.List.{list_any}
 use Rattle.std.specs.Str.{bytes_eq}
 use Rattle.net_model.specs.declared.hardware.Cells.{Cells}

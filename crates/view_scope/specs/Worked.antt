@@ -1,9 +1,9 @@
 -- Worked widths, and which remarks may stand behind others.
-use Rattle.std.specs.Prelude.{◌≡◌, ℕ, true, false, List, [], ◌∷◌, codes, None, Some, refl}
+use Rattle.std.specs.Prelude.{◌≡◌, true, false, List, [], ◌∷◌, codes, None, Some, refl}
 use Rattle.net_model.specs.declared.hardware.Storage.{Storage}
 use Rattle.net_model.specs.declared.hardware.Storage.TheVariants.{Register}
 use Rattle.code_model.specs.declared.image.Place.{Place}
-use Rattle.view_terms.specs.Terms.{TermModel, name, number, constant, two, three}
+use Rattle.view_terms.specs.Terms.{TermModel, name, number, two, three}
 use Rattle.view_scope.specs.declared.turn.HolderSpace.TheVariants.{Registers, File}
 use Rattle.view_scope.specs.declared.turn.Turn.TheVariants.{HideAtTest, HideAtEnd, View, Hold, Know}
 use Rattle.view_scope.specs.Turns.{is_before, may_follow}

@@ -1,6 +1,6 @@
 //! Whether a remark fits.
 
-ghost use Rattle.std.specs.Prelude.{◌≡◌, ◌≤◌, IfOk, position};
+ghost use Rattle.std.specs.Prelude.{◌≡◌, ◌≤◌, position};
 ghost use Rattle.view_lines.specs.Remarks.{model_of_remark};
 ghost use Rattle.view_terms.specs.Terms.{model_of_term};
 ghost use Rattle.view_scope.specs.Fits.{accepts, cell, cell_spot, has_label, hide_turn, hold_turn, holder_spot, is_hideable, is_marked, is_register_named, know_turn, place_index, plain_index, register_spot, same_label, starts_labelled, turn_of, view_turn};

@@ -4,7 +4,7 @@ use Rattle.code_model.specs.declared.views.View.{View}
 use Rattle.code_model.specs.declared.views.Viewed.{Viewed}
 use Rattle.code_model.specs.Places.{label_at}
 use Rattle.code_model.specs.Views.{view_at}
-use Rattle.segment.specs.declared.hints.Hint.{Hint}
+use Rattle.mark_start.specs.declared.hints.Hint.{Hint}
 use Rattle.followed.specs.declared.later.Later.{Later}
 
 -- hints from an address on, each above those before it

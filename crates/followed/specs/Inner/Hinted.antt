@@ -5,7 +5,7 @@ use Rattle.code_model.specs.declared.views.Viewed.{Viewed}
 use Rattle.code_model.specs.Places.{checkpoint_of, label_at}
 use Rattle.code_model.specs.Views.{hidden_in, view_at}
 use Rattle.sym_expr.specs.declared.pool.Node.{Node}
-use Rattle.segment.specs.declared.hints.Hint.{Hint}
+use Rattle.mark_start.specs.declared.hints.Hint.{Hint}
 use Rattle.segment.specs.Asked.{AreArrays, AreSpots}
 
 -- no hint is of this address

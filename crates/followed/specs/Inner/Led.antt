@@ -3,7 +3,7 @@ use Rattle.std.specs.Prelude.{ℕ, ◌≡◌, Bool, true, false, List, [], ◌�
 use Rattle.net_model.specs.declared.hardware.Netlist.{Netlist}
 use Rattle.net_model.specs.declared.hardware.Space.TheVariants.{Memory as InMemory, File as InFile}
 use Rattle.net_model.specs.Control.{IsSound}
-use Rattle.net_model.specs.Nets.{counter_of, memory_size, memory_width, place_in, size_in}
+use Rattle.net_model.specs.Nets.{counter_of, memory_size, memory_width, place_in, size_in, width_in}
 use Rattle.src_model.specs.declared.program.Var.{Var as Declared}
 use Rattle.src_model.specs.Written.{ProgramModel}
 use Rattle.code_model.specs.declared.views.Viewed.{Viewed}
@@ -20,7 +20,7 @@ use Rattle.follow.specs.Followed.{IsFollowed}
 use Rattle.follow.specs.Paths.{Path, path_from}
 use Rattle.follow.specs.Relations.{Relation}
 use Rattle.follow.specs.RightByViews.{image_memory}
-use Rattle.segment.specs.declared.hints.Hint.{Hint}
+use Rattle.mark_start.specs.declared.hints.Hint.{Hint}
 use Rattle.segment.specs.Asked.{AreArrays, AreHintsOf, ArePlaces, AreSpots, IsHintOf}
 use Rattle.segment.specs.declared.way.Way.{Way}
 use Rattle.segment.specs.Timed.{IsFirstWay, IsWay}
@@ -38,7 +38,9 @@ pub record IsReady (netlist : Netlist) (viewed : Viewed) (relation : ℕ → Rel
   pub counter : front.counter ≡ counter_of netlist.codes
   pub memory : front.memory ≡ place_in InMemory netlist.storages
   pub file : front.file ≡ place_in InFile netlist.storages
+  pub storages : front.storages.now ≡ netlist.storages
   pub file_cells : front.file_cells ≡ size_in InFile netlist.storages
+  pub file_word : front.file_word ≡ width_in InFile netlist.storages
   pub code : (a : ℕ) (coded : Coded) → slice_get front.code.now a ≡ Some coded → IsCodedAt netlist front.pool.now (slice_index (words_of viewed.image) a) coded
   pub modeless : netlist.special ≡ None
   pub word : front.word ≡ m.word

@@ -1,16 +1,16 @@
--- What arrays' cells hold behind writes, by classes.
-use Rattle.std.specs.Prelude.{ℕ, ◌+◌, ◌%◌, ◌^◌, ◌<◌, ◌≤◌, ◌≡◌, ◌≢◌, ◌==◌, if◌then◌else◌, List, slice_index}
-use Rattle.net_model.specs.declared.states.State.{State}
+-- What writes leave in arrays' cells, by classes.
+use Rattle.std.specs.Prelude.{ℕ, ◌<◌, ◌≤◌, ◌≢◌, ◌==◌, if◌then◌else◌, List, [], ◌∷◌, slice_index}
 use Rattle.tree_laws.specs.declared.classes.Classes.{Classes}
-use Rattle.tree_laws.specs.Classes.{TableMeans, cell_bits}
+use Rattle.tree_laws.specs.Classes.{cell_bits}
 use Rattle.tree_laws.specs.Equal.{CellsFit}
 use Rattle.sym_run.specs.declared.known.Cell.{Cell}
-use Rattle.sym_run.specs.declared.known.Cell.TheVariants.{Array}
 use Rattle.sym_run.specs.declared.known.Element.{Element}
-use Rattle.sym_run.specs.declared.known.Fact.{Fact}
+use Rattle.class_values.specs.declared.facts.Fact.{Fact}
 use Rattle.sym_run.specs.declared.known.Known.{Known}
 use Rattle.sym_run.specs.declared.known.Put.{Put}
-use Rattle.sym_run.specs.Known.{AreFacts, AreInside, HaveWritten, Holds, HoldsWide, StandsFor, Wrote, cell_at, value_after}
+use Rattle.class_values.specs.Values.{AreFacts, Holds, HoldsWide}
+use Rattle.sym_run.specs.Known.{AreInside, HaveWritten, Wrote, value_after}
+use Rattle.sym_run.specs.Arrivals.{AreLeftSame}
 
 -- ---- addresses that differ
 
@@ -19,12 +19,6 @@ abbrev pub IsRange : Classes → List Fact → List Element → ℕ → ℕ → 
 IsRange table facts elements class first end =
     (memory : List ℕ) (cells : List Cell) (n : ℕ) → CellsFit (cell_bits table) memory → AreFacts table memory facts →
     AreInside table memory cells elements → Holds table memory class n → (first ≤ n) × (n < end)
-
--- the class is the sum of a base and a number
-pub record IsOffset (table : Classes) (facts : List Fact) (class w base n : ℕ) : Type 0 where
-  pub small : n < 2 ^ w
-  pub value : (memory regs : List ℕ) → AreFacts table memory facts → TableMeans table memory regs →
-      slice_index regs class ≡ (slice_index regs base + n) % 2 ^ w
 
 -- the classes never have one value
 abbrev pub AreApart : Classes → List Fact → List Element → ℕ → ℕ → Type 0
@@ -59,9 +53,24 @@ ArePassed old new facts elements puts at width was c =
     Holds old memory at a → HoldsWide old memory was width x →
     HoldsWide new memory c width (value_after log a x)
 
--- the class has what an array's cell holds
-abbrev pub IsElementAt : Classes → Classes → List Fact → Known → ℕ → ℕ → ℕ → Type 0
-IsElementAt old new facts known at width c =
-    (memory : List ℕ) (s : State) (a : ℕ) → AreFacts old memory facts → StandsFor old memory known s →
-    Holds old memory at a →
-    cell_at known.cells a ≡ Array → HoldsWide new memory c width (slice_index s.cells a)
+-- the class has what all known writes leave in the cell of another class's value
+abbrev pub IsLeftAt : Classes → Classes → List Fact → Known → ℕ → ℕ → ℕ → Type 0
+IsLeftAt old new facts known at width c =
+    (memory : List ℕ) (cells : List Cell) (log : List Wrote) (a : ℕ) → CellsFit (cell_bits old) memory →
+    AreFacts old memory facts → AreInside old memory cells known.inside → HaveWritten old memory known.puts log →
+    Holds old memory at a → HoldsWide new memory c width (value_after log a (slice_index memory a))
+
+-- ---- two lists of writes
+
+-- they leave one number in the cell of a class's value
+abbrev pub LeaveSameIn : Classes → List Fact → Known → Known → ℕ → Type 0
+LeaveSameIn table facts near far at =
+    (memory : List ℕ) (ones others : List Cell) (a : ℕ) → CellsFit (cell_bits table) memory → AreFacts table memory facts →
+    AreInside table memory ones near.inside → AreInside table memory others far.inside → Holds table memory at a →
+    AreLeftSame table near far memory a
+
+-- so they do in those to which some writes go
+abbrev pub LeaveSameBehind : Classes → List Fact → Known → Known → List Put → Type 0
+LeaveSameBehind table facts near far [] = Unit {0}
+LeaveSameBehind table facts near far (put ∷ puts) =
+    LeaveSameIn table facts near far put.address × LeaveSameBehind table facts near far puts

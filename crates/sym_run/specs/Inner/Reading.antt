@@ -4,9 +4,10 @@ use Rattle.net_model.specs.declared.states.State.{State}
 use Rattle.tree_laws.specs.declared.classes.Classes.{Classes}
 use Rattle.tree_laws.specs.Classes.{width_in}
 use Rattle.sym_run.specs.declared.known.Element.{Element}
-use Rattle.sym_run.specs.declared.known.Fact.{Fact}
+use Rattle.class_values.specs.declared.facts.Fact.{Fact}
 use Rattle.sym_run.specs.declared.known.Known.{Known}
-use Rattle.sym_run.specs.Known.{AreFacts, AreSame, Holds, HoldsWide, StandsFor}
+use Rattle.class_values.specs.Values.{AreFacts, AreSame, Holds, HoldsWide}
+use Rattle.sym_run.specs.Known.{StandsFor}
 
 -- a class of this width
 pub record IsOfWidth (table : Classes) (class width c : ℕ) : Type 0 where

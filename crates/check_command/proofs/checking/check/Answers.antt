@@ -2,6 +2,7 @@ use Rattle.std.proofs.Common.{◌∙◌, ap, sym}
 use Rattle.std.proofs.lemmas.Result.{err_from_is_err_and}
 use Rattle.net_model.specs.declared.hardware.Netlist.{Netlist}
 use Rattle.net_model.specs.Nets.{memory_width}
+use Rattle.check_command.proofs.Ordered.{viewed_come}
 use Rattle.check_command.proofs.ReadLemmas.{read_stop, task_stop}
 use Rattle.check_command.proofs.checking.check.Goals as goal
 
@@ -12,6 +13,9 @@ pub accepted-requires-clause-word : goal.accepted-requires-clause-word
 accepted-requires-clause-word c =
     let read = c.in_ok-read.ensures.read in
     sym (read.width ∙ ap (λ (n : Netlist). memory_width n.storages) (sym read.netlist))
+
+pub accepted-requires-clause-views : goal.accepted-requires-clause-views
+accepted-requires-clause-views c = viewed_come _ _ _ c.in_ok-read.ensures.read.image_text
 
 pub returns-in_err-read-clause-refused : goal.returns-in_err-read-clause-refused
 returns-in_err-read-clause-refused c =

@@ -1,6 +1,4 @@
-use Rattle.std.proofs.Common.{◌≡◌, ◌∙◌, Some, true, ap, sym, arith, List}
-use Rattle.code_model.specs.declared.image.Mark.{Mark}
-use Rattle.code_model.specs.Places.{label_at}
+use Rattle.std.proofs.Common.{◌≡◌, ◌∙◌, Some, true, ap, sym, arith}
 use Rattle.code_model.specs.Views.{is_of_registers, place_named}
 use Rattle.net_model.specs.Exprs.{model_of_expr}
 use Rattle.check_command.specs.Inner.Marked.{is_test}
@@ -15,4 +13,4 @@ returns c =
     let registers : is_of_registers (model_of_expr view.value) ≡ true = sym c.is_of_registers.ensures ∙ c.if-not-is_of_registers.false in
     plain_view c.args.checked.now.netlist image view c.in-Some.place.now c.is_test_at.result named (omega arith) (omega arith) registers
     (c.is_cell_wide.ensures.0 c.if-not-is_cell_wide.false)
-    (c.is_test_at.ensures ∙ ap (λ (marks : List Mark). is_test (label_at marks view.address)) c.as_slice-2.ensures)
+    (c.is_test_at.ensures ∙ ap is_test c.requires)

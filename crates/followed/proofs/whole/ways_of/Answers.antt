@@ -1,6 +1,7 @@
 use Rattle.std.proofs.Common.{◌-◌, ◌∙◌, ap, arith, refl, sym}
 use Rattle.std.specs.Prelude.{option_copied}
 use Rattle.std.proofs.lemmas.Result.{IfOk-weaker}
+use Rattle.net_model.specs.declared.hardware.Netlist.{Netlist}
 use Rattle.src_model.specs.declared.program.Program.{Program}
 use Rattle.src_model.specs.Written.{model_of_program}
 use Rattle.src_trees.specs.Jobs.{models_of_jobs}
@@ -25,6 +26,6 @@ returns c =
     IfOk-weaker c.ways.result _ _
     (λ passed h. whole_follows netlist viewed width l _ _ passed h
     (c.as_slice-2.ensures ∙ ap (λ (p : Program). p.vars) c.program.ensures.value) c.netlist-netlist.ensures.sound c.requires.modeless (c.from-counter.ensures ∙ c.pc.ensures) (c.from-memory.ensures ∙ c.memory.ensures)
-    (c.from-file.ensures ∙ c.place.ensures) (c.from-file_cells.ensures ∙ c.size.ensures)
-    c.requires.code (c.memory_width.ensures.width ∙ c.requires.word) c.requires.word refl c.requires.laid (c.as_slice-3.ensures ∙ c.in_ok-marks.ensures ∙ ap addresses c.as_slice.ensures) (c.as_slice-4.ensures ∙ c.requires.flow)
-    (ap models_of_jobs c.as_slice-5.ensures.value ∙ c.requires.jobs) (omega (arith, some, count)) c.in-Some.coded.now (sym c.coded_at.ensures ∙ ap option_copied c.in-Some.is) (c.goes_to.ensures c.if-not-goes_to.false)) c.ways.ensures
+    (c.from-file.ensures ∙ c.place.ensures) (c.from-file_cells.ensures ∙ c.size.ensures) (c.as_slice-4.ensures ∙ ap (λ (n : Netlist). n.storages) c.netlist-netlist.ensures.value) c.width.ensures
+    c.requires.code (c.memory_width.ensures.width ∙ c.requires.word) c.requires.word refl c.requires.laid (c.as_slice-3.ensures ∙ c.in_ok-marks.ensures ∙ ap addresses c.as_slice.ensures) (c.as_slice-5.ensures ∙ c.requires.flow)
+    (ap models_of_jobs c.as_slice-6.ensures.value ∙ c.requires.jobs) (omega (arith, some, count)) c.in-Some.coded.now (sym c.coded_at.ensures ∙ ap option_copied c.in-Some.is) (c.goes_to.ensures c.if-not-goes_to.false)) c.ways.ensures

@@ -1,7 +1,7 @@
 use Rattle.std.proofs.Common.{List, subst, sym}
 use Rattle.sym_run.specs.declared.known.Put.{Put}
 use Rattle.sym_run.specs.Inner.Passed.{ArePassed, IsPassed}
-use Rattle.sym_run.proofs.Made.{if_found, some_of}
+use Rattle.class_values.proofs.Made.{if_found, some_of}
 use Rattle.sym_run.proofs.Passing.{more_passed}
 use Rattle.sym_run.proofs.behind.+all_passed.Goals as goal
 

@@ -1,5 +1,5 @@
 use Rattle.std.proofs.Common.{sym, subst}
-use Rattle.sym_run.specs.Inner.Passed.{IsOffset}
+use Rattle.class_values.specs.Operators.{IsOffset}
 use Rattle.sym_run.proofs.Passing.{offsets_apart}
 use Rattle.sym_run.proofs.behind.are_at_others.Goals as goal
 

@@ -4,14 +4,14 @@ use Rattle.tree_laws.specs.Classes.{NodeStands}
 use Rattle.sym_run.specs.declared.known.Element.{Element}
 use Rattle.sym_run.specs.declared.known.Put.{Put}
 use Rattle.sym_run.specs.Inner.Passed.{ArePassed}
-use Rattle.sym_run.proofs.Made.{if_found, some_of}
+use Rattle.class_values.proofs.Made.{if_found, some_of}
 use Rattle.sym_run.proofs.Passing.{element_made}
 use Rattle.sym_run.proofs.behind.element.Goals as goal
 
 pub returns-clause-is : goal.returns-clause-is
 returns-clause-is c =
     let t0 = c.args.table.now in
-    let t1 = c.add.new.self in
+    let t1 = c.class_of.new.table in
     let t2 = c.all_passed.new.table in
     let facts = c.args.facts.now in
     let known = c.args.known.now in

@@ -1,4 +1,4 @@
-use Rattle.sym_run.proofs.Made.{if_known}
+use Rattle.class_values.proofs.Made.{if_known}
 use Rattle.sym_run.proofs.Passing.{passed_apart, passed_same}
 use Rattle.sym_run.proofs.behind.passed.Goals as goal
 

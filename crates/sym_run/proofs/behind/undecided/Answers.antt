@@ -1,6 +1,6 @@
 use Rattle.rec_bits.specs.declared.operator.Op2.TheVariants.{Eq}
-use Rattle.sym_run.specs.Inner.Values.{IsBin}
-use Rattle.sym_run.proofs.Made.{if_found, some_of}
+use Rattle.class_values.specs.Operators.{IsBin}
+use Rattle.class_values.proofs.Made.{if_found, some_of}
 use Rattle.sym_run.proofs.Passing.{passed_either}
 use Rattle.sym_run.proofs.behind.undecided.Goals as goal
 

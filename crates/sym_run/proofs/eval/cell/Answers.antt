@@ -1,7 +1,7 @@
 use Rattle.std.proofs.Common.{◌≡◌, Some, sym, slice_get, ◌∙◌, ap}
 use Rattle.std.specs.Prelude.{option_copied}
 use Rattle.sym_run.specs.declared.known.Cell.TheVariants.{Kept, Array, Is}
-use Rattle.sym_run.proofs.Made.{if_found, if_known}
+use Rattle.class_values.proofs.Made.{if_found, if_known}
 use Rattle.sym_run.proofs.Passing.{cell_array, cell_inside}
 use Rattle.sym_run.proofs.Cells.{cell_kept_there, cell_known}
 use Rattle.sym_run.proofs.eval.cell.Goals as goal
@@ -18,7 +18,7 @@ returns-in-Some-Is-clause-is c =
 pub returns-in-Some-Kept-clause-is : goal.returns-in-Some-Kept-clause-is
 returns-in-Some-Kept-clause-is c =
     let there : slice_get c.args.known.now.cells c.in-Some-number_of.at ≡ Some Kept = sym c.get.ensures ∙ ap option_copied c.in-Some-Kept.is ∙ ap Some c.in-Some-Kept.field-0-is in
-    if_found c.add.result _ _ (λ k s. cell_kept_there c.args.table.now c.add.new.self c.add.ensures.grows c.args.facts.now c.args.known.now c.args.addr c.args.width k s c.in-Some-number_of.at c.in-Some-number_of.ensures there) c.add.ensures.stands
+    if_found c.class_of.result _ _ (λ k s. cell_kept_there c.args.table.now c.class_of.new.table c.class_of.ensures.grows c.args.facts.now c.args.known.now c.args.addr c.args.width k s c.in-Some-number_of.at c.in-Some-number_of.ensures there) c.class_of.ensures.stands
 
 pub returns-in-Some-Array-clause-is : goal.returns-in-Some-Array-clause-is
 returns-in-Some-Array-clause-is c =

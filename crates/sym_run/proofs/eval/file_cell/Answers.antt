@@ -1,6 +1,6 @@
 use Rattle.std.proofs.Common.{sym, ◌∙◌}
 use Rattle.sym_run.proofs.Cells.{file_known}
-use Rattle.sym_run.proofs.Made.{if_known}
+use Rattle.class_values.proofs.Made.{if_known}
 use Rattle.sym_run.proofs.eval.file_cell.Goals as goal
 
 pub returns : goal.returns

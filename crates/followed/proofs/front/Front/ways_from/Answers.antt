@@ -2,7 +2,7 @@ use Rattle.std.proofs.Common.{subst, List, None, []}
 use Rattle.code_model.specs.declared.image.Mark.{Mark}
 use Rattle.code_model.specs.declared.image.Place.{Place}
 use Rattle.segment.specs.Asked.{AreArrays, AreSpots}
-use Rattle.segment.specs.declared.hints.Spot.{Spot}
+use Rattle.mark_start.specs.declared.hints.Spot.{Spot}
 use Rattle.followed.specs.Inner.Led.{AreMarksLed}
 use Rattle.followed.specs.Turned.{tests_of}
 use Rattle.followed.proofs.front.Front.ways_from.Goals as goal

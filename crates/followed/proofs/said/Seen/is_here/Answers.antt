@@ -2,7 +2,7 @@ use Rattle.std.proofs.Common.{◌∙◌, subst, sym, List}
 use Rattle.code_model.specs.declared.image.Place.{Place}
 use Rattle.code_model.specs.Views.{hidden_in, view_at}
 use Rattle.segment.specs.Asked.{AreArrays, AreSpots}
-use Rattle.segment.specs.declared.hints.Spot.{Spot}
+use Rattle.mark_start.specs.declared.hints.Spot.{Spot}
 use Rattle.followed.proofs.said.Seen.is_here.Goals as goal
 
 pub are_spots-requires-clause-mark : goal.are_spots-requires-clause-mark

@@ -17,7 +17,7 @@ returns-clause-learnt c e =
 
 pub returns-then-branch-clause-denied : goal.returns-then-branch-clause-denied
 returns-then-branch-clause-denied c e =
-    let bit = bit_of c.args.self.now.answer in
+    let bit = bit_of c.args.self.now.start.answer in
     let run = c.args.run.now in
     let t0 = c.args.table.now in
     let t1 = c.are_denied.new.table in

@@ -6,5 +6,5 @@ use Rattle.segment.proofs.run.Segment.ends.Goals as goal
 
 pub returns-in-Arrives : goal.returns-in-Arrives
 returns-in-Arrives c =
-    subst (λ (walked : Walked). IfOk c.comes.result (λ end. IfFound end (λ address left. HasEnded c.args.self.now c.args.facts c.args.vars walked address left c.args.table.now c.comes.new.table)))
+    subst (λ (walked : Walked). IfOk c.comes.result (λ end. IfFound end (λ address left. HasEnded c.args.self.now c.args.run.now.facts c.args.run.now.vars walked address left c.args.table.now c.comes.new.table)))
     (sym c.in-Arrives.is) c.comes.ensures

@@ -3,7 +3,7 @@ use Rattle.net_model.specs.Exprs.{write_at}
 use Rattle.sym_expr.specs.Pools.{expr_of_id}
 use Rattle.sym_run.specs.Known.{Evaluates}
 use Rattle.sym_run.specs.Moves.{IsNextFile}
-use Rattle.sym_run.proofs.Made.{some_of}
+use Rattle.class_values.proofs.Made.{some_of}
 use Rattle.sym_run.proofs.Moving.{reg_written}
 use Rattle.sym_run.proofs.Writing.{file_set, if_ok}
 use Rattle.sym_run.proofs.eval.Step.filed.Goals as goal

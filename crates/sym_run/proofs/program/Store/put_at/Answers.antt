@@ -2,10 +2,10 @@ use Rattle.std.proofs.Common.{List}
 use Rattle.form_model.specs.Trees.{model_of_tree}
 use Rattle.sym_run.specs.declared.known.Put.{Put}
 use Rattle.sym_run.specs.Known.{Evaluates}
-use Rattle.sym_run.specs.Values.{IsNumber}
+use Rattle.class_values.specs.Values.{IsNumber}
 use Rattle.net_model.specs.Exprs.{ExprModel, const}
 use Rattle.sym_run.proofs.Evaluated.{const_evaluated}
-use Rattle.sym_run.proofs.Made.{some_of}
+use Rattle.class_values.proofs.Made.{some_of}
 use Rattle.sym_run.proofs.Writing.{element_written, if_puts}
 use Rattle.sym_run.proofs.program.Store.put_at.Goals as goal
 

@@ -2,7 +2,7 @@ use Rattle.std.proofs.Common.{◌<◌, sym, ◌∙◌, arith}
 use Rattle.sym_run.specs.declared.known.Known.{Known}
 use Rattle.sym_run.specs.declared.walk.Arrival.{Arrival}
 use Rattle.sym_run.specs.Walks.{Turns}
-use Rattle.sym_run.proofs.Keeping.{grows_on}
+use Rattle.class_values.proofs.Keeping.{grows_on}
 use Rattle.sym_run.proofs.Walking.{answer_of, arrived, if_arrives, walked_on}
 use Rattle.sym_run.proofs.walk.Image.+walk.Goals as goal
 

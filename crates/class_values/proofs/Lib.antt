@@ -1,0 +1,9 @@
+pub mod Grown
+pub mod Keeping
+pub mod Made
+pub mod Summing
+pub mod Multiplying
+pub mod Numbering
+pub mod Symbolic
+pub mod LowBits
+pub mod Offsetting

@@ -1,0 +1,4 @@
+use Rattle.class_values.proofs.sums.+sum.Given as goal
+
+abbrev pub decreases-sum : goal.decreases-sum
+decreases-sum l = l.b

@@ -1,0 +1,9 @@
+use Rattle.std.proofs.Common.{sym, ◌∙◌}
+use Rattle.class_values.proofs.Summing.{opposite_makes}
+use Rattle.class_values.proofs.sums.opposite_of.Goals as goal
+
+pub returns-then-are_same : goal.returns-then-are_same
+returns-then-are_same c =
+    let width = c.in_ok-width.ensures in
+    let own = c.in_ok-own.ensures in
+    opposite_makes c.args.table.now c.in_ok-a.a c.args.class c.in_ok-found.found width.0 own.0 (sym own.1 ∙ sym c.if-width-own.true ∙ width.1) (c.are_same.ensures c.if-are_same.true) c.in_ok-found.ensures.stands

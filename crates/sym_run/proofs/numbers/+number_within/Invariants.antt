@@ -1,4 +1,0 @@
-use Rattle.sym_run.proofs.numbers.+number_within.Given as goal
-
-abbrev pub decreases-number_within : goal.decreases-number_within
-decreases-number_within l = l.levels

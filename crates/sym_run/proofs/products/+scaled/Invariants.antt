@@ -1,4 +1,0 @@
-use Rattle.sym_run.proofs.products.+scaled.Given as goal
-
-abbrev pub decreases-scaled : goal.decreases-scaled
-decreases-scaled l = l.a

@@ -1,4 +1,0 @@
-use Rattle.sym_run.proofs.sums.+joined.Given as goal
-
-abbrev pub decreases-joined : goal.decreases-joined
-decreases-joined l = l.a

@@ -1,4 +1,0 @@
-use Rattle.sym_run.proofs.sums.+negative.Given as goal
-
-abbrev pub decreases-negative : goal.decreases-negative
-decreases-negative l = l.a

@@ -1,4 +1,0 @@
-use Rattle.sym_run.proofs.sums.+placed.Given as goal
-
-abbrev pub decreases-placed : goal.decreases-placed
-decreases-placed l = l.a

@@ -1,4 +1,0 @@
-use Rattle.sym_run.proofs.sums.+sum.Given as goal
-
-abbrev pub decreases-sum : goal.decreases-sum
-decreases-sum l = l.b

@@ -1,7 +1,0 @@
-use Rattle.sym_run.proofs.Made.{if_found}
-use Rattle.sym_run.proofs.Summing.{turned}
-use Rattle.sym_run.proofs.sums.ordered.Goals as goal
-
-pub returns-then-comes_before-clause-is : goal.returns-then-comes_before-clause-is
-returns-then-comes_before-clause-is c =
-    if_found c.listed.result _ _ (λ k h. turned c.listed.new.table c.args.op c.args.a c.args.b k (c.commutes.ensures c.if-commutes.true) h) c.listed.ensures.is
